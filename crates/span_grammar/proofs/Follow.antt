@@ -2,6 +2,7 @@
 use Rattle.std.proofs.Common.{◌≡◌, ℕ, zero, suc, ◌+◌, ◌<◌, ◌≤◌, ◌⊎◌, inl, inr, Bool, true, false, List, [], ◌∷◌, ◌++◌, length, refl, sym, ap, subst, ◌∙◌, append_assoc, arith, length-append}
 use Rattle.std.specs.Prelude.{if◌then◌else◌, ◌||◌, ◌&&◌}
 use Rattle.std.proofs.lemmas.Bool.{or_left, or_right, and_from, or_parts}
+use Rattle.span_value.proofs.Choices.{if_true, if_false}
 use Rattle.span_grammar.specs.declared.class.Lexeme.{Lexeme}
 use Rattle.span_grammar.specs.declared.class.Sort.{Sort}
 use Rattle.span_grammar.specs.declared.grammar.Place.{Place}
@@ -9,14 +10,6 @@ use Rattle.span_grammar.specs.Rules.{is_of, Rule, Empty, One, Then, Or, Many, Op
 use Rattle.span_grammar.proofs.Sound.{words-append, Sound, Is, Ends, SoundIn, sound_with, many_sound, deeper_sound, depth_in}
 
 -- ---- tests
-
-pub if_true : {A : Type 0} (b : Bool) (x y : A) → b ≡ true → (if b then x else y) ≡ x
-if_true true x y e = refl
-if_true false x y e = absurd cc
-
-pub if_false : {A : Type 0} (b : Bool) (x y : A) → b ≡ false → (if b then x else y) ≡ y
-if_false false x y e = refl
-if_false true x y e = absurd cc
 
 and_false : (x y : Bool) → x ≡ true → (x && y) ≡ false → y ≡ false
 and_false true y e f = f

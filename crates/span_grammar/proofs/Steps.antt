@@ -15,7 +15,8 @@ use Rattle.span_grammar.specs.Shapes.{shape_of, part_inside}
 use Rattle.span_grammar.specs.Grammar.{inside, rule_of}
 use Rattle.span_grammar.specs.Reading.{ReadResult, read_result, part_read, sort_read}
 use Rattle.span_grammar.proofs.Shaped.{IsShaped, shaped, inside_is}
-use Rattle.span_grammar.proofs.Follow.{if_true, if_false, never_none, longer}
+use Rattle.span_grammar.proofs.Follow.{never_none, longer}
+use Rattle.span_value.proofs.Choices.{if_true, if_false}
 use Rattle.span_grammar.proofs.Sound.{Is, Sound, parse_sound}
 use Rattle.span_grammar.proofs.Ending.{ends, inside_ends}
 use Rattle.span_grammar.proofs.Repeated.{repeated_full}

@@ -1,5 +1,6 @@
 -- The classes that look ahead, from plain tokens and what follows them, and back.
 use Rattle.std.proofs.Common.{◌≡◌, ℕ, ◌≤◌, ◌<◌, ◌⊎◌, inl, inr, Bool, true, false, Option, Some, None, List, [], ◌∷◌, ◌++◌, map, refl, sym, ap, ap₂, ◌∙◌, append_assoc, rules}
+use Rattle.std.proofs.Math.Bool.{and-false}
 use Rattle.std.specs.Prelude.{if◌then◌else◌, ◌&&◌}
 use denote.Enum.Bare.{same_true}
 use Rattle.span_lexer.specs.declared.token.Sign.{Sign}
@@ -333,13 +334,9 @@ star_same kind.Name bytes = star_name (context_word bytes)
 star_same (kind.Sign s) bytes = star_sign s
 star_same _ bytes = refl
 
-and_false : (b : Bool) → (b && false) ≡ false
-and_false true = refl
-and_false false = refl
-
 begins_same : (text : List ℕ) (ts : List Token) → begins_all_of (plain_lexemes text ts) ≡ starts_all_of ts
 begins_same text [] = refl
-begins_same text (s ∷ []) = and_false (dot_class (plain_class s.kind (token_bytes text s)))
+begins_same text (s ∷ []) = and-false (dot_class (plain_class s.kind (token_bytes text s)))
 begins_same text (s ∷ t ∷ ts) = ap₂ (λ (a b : Bool). a && b) (dot_same s.kind (token_bytes text s)) (star_same t.kind (token_bytes text t))
 
 name_by : (o : Option Context) (k : List Lexeme) (b : Bool) → begins_all_of k ≡ b → (if b then class.AllOf else name_class o) ≡ tag_class (name_class o) k

@@ -1,18 +1,15 @@
 -- The test of kinds, column by column.
 use Rattle.std.proofs.Common.{◌≡◌, ℕ, ◌<◌, ◌≢◌, zero, suc, List, [], ◌∷◌, Bool, true, false, ◌&&◌, refl, sym, ◌∙◌, ap, subst, arith, length, drop, get_or}
+use Rattle.std.proofs.Math.Bool.{and-false}
 use Rattle.span_value.specs.declared.value.Value.{Value}
 use Rattle.span_schema.specs.declared.layout.KeyPart.{KeyPart}
 use Rattle.span_keycode.specs.Coding.{Fits, AreFit, are_of_kinds, is_of_kind}
-
-and_false : (b : Bool) → (b && false) ≡ false
-and_false true = refl
-and_false false = refl
 
 pub kinds_differ : (cs : List KeyPart) (vs : List Value) → length cs ≢ length vs → are_of_kinds cs vs ≡ false
 kinds_differ [] [] h = absurd (h refl)
 kinds_differ [] (v ∷ vs) h = refl
 kinds_differ (c ∷ cs) [] h = refl
-kinds_differ (c ∷ cs) (v ∷ vs) h = ap (λ (b : Bool). is_of_kind c.kind v && b) (kinds_differ cs vs (λ e. h (ap suc e))) ∙ and_false (is_of_kind c.kind v)
+kinds_differ (c ∷ cs) (v ∷ vs) h = ap (λ (b : Bool). is_of_kind c.kind v && b) (kinds_differ cs vs (λ e. h (ap suc e))) ∙ and-false (is_of_kind c.kind v)
 
 pub kinds_step : (cs : List KeyPart) (vs : List Value) (i : ℕ) (c : KeyPart) (v : Value) → i < length cs → i < length vs → v ≡ get_or vs i v
     → are_of_kinds (drop i cs) (drop i vs) ≡ (is_of_kind (get_or cs i c).kind v && are_of_kinds (drop (suc i) cs) (drop (suc i) vs))

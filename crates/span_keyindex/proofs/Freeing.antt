@@ -1,5 +1,6 @@
 -- How the chains are freed that are not in use.
 use Rattle.std.proofs.Common.{◌≡◌, ◌≢◌, ℕ, ◌+◌, ◌<◌, ◌≤◌, List, [], ◌∷◌, ◌++◌, refl, sym, ◌∙◌, ap, arith, length, get_or, set, inl, inr, true, false, Option, Some, None, cond}
+use Rattle.std.proofs.Math.Bool.{and-false}
 use Rattle.std.specs.Prelude.{not, ◌&&◌, Bool, nat_lt}
 use Rattle.std.proofs.Math.ListN.{get_or-eq_default}
 use Rattle.std.proofs.lemmas.List.{get_or-set_same, get_or-set_other, length-set}
@@ -13,10 +14,6 @@ use Rattle.span_keyindex.specs.Items.{holders}
 use Rattle.span_keyindex.specs.Arenas.{one_if_chain, IsArenaOf, in_use, IsWithoutUnused}
 use Rattle.span_keyindex.specs.Removals.{KeepsCells}
 use Rattle.span_keyindex.proofs.Holders.{one_of, one_here, one_elsewhere, holders-append, at_most_one, is_some_chain, holders-filter}
-
-and_false : (b : Bool) → (b && false) ≡ false
-and_false true = refl
-and_false false = refl
 
 -- the number is that of a chain with no version and nothing prepared, of one of these keys
 abbrev pub is_gone : Content → List Entry → ℕ → Bool
@@ -52,7 +49,7 @@ module _ (es gone rest : List Entry) (e : Entry) (a b : Content) (own : IsArenaO
       let here : one_of e.chain.number e ≡ 1 = one_here e.chain.number e refl in
       let zero_held : holders e.chain.number gone ≡ 0 = omega (arith, held_is e.chain.number, own.each e.chain.number, at_most_one (get_or a.chains e.chain.number None)) in
       let none : nat_lt 0 (holders e.chain.number gone) ≡ false = rw zero_held refl in
-      freed.chains e.chain.number ∙ (rw (none, and_false (is_unused a e.chain.number)) refl)
+      freed.chains e.chain.number ∙ (rw (none, and-false (is_unused a e.chain.number)) refl)
 
   pub is_chain_next : IsChain b e.chain.number
   is_chain_next =
@@ -98,7 +95,7 @@ module _ (es gone rest : List Entry) (e : Entry) (a b : Content) (own : IsArenaO
 -- nothing was freed yet
 pub freed_none : (a : Content) → IsFreed a a []
 freed_none a = record {
-  chains = λ c. (rw (and_false (is_unused a c)) refl);
+  chains = λ c. (rw (and-false (is_unused a c)) refl);
   numbers = refl;
   others = refl;
 }

@@ -3,7 +3,7 @@ use Rattle.std.proofs.Common.{◌≡◌, ◌≢◌, ℕ, zero, suc, ◌+◌, ◌
 use Rattle.std.proofs.lemmas.Grind.{common_steps}
 use Rattle.span_lexer.specs.declared.literal.Literal.{Literal}
 use Rattle.span_lexer.specs.Literals.{closing_quote, piece_length, one_more, with_more}
-use Rattle.span_lexer.proofs.Words.{if_true, if_false}
+use Rattle.span_value.proofs.Choices.{if_true, if_false}
 
 abbrev after : Literal → ℕ → List ℕ → Option ℕ → Option ℕ
 after t q bs o = elim o [ None ↦ None | Some n ↦ one_more (closing_quote t q (n - 1) bs) ]

@@ -16,7 +16,7 @@ use Rattle.span_lexer.specs.Spellings.{reserved_word, sign}
 use Rattle.span_lexer.specs.Literals.{closing_quote}
 use Rattle.span_lexer.specs.Lexing.{word_length, lex_word, word_or_name, integer, next_integer, lex_integer, int_or_wrong, lex_parameter, name_or_wrong, literal_or_wrong, lex_bytes, lex_sign, is_on_line, lex_first, greatest_integer, longest_word, lex_from, with_token}
 use Rattle.span_lexer.specs.Tokens.{Each, Stops, IsName, NoMark, number_after, IsInteger, is_pair, NoPair, IsToken, Item, Blank, Comment, Lexeme, item_bytes, IsItem, AreItems, text_of, tokens_of}
-use Rattle.span_lexer.proofs.Words.{if_true, if_false}
+use Rattle.span_value.proofs.Choices.{if_true, if_false}
 use Rattle.span_lexer.proofs.Pieces.{body_closes}
 use Rattle.span_lexer.proofs.Fronts.{run_whole, digit_is_word, Holds, IsGap, front_holds}
 use Rattle.span_lexer.proofs.Whole.{gap_then, lexeme_then, wrong_then, lexed_nil}

@@ -15,7 +15,8 @@ use Rattle.span_lexer.specs.Spellings.{reserved_word, sign}
 use Rattle.span_lexer.specs.Literals.{closing_quote}
 use Rattle.span_lexer.specs.Lexing.{word_length, lex_word, word_or_name, integer, next_integer, lex_integer, int_or_wrong, lex_parameter, name_or_wrong, literal_or_wrong, lex_bytes, lex_sign, is_on_line, lex_first, greatest_integer, longest_word, Reaches}
 use Rattle.span_lexer.specs.Tokens.{Each, Stops, IsName, NoMark, number_after, is_pair, IsToken, Item, Blank, Comment, Lexeme, item_bytes, IsItem}
-use Rattle.span_lexer.proofs.Words.{if_true, if_false, choose}
+use Rattle.span_lexer.proofs.Words.{choose}
+use Rattle.span_value.proofs.Choices.{if_true, if_false}
 use Rattle.span_lexer.proofs.Pieces.{body_read, ReadsBody}
 
 -- ---- runs

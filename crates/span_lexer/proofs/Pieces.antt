@@ -5,7 +5,8 @@ use Rattle.span_lexer.specs.declared.literal.Literal.{Literal}
 use Rattle.span_lexer.specs.Characters.{is_hex, is_quote, is_escape, is_octal}
 use Rattle.span_lexer.specs.Literals.{is_bytes, is_d, hex_length, unicode_length, escape_length, piece_length, closing_quote, with_more}
 use Rattle.span_lexer.specs.Tokens.{Piece, Plain, Escaped, Hex, Unicode, piece_bytes, IsPiece, ArePieces, pieces_bytes, IsBody}
-use Rattle.span_lexer.proofs.Words.{if_true, if_false, choose}
+use Rattle.span_lexer.proofs.Words.{choose}
+use Rattle.span_value.proofs.Choices.{if_true, if_false}
 use Rattle.span_lexer.proofs.Closing.{piece_then, no_piece, closed_here, closed_nil}
 
 -- ---- what is read is a piece

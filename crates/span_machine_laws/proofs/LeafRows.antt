@@ -29,7 +29,7 @@ use Rattle.span_keycode.proofs.PartLaws.{part_within, within_part}
 use Rattle.span_mutate.specs.declared.row.TableRow.{TableRow}
 use Rattle.span_mutate.specs.Typed.{IsTyped}
 use Rattle.span_expr.specs.Operators.{column_of, or_null}
-use Rattle.span_planner.specs.Ranges.{Bound, is_of_type, bounded, range_by}
+use Rattle.span_planner.specs.Ranges.{KeyBound, is_of_type, bounded, range_by}
 use Rattle.span_planner.specs.Leaves.{width_of, root_places}
 use Rattle.span_planner.proofs.Bounding.{fits_type, is_in_bounds}
 use Rattle.span_planner.proofs.Cutting.{columns}
@@ -51,7 +51,7 @@ module _ (schema : List Table) (rules : MeetsRules schema) where
     is_less Greater is = absurd (let e : false ≡ true = is in cc)
 
     -- the key is within a bound's range just where its first value passes
-    within_bound : (t : ℕ) (v : Value) (vs : List Value) → IsKey schema t (v ∷ vs) → root_of schema t ≡ root → (b : Bound) → is_of_type part.kind b.1 ≡ true
+    within_bound : (t : ℕ) (v : Value) (vs : List Value) → IsKey schema t (v ∷ vs) → root_of schema t ≡ root → (b : KeyBound) → is_of_type part.kind b.1 ≡ true
         → is_between (Some (range_start root part b.0 b.1)) (Some (range_end root part b.0 b.1)) (key_code schema t (v ∷ vs)) ≡ compares b.0 v b.1
     unfolding is_between
     within_bound t v vs key root_is b typed =
@@ -72,7 +72,7 @@ module _ (schema : List Table) (rules : MeetsRules schema) where
         (λ inside. let both = part_within lo hi r k inside in and_from (is_between lo hi k) (is_within r k) both.0 both.1)
         (λ both. let parts = and_parts (is_between lo hi k) (is_within r k) both in within_part lo hi r k parts.0 parts.1)
 
-    within_bounds : (t : ℕ) (v : Value) (vs : List Value) → IsKey schema t (v ∷ vs) → root_of schema t ≡ root → (bs : List Bound) → list_all (λ (b : Bound). is_of_type part.kind b.1) bs ≡ true → (r : KeyRange)
+    within_bounds : (t : ℕ) (v : Value) (vs : List Value) → IsKey schema t (v ∷ vs) → root_of schema t ≡ root → (bs : List KeyBound) → list_all (λ (b : KeyBound). is_of_type part.kind b.1) bs ≡ true → (r : KeyRange)
         → is_within (fold (bounded root part) r bs) (key_code schema t (v ∷ vs)) ≡ (is_within r (key_code schema t (v ∷ vs)) && is_in_bounds bs v)
     within_bounds t v vs key root_is [] typed r = sym (and_true (is_within r (key_code schema t (v ∷ vs))))
       where
@@ -80,7 +80,7 @@ module _ (schema : List Table) (rules : MeetsRules schema) where
         and_true true = refl
         and_true false = refl
     within_bounds t v vs key root_is (b ∷ bs) typed r =
-        let both = and_parts (is_of_type part.kind b.1) (list_all (λ (b : Bound). is_of_type part.kind b.1) bs) typed in
+        let both = and_parts (is_of_type part.kind b.1) (list_all (λ (b : KeyBound). is_of_type part.kind b.1) bs) typed in
         let code : List ℕ = key_code schema t (v ∷ vs) in
         within_bounds t v vs key root_is bs both.1 (bounded root part r b)
         ∙ ap (λ (x : Bool). x && is_in_bounds bs v) (part_as_both (Some (range_start root part b.0 b.1)) (Some (range_end root part b.0 b.1)) r code)
@@ -94,7 +94,7 @@ module _ (schema : List Table) (rules : MeetsRules schema) where
         turned false false c = refl
 
     -- THE LAW OF CODED RANGES: a row is in a range that bounds narrow just where its first key column passes them
-    pub row_in_bounds : (bs : List Bound) → list_all (λ (b : Bound). is_of_type part.kind b.1) bs ≡ true → (r : TableRow) → IsTyped schema r → (of : IsOfFamily schema root part r.table)
+    pub row_in_bounds : (bs : List KeyBound) → list_all (λ (b : KeyBound). is_of_type part.kind b.1) bs ≡ true → (r : TableRow) → IsTyped schema r → (of : IsOfFamily schema root part r.table)
         → row_within schema (range_by root part bs) r ≡ is_in_bounds bs (column_of (declared_row schema r) (first_place schema r.table))
     row_in_bounds bs typed_bounds r typed of = by_key r.key refl (subst (λ (ps : List ℕ). columns ps (declared_row schema r) ≡ r.key) of.places_are (key_of_columns schema rules r typed))
       where

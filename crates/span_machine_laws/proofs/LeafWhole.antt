@@ -21,7 +21,7 @@ use Rattle.span_planner.specs.declared.leaf.Leaf.{Leaf}
 use Rattle.span_planner.specs.declared.leaf.LeafJoin.{LeafJoin}
 use Rattle.span_planner.specs.Conditions.{equates, equates_all}
 use Rattle.span_planner.specs.Leaves.{width_of, root_places}
-use Rattle.span_planner.specs.Ranges.{Bound, is_of_type, range_by}
+use Rattle.span_planner.specs.Ranges.{KeyBound, is_of_type, range_by}
 use Rattle.span_planner.specs.Results.{leaf_rows}
 use Rattle.span_planner.proofs.Bounding.{is_in_bounds}
 use Rattle.span_planner.proofs.Narrowed.{AreEquated, AreWideTables, AreTotalJoins, IsLost, filter_tables, passes_at, leaf_narrowed}
@@ -93,7 +93,7 @@ module _ (schema : List Table) (db : List TableRow) (are_typed : AreTyped schema
 
   -- ---- a leaf on a range that is narrowed
 
-  module _ (rules : MeetsRules schema) (root : ℕ) (part : KeyPart) (has : HasFirst schema root part) (bs : List Bound) (typed : list_all (λ (b : Bound). is_of_type part.kind b.1) bs ≡ true) where
+  module _ (rules : MeetsRules schema) (root : ℕ) (part : KeyPart) (has : HasFirst schema root part) (bs : List KeyBound) (typed : list_all (λ (b : KeyBound). is_of_type part.kind b.1) bs ≡ true) where
     abbrev passes : Value → Bool
     passes v = is_in_bounds bs v
 

@@ -18,7 +18,7 @@ use Rattle.span_expr.specs.declared.expr.Expr.{Expr}
 use Rattle.span_query.specs.declared.query.Statement.{Statement}
 use Rattle.span_params.specs.declared.params.Parameter.{Parameter}
 use Rattle.span_planner.specs.declared.leaf.Leaf.{Leaf}
-use Rattle.span_planner.specs.Ranges.{Bound, is_of_type, bounds, bounds_by, bounded, narrowed}
+use Rattle.span_planner.specs.Ranges.{KeyBound, is_of_type, bounds, bounds_by, bounded, narrowed}
 use Rattle.span_planner.proofs.Ranged.{IsRanged, leaves_ranged}
 use Rattle.span_truetime.specs.Time.{timestamp_of}
 use Rattle.span_machine.specs.declared.query.OpenQuery.{OpenQuery}
@@ -131,10 +131,10 @@ module _ (schema : List Table) where
   family_ends n = (inr (inl (n, refl)), inr (inl (n + 1, refl)))
 
   module _ (table : ℕ) (part : KeyPart) (parts : List KeyPart) (columns : key_columns schema table ≡ part ∷ parts) where
-    bounded_ends : (bs : List Bound) → list_all (λ (b : Bound). is_of_type part.kind b.1) bs ≡ true → (r : KeyRange) → AreEnds schema r → AreEnds schema (fold (bounded (root_of schema table) part) r bs)
+    bounded_ends : (bs : List KeyBound) → list_all (λ (b : KeyBound). is_of_type part.kind b.1) bs ≡ true → (r : KeyRange) → AreEnds schema r → AreEnds schema (fold (bounded (root_of schema table) part) r bs)
     bounded_ends [] typed r ends = ends
     bounded_ends (b ∷ bs) typed r ends =
-        let parts_of = both (is_of_type part.kind b.1) (list_all (λ (x : Bound). is_of_type part.kind x.1) bs) typed in
+        let parts_of = both (is_of_type part.kind b.1) (list_all (λ (x : KeyBound). is_of_type part.kind x.1) bs) typed in
         let low : List ℕ = range_start (root_of schema table) part b.0 b.1 in
         let high : List ℕ = range_end (root_of schema table) part b.0 b.1 in
         bounded_ends bs parts_of.1 (bounded (root_of schema table) part r b) (
@@ -145,7 +145,7 @@ module _ (schema : List Table) where
           both true c is = (refl, is)
           both false c is = cc
 
-  all_typed : (p : Bound → Bool) (bs : List Bound) → list_all p (filter p bs) ≡ true
+  all_typed : (p : KeyBound → Bool) (bs : List KeyBound) → list_all p (filter p bs) ≡ true
   all_typed p [] = refl
   all_typed p (b ∷ bs) = of_test (p b) refl (all_typed p bs) where
     of_test : (t : Bool) → p b ≡ t → list_all p (filter p bs) ≡ true → list_all p (if t then b ∷ filter p bs else filter p bs) ≡ true
@@ -156,7 +156,7 @@ module _ (schema : List Table) where
   narrowed_ends table at es [] places is = family_ends (root_of schema table)
   narrowed_ends table at es (part ∷ parts) [] is = family_ends (root_of schema table)
   narrowed_ends table at es (part ∷ parts) (place ∷ places) is =
-      bounded_ends table part parts is (bounds_by part.kind (at + place) es) (all_typed (λ (b : Bound). is_of_type part.kind b.1) (flat_map (bounds (at + place)) es)) (family (root_of schema table)) (family_ends (root_of schema table))
+      bounded_ends table part parts is (bounds_by part.kind (at + place) es) (all_typed (λ (b : KeyBound). is_of_type part.kind b.1) (flat_map (bounds (at + place)) es)) (family (root_of schema table)) (family_ends (root_of schema table))
 
   pub ranged_ends : (leaf : Leaf) → IsRanged schema leaf → AreEnds schema leaf.range
   ranged_ends leaf is = subst (AreEnds schema) (sym is.is) (narrowed_ends is.table is.at is.conditions (key_columns schema is.table) (key_places schema is.table) refl)

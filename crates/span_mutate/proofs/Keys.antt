@@ -1,5 +1,6 @@
 -- Keys: what is at the front of another, and their order.
 use Rattle.std.proofs.Common.{◌≡◌, ℕ, suc, ◌<◌, ◌≤◌, Bool, true, false, ◌&&◌, List, [], ◌∷◌, length, min, refl, ap, ◌∙◌, arith}
+use Rattle.std.proofs.Math.Bool.{and-false}
 use Rattle.std.proofs.lemmas.Bool.Decides.{nat_tests}
 use Rattle.std.specs.declared.cmp.Ordering.TheVariants.{Less, Greater}
 use Rattle.std.specs.Ordering.{nat_cmp, eq_by_cmp}
@@ -8,15 +9,11 @@ use Rattle.span_value.specs.Orders.{value_order}
 use Rattle.span_schema.specs.declared.layout.KeyPart.{KeyPart}
 use Rattle.span_mutate.specs.Rows.{begins, order_from}
 
-and_false : (b : Bool) → (b && false) ≡ false
-and_false true = refl
-and_false false = refl
-
 -- what is longer is no front
 pub longer_is_no_front : (vs ws : List Value) → length ws < length vs → begins vs ws ≡ false
 longer_is_no_front [] ws h = absurd (omega arith)
 longer_is_no_front (v ∷ vs) [] h = refl
-longer_is_no_front (v ∷ vs) (w ∷ ws) h = ap (λ (b : Bool). eq_by_cmp value_order v w && b) (longer_is_no_front vs ws (omega arith)) ∙ and_false (eq_by_cmp value_order v w)
+longer_is_no_front (v ∷ vs) (w ∷ ws) h = ap (λ (b : Bool). eq_by_cmp value_order v w && b) (longer_is_no_front vs ws (omega arith)) ∙ and-false (eq_by_cmp value_order v w)
 
 -- where one key ends, the lengths decide
 pub lengths_decide : (columns : List KeyPart) (i : ℕ) (vs ws : List Value) → min (length vs) (length ws) ≤ 0 → order_from columns i vs ws ≡ nat_cmp (length vs) (length ws)

@@ -1,5 +1,6 @@
 -- The cells that a checked mutation names fit their columns.
 use Rattle.std.proofs.Common.{◌≡◌, ◌≢◌, ℕ, zero, suc, ◌+◌, ◌-◌, ◌<◌, ◌≤◌, Bool, true, false, ◌==◌, ◌&&◌, ◌||◌, not, cond, List, [], ◌∷◌, ◌++◌, Option, Some, None, is_some, is_none, length, drop, get_or, map, refl, sym, ap, subst, ◌∙◌, arith}
+use Rattle.std.proofs.Math.Bool.{and-false}
 use Rattle.std.specs.Prelude.{nat_lt, IfSome, slice_get}
 use Rattle.std.specs.List.{AllByRecursion, find, position, position_or_len}
 use Rattle.std.specs.Option.{option_or, option_map}
@@ -31,15 +32,11 @@ use Rattle.std.proofs.lemmas.Bool.{not-false, or_parts, and_from}
 
 -- ---- the test of kinds, one after another
 
-and_false : (b : Bool) → (b && false) ≡ false
-and_false true = refl
-and_false false = refl
-
 pub named_differ : (ks : List Kind) (vs : List (Option Value)) → length ks ≢ length vs → are_named_kinds ks vs ≡ false
 named_differ [] [] h = absurd (h refl)
 named_differ [] (v ∷ vs) h = refl
 named_differ (k ∷ ks) [] h = refl
-named_differ (k ∷ ks) (v ∷ vs) h = ap (λ (b : Bool). is_named_kind k v && b) (named_differ ks vs (λ e. h (ap suc e))) ∙ and_false (is_named_kind k v)
+named_differ (k ∷ ks) (v ∷ vs) h = ap (λ (b : Bool). is_named_kind k v && b) (named_differ ks vs (λ e. h (ap suc e))) ∙ and-false (is_named_kind k v)
 
 pub named_step : (ks : List Kind) (vs : List (Option Value)) (i : ℕ) (k : Kind) (v : Option Value) → i < length ks → i < length vs → v ≡ get_or vs i v
     → are_named_kinds (drop i ks) (drop i vs) ≡ (is_named_kind (get_or ks i k) v && are_named_kinds (drop (suc i) ks) (drop (suc i) vs))

@@ -13,7 +13,7 @@ use Rattle.span_machine.specs.declared.transaction.Commit.{Commit}
 use Rattle.span_shard.specs.KeyVersions.{KeyVersions}
 use Rattle.span_session.specs.Known.{Known}
 use Rattle.span_session.specs.Rule.{name_of, Fits, FitAll, Kept, first_of, others_of, number_of, versions_of, known_at, seen_of, mine_of}
-use Rattle.span_session.proofs.Owners.{if_true, if_false}
+use Rattle.span_value.proofs.Choices.{if_true, if_false}
 use Rattle.span_session.proofs.Steps.{Holds, fit_again}
 
 -- a seat other than the changed one, or the changed one

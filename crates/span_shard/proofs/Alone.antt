@@ -1,5 +1,6 @@
 -- A row that is put without a look for what mutations made at its key, and a parent row that is known to be there.
 use Rattle.std.proofs.Common.{◌≡◌, ◌⊎◌, inl, inr, ℕ, Bool, true, false, not, ◌&&◌, cond, List, [], ◌∷◌, Option, Some, None, is_some, is_none, Ok, take, length, refl, sym, ap, subst, ◌∙◌}
+use Rattle.std.proofs.Math.Bool.{and-false}
 use Rattle.std.specs.Prelude.{nat_lt, IfSome}
 use Rattle.std.specs.List.{list_any}
 use Rattle.std.specs.Option.{unwrap_or}
@@ -26,10 +27,6 @@ use Rattle.span_shard.proofs.RunPuts.{put_answer}
 
 -- ---- a row that is made as if there were none
 
-and_false : (b : Bool) → (b && false) ≡ false
-and_false true = refl
-and_false false = refl
-
 no_update : (k : MutationKind) → is_insert k ≡ true → (is_update k && true) ≡ false
 no_update Insert e = refl
 no_update Update e = absurd (let f : false ≡ true = e in cc)
@@ -42,7 +39,7 @@ alone_put tables cs es m row alone none =
     let code = own_code tables m in
     let before : row_before tables cs es m ≡ None = ap (λ (o : Option (List ℕ)). unwrap_or (change_of o (list_any (is_same code) es.removed)) (row_now cs code)) none ∙ alone.under in
     put_answer tables cs es m [] false false (subst (λ (o : Option (List ℕ)). AreCellsOf tables m.table o []) (sym before) refl) (ap (λ (o : Option (List ℕ)). is_some o) before) alone.parent
-    (and_false (is_insert m.kind)) (no_update m.kind alone.insert) refl (Ok row) (alone.is, alone.fits)
+    (and-false (is_insert m.kind)) (no_update m.kind alone.insert) refl (Ok row) (alone.is, alone.fits)
 
 there_over : (o : Option (List ℕ)) (b : Bool) (now : Option (List ℕ)) → is_some o ≡ true → is_some (unwrap_or (change_of o b) now) ≡ true
 there_over None b now e = absurd (let f : false ≡ true = e in cc)

@@ -3,7 +3,7 @@ use Rattle.std.proofs.Common.{◌≡◌, ℕ, ◌≤◌, ◌<◌, ◌-◌, nat_l
 use Rattle.std.specs.Prelude.{option_map, take, drop}
 use Rattle.std.proofs.lemmas.Bool.Decides.{nat_tests}
 use Rattle.std.proofs.lemmas.Option.{slice_get_past}
-use Rattle.span_lexer.proofs.Words.{if_true, if_false}
+use Rattle.span_value.proofs.Choices.{if_true, if_false}
 use Rattle.span_lexer.specs.declared.token.Token.{Token}
 use Rattle.span_grammar.specs.declared.class.Lexeme.{Lexeme}
 use Rattle.span_syntax.specs.Parsed.{token_at, split_tokens}

@@ -3,15 +3,8 @@ use Rattle.std.proofs.Common.{◌≡◌, ◌≢◌, ◌⊎◌, ℕ, zero, suc, �
 use Rattle.std.specs.Option.{option_map}
 use Rattle.std.specs.Char.{digit_char}
 use Rattle.std.specs.List.{All}
+use Rattle.span_value.proofs.Choices.{if_true, if_false}
 use Rattle.span_value.specs.Cells.{escaped, hex_pairs, unescaped, unescaped_after, half_byte, byte_of, decoded_hex, IsClean}
-
-if_true : {A : Type 0} (b : Bool) (x y : A) → b ≡ true → (if b then x else y) ≡ x
-if_true true x y h = refl
-if_true false x y h = absurd cc
-
-if_false : {A : Type 0} (b : Bool) (x y : A) → b ≡ false → (if b then x else y) ≡ y
-if_false false x y h = refl
-if_false true x y h = absurd cc
 
 differ : (b q : ℕ) (v : Bool) → (b == q) ≡ v → b ≢ q → v ≡ false
 differ b q true h n = absurd (n (eqb-true b q h))

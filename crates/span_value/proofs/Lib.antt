@@ -1,3 +1,4 @@
 pub mod CellTexts
+pub mod Choices
 pub mod IntCells
 pub mod Total

@@ -1,5 +1,6 @@
 -- Counting changes and versions by their keys.
 use Rattle.std.proofs.Common.{◌≡◌, ℕ, ◌+◌, ◌<◌, Bool, true, false, cond, not, ◌&&◌, ◌||◌, nat_lt, nat_le, List, [], ◌∷◌, ◌++◌, map, length, Option, Some, None, refl, ap, sym, ◌∙◌, arith, append_assoc}
+use Rattle.std.proofs.Math.Bool.{and-false}
 use Rattle.std.specs.Prelude.{filter, sum_by, is_some}
 use Rattle.std.specs.List.{AllByRecursion, list_any}
 use Rattle.std.specs.Ordering.{eq_by_cmp}
@@ -166,17 +167,13 @@ before t u low = grind (arith, nat_tests)
 not_late : (h t u : ℕ) → t < u → nat_le u h ≡ true → nat_lt h t ≡ false
 not_late h t u low early = grind (arith, nat_tests)
 
-and_false : (a : Bool) → (a && false) ≡ false
-and_false true = refl
-and_false false = refl
-
 -- an earlier change does not hide a later one
 hides_back : (h : ℕ) (c d : Change) → c.timestamp < d.timestamp → hides h d c ≡ false
-hides_back h c d low = ap (λ (b : Bool). bytes_eq d.key c.key && b && nat_le c.timestamp h) (not_before c.timestamp d.timestamp low) ∙ ap (λ (b : Bool). b && nat_le c.timestamp h) (and_false (bytes_eq d.key c.key))
+hides_back h c d low = ap (λ (b : Bool). bytes_eq d.key c.key && b && nat_le c.timestamp h) (not_before c.timestamp d.timestamp low) ∙ ap (λ (b : Bool). b && nat_le c.timestamp h) (and-false (bytes_eq d.key c.key))
 
 -- no change hides itself
 hides_self : (h : ℕ) (c : Change) → hides h c c ≡ false
-hides_self h c = ap (λ (b : Bool). bytes_eq c.key c.key && b && nat_le c.timestamp h) (not_self c.timestamp) ∙ ap (λ (b : Bool). b && nat_le c.timestamp h) (and_false (bytes_eq c.key c.key))
+hides_self h c = ap (λ (b : Bool). bytes_eq c.key c.key && b && nat_le c.timestamp h) (not_self c.timestamp) ∙ ap (λ (b : Bool). b && nat_le c.timestamp h) (and-false (bytes_eq c.key c.key))
 
 -- a later change of the key hides where it is at or below the horizon
 hides_on : (h : ℕ) (c d : Change) → d.key ≡ c.key → c.timestamp < d.timestamp → hides h c d ≡ nat_le d.timestamp h
@@ -240,7 +237,7 @@ kept_count h (c ∷ cs) up =
     by_early : (b : Bool) → has_early h cs ≡ b → length (kept_upto h (newest_first cs)) + cond (nat_lt h c.timestamp || (is_some c.row && not b)) 1 0
         ≡ length (cond (has_old h (newest_first cs)) (kept_upto h (newest_first cs)) (newest_first cs ++ kept_upto h (version_of c ∷ [])))
     by_early true e =
-        let out : (nat_lt h c.timestamp || (is_some c.row && false)) ≡ false = ap (λ (b : Bool). b || (is_some c.row && false)) (early_below h c cs up.0 e) ∙ and_false (is_some c.row) in
+        let out : (nat_lt h c.timestamp || (is_some c.row && false)) ≡ false = ap (λ (b : Bool). b || (is_some c.row && false)) (early_below h c cs up.0 e) ∙ and-false (is_some c.row) in
         ap (λ (b : Bool). length (kept_upto h (newest_first cs)) + cond b 1 0) out
         ∙ omega arith
         ∙ ap (λ (b : Bool). length (cond b (kept_upto h (newest_first cs)) (newest_first cs ++ kept_upto h (version_of c ∷ [])))) (sym (old_is_early h cs ∙ e))
