@@ -7,3 +7,4 @@ pub mod Stepping
 pub mod Claimed
 pub mod Committing
 pub mod Opening
+pub mod Conflicts

@@ -3,3 +3,4 @@ pub mod Places
 pub mod Counts
 pub mod Scans
 pub mod Choices
+pub mod Conflicts

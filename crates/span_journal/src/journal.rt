@@ -15,6 +15,7 @@ ghost use Rattle.span_journal.specs.Judged.{as_reply, decision_reply, MayPrepare
 
 use super::choice::{Chosen, has_any, mutations_in};
 use super::commit::KeptCommit;
+use super::conflict::has_conflict;
 use super::owned::{append, drop_at};
 use super::queries::{cover_at, find_query, find_target, take_at};
 use super::query::KeptQuery;
@@ -28,7 +29,7 @@ use super::taken::Taken;
 use super::transaction::KeptTransaction;
 use super::transactions::{
     abort_at, add_prepared_at, check_apply, commit_at, count_prepared, count_undecided,
-    end_prepared_at, find_transaction, has_conflict, is_any_prepared, may_prepare, remove_at,
+    end_prepared_at, find_transaction, is_any_prepared, may_prepare, remove_at,
 };
 use span_fragment::piece::Piece;
 use span_keycode::key::Key;
@@ -401,7 +402,7 @@ impl Journal {
             return Err(Refusal::WrongState);
         }
         let transactions = self.transactions.as_slice();
-        if has_conflict(schema, transactions, slot, slot_state, mutations) {
+        if has_conflict(alloc, schema, transactions, slot, slot_state, mutations) {
             return Err(Refusal::Conflict);
         }
         mutations_in(alloc, schema, slot_state, mutations)

@@ -6,6 +6,7 @@
 
 pub mod choice;
 pub mod commit;
+mod conflict;
 pub mod journal;
 mod owned;
 mod queries;

@@ -1,20 +1,14 @@
-//! Finding open transactions, and what they share.
+//! Finding open transactions, and what is noted of them.
 ghost use Rattle.std.specs.Prelude.{◌≡◌, ◌<◌, ◌+◌, ◌≤◌, ◌&&◌, ◌||◌, ◌==◌, not, true, false, length, position, None, Some, IfOk, IfErr, remove, if◌then◌else◌, count_by, find, slice_get, slice_set, IfSome, IfNone};
 ghost use Rattle.std.specs.List.{list_any};
-ghost use Rattle.span_machine.specs.Machine.{is_at, root_at, is_undecided, is_transaction, is_prepared_at, with_decision, commit_of, add_prepared, without_prepared, apply_refusal, holds};
+ghost use Rattle.span_machine.specs.Machine.{is_undecided, is_transaction, is_prepared_at, with_decision, commit_of, add_prepared, without_prepared, apply_refusal};
 ghost use Rattle.span_machine.specs.Limits.{most_slots};
 ghost use Rattle.span_machine.specs.Place.{IsPlace};
 ghost use Rattle.span_journal.specs.Judged.{decision_of, has_wrong_state};
-ghost use Rattle.span_journal.specs.Places.{share_directory_in};
 
 use super::commit::KeptCommit;
-use super::slots::holds;
 use super::transaction::KeptTransaction;
-use span_machine::slot::SlotState;
 use span_machine::transaction::{Decision, Prepared};
-use span_mutate::directory::is_in_directory_of;
-use span_mutate::mutation::CheckedMutation;
-use span_schema::schema::Schema;
 use span_truetime::interval::Interval;
 use span_value::refusal::Refusal;
 
@@ -98,83 +92,6 @@ pub(crate) fn commit_at(
     ensures fewer { count_by is_undecided transactions.new.items + 1 ≡ count_by is_undecided transactions.old.items }
 {
     transactions[at].commit(timestamp)
-}
-
-/// Whether a transaction that is prepared at the slot has a mutation in a directory of those of these mutations that
-/// lie in the slot.
-pub(crate) fn has_conflict(
-    schema: &Schema,
-    transactions: &[KeptTransaction],
-    slot: usize,
-    slot_state: &SlotState,
-    mutations: &[CheckedMutation],
-) -> bool
-    ensures { result
-        ≡ list_any
-        (λ t. is_prepared_at slot t && share_directory_in schema.now slot_state.now mutations.now t.mutations)
-        transactions.now }
-{
-    transactions
-        .iter()
-        .any(|t| is_in_conflict(schema, t, slot, slot_state, mutations))
-}
-
-fn is_in_conflict(
-    schema: &Schema,
-    transaction: &KeptTransaction,
-    slot: usize,
-    slot_state: &SlotState,
-    mutations: &[CheckedMutation],
-) -> bool
-    ensures { result
-        ≡ (is_prepared_at slot transaction.now
-        && share_directory_in schema.now slot_state.now mutations.now transaction.now.mutations) }
-{
-    if !is_prepared(transaction, slot) {
-        return false;
-    }
-    share_directory(schema, slot_state, mutations, transaction.mutations())
-}
-
-/// Whether a directory that lies in the slot has mutations of both lists.
-fn share_directory(
-    schema: &Schema,
-    slot_state: &SlotState,
-    left: &[CheckedMutation],
-    right: &[CheckedMutation],
-) -> bool
-    ensures { result ≡ share_directory_in schema.now slot_state.now left.now right.now }
-{
-    left.iter()
-        .any(|m| is_in_shared_directory(schema, slot_state, m, right))
-}
-
-fn is_in_shared_directory(
-    schema: &Schema,
-    slot_state: &SlotState,
-    mutation: &CheckedMutation,
-    others: &[CheckedMutation],
-) -> bool
-    ensures { result
-        ≡ (holds schema.now slot_state.now (root_at schema.now mutation.now)
-        && list_any (is_at schema.now (root_at schema.now mutation.now)) others.now) }
-{
-    if !holds(schema, slot_state, mutation) {
-        return false;
-    }
-    is_any_in_directory_of(schema, mutation, others)
-}
-
-fn is_any_in_directory_of(
-    schema: &Schema,
-    mutation: &CheckedMutation,
-    others: &[CheckedMutation],
-) -> bool
-    ensures { result ≡ list_any (is_at schema.now (root_at schema.now mutation.now)) others.now }
-{
-    others
-        .iter()
-        .any(|m| is_in_directory_of(schema, mutation, m))
 }
 
 /// Aborts the transaction at a place.
