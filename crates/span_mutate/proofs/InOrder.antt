@@ -56,7 +56,7 @@ others_from key front (c ∷ cs) = cases (is_key_name key c.name) (others_next k
     cases true h = h
     cases false h = (at_seam front cs c, h)
 
-others_at : (t : Table) → AreAt t.columns (layout.other_places t.key 0 t.columns) (other_columns t.key t.columns)
+pub others_at : (t : Table) → AreAt t.columns (layout.other_places t.key 0 t.columns) (other_columns t.key t.columns)
 others_at t = others_from t.key [] t.columns
 
 -- ---- what is known of a column outside the key
@@ -74,7 +74,7 @@ others_known t (c ∷ cs) h = cases (is_key_name t.key c.name) refl (others_know
     cases false e more = (record { outside = e; self = h.0 }, more)
 
 -- names of columns, none of which a column after it has
-abbrev Apart : List Column → Type 0
+abbrev pub Apart : List Column → Type 0
 Apart [] = Unit {0}
 Apart (c ∷ cs) = AllByRecursion (λ (d : Column). is_same_name c.name d.name ≡ false) cs × Apart cs
 
@@ -85,7 +85,7 @@ other_way a b h = cases (is_same_name b a) refl
     cases true e = absurd (let f : true ≡ false = sym (lower_same a b (sym (same_lower b a e))) ∙ h in cc)
     cases false e = refl
 
-apart_from : (cs : List Column) → has_repeated_column cs ≡ false → Apart cs
+pub apart_from : (cs : List Column) → has_repeated_column cs ≡ false → Apart cs
 apart_from [] h = tt
 apart_from (c ∷ cs) h =
     let parts = or_parts (is_some (column_place cs c.name)) (has_repeated_column cs) h in (
@@ -102,7 +102,7 @@ all_filter {X} P q (x ∷ xs) h = cases (q x) (all_filter P q xs h.1)
     cases true more = (h.0, more)
     cases false more = more
 
-apart_others : (key : List KeyColumn) (cs : List Column) → Apart cs → Apart (other_columns key cs)
+pub apart_others : (key : List KeyColumn) (cs : List Column) → Apart cs → Apart (other_columns key cs)
 apart_others key [] h = tt
 apart_others key (c ∷ cs) h = cases (is_key_name key c.name) (apart_others key cs h.1)
   where
@@ -128,7 +128,7 @@ heads columns p ps x xs c at e =
 abbrev causes_of : Bool → Option Column → Bool → Value → List (Bool × Refusal)
 causes_of deletes o named v = (deletes || is_none o || named, NoColumn) ∷ value_causes o v
 
-named_more : (before : List NamedValue) (x : NamedValue) (name : List ℕ) → is_named before name ≡ false → is_same_name x.column name ≡ false → is_named (before ++ x ∷ []) name ≡ false
+pub named_more : (before : List NamedValue) (x : NamedValue) (name : List ℕ) → is_named before name ≡ false → is_same_name x.column name ≡ false → is_named (before ++ x ∷ []) name ≡ false
 named_more [] x name h g = or_from (is_same_name x.column name) false g refl
 named_more (b ∷ bs) x name h g =
     let parts = or_parts (is_same_name b.column name) (is_named bs name) h in

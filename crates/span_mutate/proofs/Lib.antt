@@ -15,6 +15,7 @@ pub mod Keyed
 pub mod Keys
 pub mod Local
 pub mod NamedKinds
+pub mod NamedRows
 pub mod Orders
 pub mod Parents
 pub mod Placing

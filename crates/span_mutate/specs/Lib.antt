@@ -2,6 +2,7 @@ pub mod Columns
 pub mod Checking
 pub mod InOrder
 pub mod Batches
+pub mod NamedBatches
 pub mod RootKeys
 pub mod Rows
 pub mod Database

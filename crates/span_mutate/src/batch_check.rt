@@ -8,15 +8,18 @@ ghost use Rattle.span_keycode.specs.Keys.{IsCodedKey};
 ghost use Rattle.span_mutate.specs.Batches.{IsBound, batch_mutations, is_full, named_cells, row_mutation, row_mutations};
 ghost use Rattle.span_mutate.specs.Checking.{cells_cause, checked, checked_all, checked_at, lack_causes, mutation_cause, with_front};
 ghost use Rattle.span_mutate.specs.Directories.{AreKeyed};
-ghost use Rattle.span_mutate.specs.InOrder.{are_names_at, cell_cause, row_cause};
+ghost use Rattle.span_mutate.specs.InOrder.{are_names_at, row_cause};
+ghost use Rattle.span_mutate.specs.NamedBatches.{IsNamed};
 ghost use Rattle.span_mutate.specs.Typed.{AreTypedMutations, IsTypedMutation};
 
 use super::batch::{BatchRow, Heading, MutationBatch};
-use super::check::{check, check_key, check_value, table_number};
-use super::column::{are_names_at, column_at, have_named_kinds, is_full};
+use super::check::{check, check_key, table_number};
+use super::column::{are_names_at, have_named_kinds, is_full};
 use super::mutation::{CheckedMutation, Mutation, NamedValue, is_delete};
+use super::named_batch::{check_cells, check_named};
+use super::named_columns::{NamedColumns, named_columns};
 use span_schema::schema::Schema;
-use span_schema::table::{Column, Table};
+use span_schema::table::Table;
 use span_value::refusal::Refusal;
 use span_value::seq::Seq;
 use span_value::text::Text;
@@ -45,30 +48,6 @@ fn bound_table(schema: &Schema, before: &[CheckedMutation], heading: &Heading) -
         return None;
     }
     Some(number)
-}
-
-// Whether the column, if there is one, takes the value, if there is one.
-fn check_cell(column: Option<&Column>, cell: &Option<Value>) -> Result<(), Refusal>
-    ensures { MatchResult result
-        (λ _. cell_cause (option_copied column.entry) cell.now ≡ None)
-        (λ why. cell_cause (option_copied column.entry) cell.now ≡ Some why) }
-{
-    match cell {
-        None => Ok(()),
-        Some(value) => check_value(column, value),
-    }
-}
-
-// The values of a row, each with the column at its place.
-fn check_cells(columns: &[Column], places: &[usize], cells: &[Option<Value>]) -> Result<(), Refusal>
-    ensures { MatchResult result
-        (λ _. row_cause columns.now places.now cells.now ≡ None)
-        (λ why. row_cause columns.now places.now cells.now ≡ Some why) }
-{
-    for i in 0..places.len().min(cells.len()) {
-        check_cell(column_at(columns, places[i]), &cells[i])?;
-    }
-    Ok(())
 }
 
 // Whether the values of a full row of a bound batch break no rule.
@@ -203,30 +182,51 @@ fn named_mutation(alloc: Global, heading: &Heading, row: BatchRow) -> Result<Mut
     })
 }
 
-// A row, checked against the schema, as those before it were. `bound` is the number of its batch's table, where the batch is bound.
+// A row, checked against the schema, as those before it were. `bound` is the number of its batch's table and `named` the batch's
+// columns, where they are known.
 fn check_row(
     alloc: Global,
     schema: &Schema,
     bound: Option<usize>,
+    named: Option<&NamedColumns>,
     heading: &Heading,
     before: &[CheckedMutation],
     row: BatchRow,
 ) -> Result<CheckedMutation, Refusal>
     requires tables { All (λ m. IsTable schema.now m.table) before.now }
     requires bound { IfSome bound (IsBound schema.now heading.now) }
+    requires named { IfSome (option_copied named) (IsNamed schema.now heading.now) }
     ensures checked { MatchResult result
         (λ c. checked schema.now (row_mutation heading.now row) ≡ Ok c)
         (λ why. (checked schema.now (row_mutation heading.now row) ≡ Err why) ⊎ (why ≡ Refusal.OutOfMemory)) }
     ensures typed { IfOk result (λ c. IsTypedMutation schema.now c) }
 {
-    match bound {
-        Some(number) if is_full(heading.columns.as_slice(), row.cells.as_slice()) => {
+    match (bound, named) {
+        (Some(number), _) if is_full(heading.columns.as_slice(), row.cells.as_slice()) => {
             check_full(schema, number, heading, row)
         }
+        (_, Some(columns)) => check_named(alloc, schema, columns, heading, row),
         _ => {
             let mutation = named_mutation(alloc, heading, row)?;
             check(alloc, schema, before, mutation)
         }
+    }
+}
+
+// The columns of a batch that is not bound, where its names are those of columns outside the key.
+fn unbound_columns(
+    alloc: Global,
+    schema: &Schema,
+    bound: Option<usize>,
+    before: &[CheckedMutation],
+    heading: &Heading,
+) -> Option<NamedColumns>
+    requires { All (λ m. IsTable schema.now m.table) before.now }
+    ensures { IfSome result (IsNamed schema.now heading.now) }
+{
+    match bound {
+        Some(_) => None,
+        None => named_columns(alloc, schema, before, heading),
     }
 }
 
@@ -247,9 +247,11 @@ fn check_rows(
     ensures typed { OnOk result (AreTypedMutations schema.now done.new.items) }
 {
     let bound = bound_table(schema, done.as_slice(), heading);
+    let columns = unbound_columns(alloc, schema, bound, done.as_slice(), heading);
+    let named = columns.as_ref();
     done.reserve(rows.len())?;
     for row in rows {
-        done.push_reserved(check_row(alloc, schema, bound, heading, done.as_slice(), row)?);
+        done.push_reserved(check_row(alloc, schema, bound, named, heading, done.as_slice(), row)?);
     }
     Ok(())
 }

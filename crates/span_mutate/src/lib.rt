@@ -9,6 +9,8 @@ mod copy;
 pub mod directory;
 pub mod laws;
 pub mod mutation;
+mod named_batch;
+mod named_columns;
 pub mod root;
 pub mod root_key;
 pub mod row;

@@ -1,9 +1,12 @@
 use Rattle.std.proofs.Common.{◌≡◌, List, [], length, Ok, sym, ◌∙◌, ap, inl, inr, subst, arith}
+use Rattle.std.specs.Prelude.{Option, IfSome}
 use Rattle.std.specs.Vec.Iter.{into_iter_items}
 use Rattle.std.proofs.lemmas.List.{append-nil, nil_from_length}
 use Rattle.std.proofs.lemmas.Result.{err_from_is_err_and}
 use Rattle.span_mutate.specs.declared.mutation.CheckedMutation.{CheckedMutation}
 use Rattle.span_mutate.specs.declared.batch.BatchRow.{BatchRow}
+use Rattle.span_mutate.specs.declared.named_columns.NamedColumns.{NamedColumns}
+use Rattle.span_mutate.specs.NamedBatches.{IsNamed}
 use Rattle.span_mutate.specs.Batches.{row_mutation, row_mutations}
 use Rattle.span_mutate.specs.Typed.{IsTypedMutation, AreTypedMutations}
 use Rattle.span_mutate.specs.Checking.{checked_all, with_front}
@@ -47,3 +50,7 @@ returns-clause-checked c =
     let front = c.loop-row.done.items in
     let over : into_iter_items c.loop-row.row-iterator ≡ [] = nil_from_length _ (sym c.loop-row.invariant.count ∙ c.in-None.ensures.steps.0) in
     sym c.loop-row.invariant.so_far ∙ ap (λ (l : List BatchRow). with_front front (checked_all tables (row_mutations heading l))) over ∙ ap Ok (append-nil front)
+
+pub check_row-requires-clause-named : goal.check_row-requires-clause-named
+check_row-requires-clause-named c =
+    subst (λ (o : Option NamedColumns). IfSome o (IsNamed c.args.schema.now c.args.heading.now)) (sym c.as_ref-named.ensures.value) c.unbound_columns-columns.ensures

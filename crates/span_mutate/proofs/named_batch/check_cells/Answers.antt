@@ -1,6 +1,6 @@
 use Rattle.std.proofs.Common.{sym, ◌∙◌, arith, drop, length-drop}
 use Rattle.span_mutate.proofs.Batched.{row_end}
-use Rattle.span_mutate.proofs.batch_check.check_cells.Goals as goal
+use Rattle.span_mutate.proofs.named_batch.check_cells.Goals as goal
 
 pub returns : goal.returns
 returns c =
