@@ -471,7 +471,10 @@ impl<
 
     /// `neg`
     #[tactic(auto, unfolding(crate::specs::Expressions::negated_predicate))]
-    fn negated_predicate<'a>(&self, tokens: &'a [Lexeme]) -> Result<(Expr, &'a [Lexeme]), SyntaxError>
+    fn negated_predicate<'a>(
+        &self,
+        tokens: &'a [Lexeme],
+    ) -> Result<(Expr, &'a [Lexeme]), SyntaxError>
         requires nests { Nests F.Fn self.now }
         ensures { Reads self.now spec.negated_predicate tokens.now result }
     {
