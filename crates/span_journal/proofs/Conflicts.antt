@@ -2,7 +2,8 @@
 use Rattle.std.proofs.Common.{◌≡◌, ℕ, Bool, true, false, cond, ◌&&◌, ◌||◌, ◌==◌, List, [], ◌∷◌, length, take, refl, sym, ap, subst, ◌∙◌, arith}
 use Rattle.std.specs.List.{list_any}
 use Rattle.std.specs.Ordering.{is_eq}
-use Rattle.std.specs.Cmp.{tied_itself}
+use Rattle.std.specs.Cmp.{both_ways, tied_itself}
+use Rattle.std.proofs.Math.Bool.{and-false}
 use Rattle.std.proofs.lemmas.Bool.{and_from, and_parts}
 use Rattle.std.proofs.lemmas.Cmp.{nat_list_cmp_total}
 use Rattle.std.proofs.lemmas.List.{length-take-le}
@@ -29,11 +30,6 @@ same_bytes a b e = exact_bytes a b (equal_from (byte_order a b) e)
 
 bytes_same : (a b : List ℕ) → a ≡ b → is_same a b ≡ true
 bytes_same a b e = ap (λ (c : List ℕ). is_same a c) (sym e) ∙ ap is_eq (tied_itself nat_list_cmp_total a)
-
-same_truth : (a b : Bool) → (a ≡ true → b ≡ true) → (b ≡ true → a ≡ true) → a ≡ b
-same_truth true b f g = sym (f refl)
-same_truth false true f g = g refl
-same_truth false false f g = refl
 
 -- what is in front is what is taken
 front_taken : (us vs : List Value) → begins us vs ≡ true → us ≡ take (length us) vs
@@ -68,7 +64,7 @@ module _ (schema : List Table) (rules : MeetsRules schema) (m n : CheckedMutatio
       bytes_same _ _ code
 
   one_directory : is_same (root_code schema (root_at schema m)) (root_code schema (root_at schema n)) ≡ is_at schema (root_at schema m) n
-  one_directory = same_truth _ _ there back
+  one_directory = both_ways _ _ there back
 
 -- ---- the coded keys of directories
 
@@ -105,10 +101,7 @@ added schema rules slot_state m key old new is held updated n coded =
 module _ {A : Type 0} (h : A → Bool) where
   never : (xs : List A) → list_any (λ x. h x && false) xs ≡ false
   never [] = refl
-  never (x ∷ xs) = elim (h x) as (λ b. ((b && false) || list_any (λ y. h y && false) xs) ≡ false) [
-    | true ↦ never xs
-    | false ↦ never xs
-  ]
+  never (x ∷ xs) = ap (λ b. b || list_any (λ y. h y && false) xs) (and-false (h x)) ∙ never xs
 
   either : (f g : A → Bool) → (xs : List A) → (list_any (λ x. h x && f x) xs || list_any (λ x. h x && g x) xs) ≡ list_any (λ x. h x && (f x || g x)) xs
   either f g [] = refl
