@@ -16,8 +16,8 @@ edits of a crate are refused, its line in tests/edits/README.md gets the date an
 
 Edits that change the bodies of different functions are tried together, by a check of these functions alone: a function is proved by the
 contracts of those that it calls, so that the body of one is nothing to another. An edit of a private constant counts as one of the first
-function that names it. With --gate a hole stands in place of the proof of every other function of the crate, so that the check takes their
-contracts as they stand. An edit is refused where its function has no proof, for a goal in its own lines or in a file of its own proof. Where
+function that names it. With --gate a hole is in place of the proof of every other function of the crate, so that the check takes their
+contracts as they are. An edit is refused where its function has no proof, for a goal in its own lines or in a file of its own proof. Where
 that shows nothing of an edit it is tried by itself, on the whole crate at last. N checks run at a time, as many as there are processors where
 no number is given.
 
@@ -53,7 +53,7 @@ TYPE = re.compile(r"^(?:impl(?:<[^{\n]*?>)?|>) (?:\S+ for )?(\w+)", re.M)
 CONSTANT = re.compile(r"const (\w+): ")
 DECLARED = re.compile(r"^(?:pub(?:\([a-z]+\))? )?(?:struct|enum|union) (\w+)", re.M)
 CYCLE = re.compile(r"^ *#\[cycle\((\w+)\)\]", re.M)
-# A proof that is left out: what the function's statement says is taken as it stands.
+# A proof that is left out: what the function's statement says is taken as it is.
 HOLE = "use {module}.{{statement}}\n\npub {name}_spec : {{M : Type 1}} → statement M\n{name}_spec = ?\n"
 # A proof that no longer fits since it names what is gone.
 NAMES_GONE = re.compile(r"has no field|is not in scope|has no `|was not admitted")
@@ -238,7 +238,7 @@ def module_of(path):
 
 
 def modules_of_types(crate):
-    """The module in which each type of the crate is declared: the proofs of its methods are there, in whatever file they stand."""
+    """The module in which each type of the crate is declared: the proofs of its methods are there, in whatever file they are."""
     found = {}
     for path in files_below(crate.folder, "src"):
         found.update((name, module_of(path)) for name in DECLARED.findall(read(os.path.join(crate.folder, path))))
@@ -306,7 +306,7 @@ class Batch:
 
     @staticmethod
     def function_of(text, old):
-        """The function in whose body a text stands, or the first that names the private constant that it declares; None where there is none."""
+        """The function in whose body a text is, or the first that names the private constant that it declares; None where there is none."""
         at = text.find(old)
         constant = CONSTANT.match(old)
         if constant:
@@ -466,7 +466,7 @@ def unproved(rt, crates, jobs):
 
 
 def is_out_of_date(crate):
-    """Whether the library that stands is one of other files of the crate, as after `rt ci` in a clone in which something was built before:
+    """Whether the library that is there is one of other files of the crate, as after `rt ci` in a clone in which something was built before:
     then it may have other contracts. (`rt ci` writes no stamp beside those that it builds.)"""
     stamp = os.path.join(crate.folder, "out", "rlib", "stamp")
     return os.path.exists(stamp) and read(stamp).strip() != crate.stamp()

@@ -5,7 +5,7 @@ ways at once in which the grammar can go on: each way is the row of what is stil
 left but one past the 32nd opening is 4 there, and the end is 3 where no way is done. Nothing in it follows the parsers, which read
 with one token ahead and one function a rule.
 
-    recogniser.py statement | schema  judges standard input: the number, 0 where it is taken, and the byte where it stands
+    recogniser.py statement | schema  judges standard input: the number, 0 where it is taken, and the byte where it is
 
 tests/span_text_tests compares the program with it.
 """
@@ -35,7 +35,7 @@ def grammar_of(page):
 
 
 def choice(words):
-    """What stands up to a closing bracket or the end, which is taken off the words: alternatives, each a row of parts."""
+    """What there is up to a closing bracket or the end, which is taken off the words: alternatives, each a row of parts."""
     rows, row = [], []
     while words:
         word = words.pop(0)
@@ -87,7 +87,7 @@ TOKEN = re.compile("|".join([
 
 
 class Refused(Exception):
-    """A number and the byte where it stands."""
+    """A number and the byte where it is."""
 
 
 def is_bad(kind, spelling):
@@ -117,7 +117,7 @@ def tokens(text):
 # The grammar. A way is a row of what is still to come, each part with the number of openings around it: (depth, part, the rest).
 
 def leading(ways):
-    """The ways with a token in front, and the one that is done, of all that these ways can stand for."""
+    """The ways with a token in front, and the one that is done, of all that these ways can be."""
     found, left = set(), list(ways)
     while left:
         way = left.pop()
@@ -211,7 +211,7 @@ def table_fault(table, before):
 
 
 def judge(goal, text):
-    """The number that a text is answered, 0 where it is taken, and the byte where that stands, 0 where it stands nowhere."""
+    """The number that a text is answered, 0 where it is taken, and the byte where that is, 0 where it is nowhere."""
     try:
         found = recognise(goal, text)
     except Refused as why:

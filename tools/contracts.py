@@ -34,7 +34,7 @@ def sources(commit):
 
 
 def head_of(text, start):
-    """The signature and the clauses of the function that begins there: up to the brace of its body, which stands alone in its line where there
+    """The signature and the clauses of the function that begins there: up to the brace of its body, which is alone in its line where there
     are clauses, and ends the line of the signature where there are none."""
     lines = []
     for line in text[start:].split("\n"):

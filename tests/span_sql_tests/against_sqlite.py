@@ -60,7 +60,7 @@ def translated(text, params):
 
 
 def operands_after(found, at, params):
-    """The operands between the parenthesis here and its end, spelt for SQLite, and where that end stands."""
+    """The operands between the parenthesis here and its end, spelt for SQLite, and where that end is."""
     depth, start, operands = 0, at + 1, []
     while True:
         spelling = found[at][1] if found[at][0] == "sign" else ""
