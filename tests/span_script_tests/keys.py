@@ -7,8 +7,9 @@ import subprocess
 import sys
 import tempfile
 
-import computed
+# computed.py puts another folder first in the path, which has a run.py too
 import run
+import computed
 
 COUNTS = {"rising": 10_000, "falling": 10_000, "mixed": 100_000}
 
