@@ -26,13 +26,13 @@ use Rattle.span_journal.specs.contracts.commit.KeptCommit as KeptCommit
 use Rattle.span_journal.specs.contracts.query.KeptQuery as KeptQuery
 use Rattle.span_journal.specs.contracts.journal.Journal as Journal
 use Rattle.atomic_table.proofs.badge.Badge.TheSendSync as of_badge
-use Rattle.span_session.specs.declared.board.Naming.{Ghosts}
-use Rattle.span_session.specs.contracts.journal.LockedJournal as LockedJournal
-use Rattle.span_session.specs.contracts.session.Session as Session
+use Rattle.span_locks.specs.declared.board.Naming.{Ghosts}
+use Rattle.span_locks.specs.contracts.journal.LockedJournal as LockedJournal
+use Rattle.span_locks.specs.contracts.session.Session as Session
 use Rattle.span_session.specs.contracts.db.Db as Db
-use Rattle.span_session.proofs.board.Board.TheSendSync as of_board
-use Rattle.span_session.proofs.slot.LockedSlot.TheSendSync as of_locked_slot
-use Rattle.span_session.proofs.session.Session.TheSendSync as of_session
+use Rattle.span_locks.proofs.board.Board.TheSendSync as of_board
+use Rattle.span_locks.proofs.slot.LockedSlot.TheSendSync as of_locked_slot
+use Rattle.span_locks.proofs.session.Session.TheSendSync as of_session
 
 -- ---- expressions and queries
 

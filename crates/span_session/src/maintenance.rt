@@ -9,12 +9,12 @@ ghost use Rattle.span_machine.specs.Limits.{most_slots};
 ghost use Rattle.span_machine.specs.Machine.{split_at, trim, advance};
 ghost use Rattle.span_machine.specs.declared.step.Reply.TheVariants as reply_of;
 ghost use Rattle.span_parts.specs.Replies.{as_reply};
-ghost use Rattle.span_session.specs.Replies.{RepliesOnce, MayReplyOnce, RepliesAt, IsAmong, IsErrAmong, split_refusals, trim_refusals};
+ghost use Rattle.span_locks.specs.Replies.{RepliesOnce, MayReplyOnce, RepliesAt, IsAmong, IsErrAmong, split_refusals, trim_refusals};
 
-use crate::board::Naming;
 use crate::db::Db;
-use crate::session::Session;
 use span_keycode::key::Key;
+use span_locks::board::Naming;
+use span_locks::session::Session;
 use span_mutate::root_key::root_key;
 use span_truetime::clock::Clock;
 use span_value::refusal::Refusal;
@@ -45,7 +45,7 @@ impl<J: Naming> Db<J> {
     }
 
     /// Cuts a slot at a coded root key. Where others cut slots meanwhile, it looks once more which slot has the key.
-    #[tactic(auto, using(crate::proofs::Replying::cut_number))]
+    #[tactic(auto, using(span_locks::proofs::Replying::cut_number))]
     fn split_at<R: Wait>(&self, rt: &R, key: &Key) -> Result<usize, Refusal>
         requires coded { (name : List ℕ) × (values : List Value) × AreValues values × (root_key J.schema name values ≡ Some key.now) }
         ensures reply { MayReplyOnce J.schema (λ m. split_at m key.now) (as_reply reply_of.Split result) }
@@ -77,7 +77,7 @@ impl<J: Naming> Db<J> {
         slot.split(&self.board, &mut next, &mut journal, key)
     }
 
-    #[tactic(auto, using(crate::proofs::Replying::places_within))]
+    #[tactic(auto, using(span_locks::proofs::Replying::places_within))]
     fn place_of_split<R: Wait>(&self, rt: &R, key: &Key) -> Result<(usize, usize), Refusal>
         ensures places { IfOk result (λ r. (r.0 < most_slots) × (r.1 < most_slots)) }
         ensures refused { IfErr result

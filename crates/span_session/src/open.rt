@@ -1,31 +1,23 @@
 //! How a database begins. A result's type can't depend on which table a call has made, so there are two phases: first the table, then
 //! the database and its sessions under a name of that table.
 ghost use Rattle.std.specs.Prelude.{◌≡◌, ◌++◌, ◌∷◌, [], IfOk, length};
-ghost use Rattle.span_machine.specs.Limits.{most_slots};
-ghost use Rattle.span_session.specs.declared.open.TheConstants.{SLOTS};
-ghost use Rattle.span_session.specs.Rule.{newcomers, nothing_known, holders, clients};
-ghost use Rattle.span_session.specs.declared.board.Role.TheVariants.{Keeper};
+ghost use Rattle.span_locks.specs.declared.places.TheConstants.{SLOTS};
+ghost use Rattle.span_locks.specs.Rule.{newcomers, nothing_known, holders, clients};
+ghost use Rattle.span_locks.specs.declared.board.Role.TheVariants.{Keeper};
 
-use crate::board::{Board, Change, Law, Meet, Naming, Place, View};
 use crate::db::Db;
-use crate::journal::LockedJournal;
-use crate::session::Session;
-use crate::slot::LockedSlot;
 use atomic_table::{Badge, Table};
 use span_journal::journal::Journal;
+use span_locks::board::{Board, Change, Law, Meet, Naming, Place, View};
+use span_locks::journal::LockedJournal;
+use span_locks::places::SLOTS;
+use span_locks::session::Session;
+use span_locks::slot::LockedSlot;
 use span_schema::schema::Schema;
 use span_shard::shard::Shard;
 use std::alloc::{AllocError, Global};
 use std::marker::{Model, PhantomData};
 use std::sync::Mutex;
-
-/// How many slots there may be.
-pub const SLOTS: usize = 16;
-
-/// The limit is the one that the machine's definition names.
-pub fn limit_is_stated()
-    ensures { SLOTS ≡ most_slots }
-{}
 
 /// An empty database that has no name yet: its table, whose one seat has every role.
 #[derive(Drop)]
@@ -40,7 +32,7 @@ pub struct Opened {
 impl Model for Opened {
     ghost use Rattle.std.specs.Prelude.{◌≡◌, []};
     ghost use Rattle.atomic_table.specs.Seated.{table_id_coded};
-    ghost use Rattle.span_session.specs.Rule.{Named, opening_roles};
+    ghost use Rattle.span_locks.specs.Rule.{Named, opening_roles};
 
     ghost Value = { Named };
 
@@ -111,11 +103,7 @@ fn journal_of<J: Naming>(
 {
     board.schema.meets_rules();
     match Journal::new(board.alloc) {
-        Ok(journal) => Ok(LockedJournal {
-            journal,
-            badge,
-            of: PhantomData,
-        }),
+        Ok(journal) => Ok(LockedJournal::new(journal, badge)),
         Err(why) => Err(why),
     }
 }
@@ -137,12 +125,8 @@ fn slots_of<J: Naming>(
     let mut slots = Vec::new(board.alloc);
     for number in 0..SLOTS {
         let seat = board.table.shared.split_seat::<Meet>(&mut first);
-        slots.push(Mutex::new(LockedSlot {
-            number,
-            shard: Shard::new(board.alloc),
-            seat,
-            of: PhantomData,
-        }))?;
+        let shard = Shard::new(board.alloc);
+        slots.push(Mutex::new(LockedSlot::new(number, shard, seat)))?;
     }
     Ok((slots, first))
 }
@@ -161,12 +145,7 @@ fn sessions_of<J: Naming>(
     let mut sessions = Vec::new(board.alloc);
     for owner in 0..count {
         let seat = board.table.shared.split_seat::<Meet>(&mut first);
-        sessions.push(Session {
-            owner,
-            seat,
-            begun: Vec::new(board.alloc),
-            of: PhantomData,
-        })?;
+        sessions.push(Session::new(board.alloc, owner, seat))?;
     }
     Ok(sessions)
 }

@@ -1,23 +1,19 @@
 //! A query as a session asks it: its text is understood, planned and compared while no lock is held.
-ghost use Rattle.std.specs.Prelude.{◌≡◌, ◌⊎◌, ◌∷◌, [], true, IfOk, IfErr, MatchResult, Ok, Err, Some, find, slice_get};
+ghost use Rattle.std.specs.Prelude.{◌≡◌, ◌⊎◌, ◌∷◌, [], true, IfOk, IfErr, Ok, Err, Some, slice_get};
 ghost use Rattle.std.specs.Option.{option_copied};
 ghost use Rattle.span_gather.specs.Gathered.{gathered};
-ghost use Rattle.span_machine.specs.Machine.{is_query, statement_plan};
-ghost use Rattle.span_machine.specs.Pieces.{machine_of};
-ghost use Rattle.span_machine.specs.declared.query.OpenQuery.{OpenQuery};
+ghost use Rattle.span_machine.specs.Machine.{statement_plan};
 ghost use Rattle.span_planner.specs.Plannable.{IsPlannable};
 ghost use Rattle.span_binder.specs.Understands.{Understands};
-ghost use Rattle.span_session.specs.Answers.{IsPlanOf};
-ghost use Rattle.span_session.specs.Refusing.{IsFaultOf};
-ghost use Rattle.span_session.specs.Replies.{IsAmong};
+ghost use Rattle.span_locks.specs.Answers.{IsPlanOf};
+ghost use Rattle.span_locks.specs.Refusing.{IsFaultOf};
+ghost use Rattle.span_locks.specs.Replies.{IsAmong};
 
-use crate::same::are_same;
 use span_binder::understand::understand;
 use span_gather::finish::finish as finish_pieces;
 use span_gather::rows::Rows;
-use span_journal::journal::Journal;
 use span_journal::taken::Taken;
-use span_machine::query::OpenQuery;
+use span_locks::same::are_same;
 use span_params::params::Params;
 use span_planner::leaf::{Leaf, Plan};
 use span_planner::plan::plan;
@@ -81,27 +77,6 @@ pub(crate) fn copy_question(
     let text = Text::from_str(alloc, text)?;
     let params = params.copy(alloc)?;
     Ok((text, params))
-}
-
-/// Whether the journal has this query open with this text and these parameters.
-pub(crate) fn is_asked(journal: &Journal, query: u64, text: &str, params: &Params) -> bool
-    ensures { result ≡ true
-        → (q : OpenQuery)
-        × (find (is_query query) (machine_of journal.now).queries ≡ Some q)
-        × (q.text ≡ text.now)
-        × (q.params ≡ params.now) }
-{
-    match journal.query(query) {
-        Some(question) => is_question(question, text, params),
-        None => false,
-    }
-}
-
-/// Whether the open query was asked with this text and these parameters.
-fn is_question(question: &OpenQuery, text: &str, params: &Params) -> bool
-    ensures { result ≡ true → (question.now.text ≡ text.now) × (question.now.params ≡ params.now) }
-{
-    question.text.as_str() == text && are_same(question.params.as_slice(), params.as_slice())
 }
 
 /// Whether what was taken was asked with this text and these parameters, at this timestamp.

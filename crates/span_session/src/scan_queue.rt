@@ -1,8 +1,8 @@
 //! The queue of one query's scans, which its workers share under a lock. It is taken after a slot's lock and before the journal's.
 ghost use Rattle.std.specs.Prelude.{◌≡◌, ◌≢◌, ◌⊎◌, ◌+◌, ◌≤◌, ◌<◌, true, false, Some, None, IfSome, IfErr, MatchOption, MatchResult};
-ghost use Rattle.span_session.specs.Refusing.{IsUnscanned};
+ghost use Rattle.span_locks.specs.Refusing.{IsUnscanned};
 
-use crate::board::Naming;
+use span_locks::board::Naming;
 use span_value::refusal::Refusal;
 use std::marker::{Model, PhantomData};
 
@@ -24,7 +24,7 @@ pub(crate) struct ScanQueue<J: Naming> {
 
 impl<J: Naming> Model for ScanQueue<J> {
     ghost use Rattle.std.specs.Prelude.{IfSome};
-    ghost use Rattle.span_session.specs.Refusing.{IsUnscanned, Scans};
+    ghost use Rattle.span_locks.specs.Refusing.{IsUnscanned, Scans};
 
     ghost Value = { Scans };
 

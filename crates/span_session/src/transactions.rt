@@ -6,12 +6,12 @@ ghost use Rattle.span_machine.specs.Limits.{most_slots};
 ghost use Rattle.span_machine.specs.Machine.{prepare, apply_step};
 ghost use Rattle.span_machine.specs.declared.step.Reply.TheVariants as reply_of;
 ghost use Rattle.span_parts.specs.Replies.{as_reply};
-ghost use Rattle.span_session.specs.Replies.{RepliesAt, MayReplyAt, IsAmong, IsPrepareRefusal, apply_refusals};
-ghost use Rattle.span_session.specs.Rule.{Decides, Forgets, IsBegunAt};
+ghost use Rattle.span_locks.specs.Replies.{RepliesAt, MayReplyAt, IsAmong, IsPrepareRefusal, apply_refusals};
+ghost use Rattle.span_locks.specs.Rule.{Decides, Forgets, IsBegunAt};
 
-use crate::board::Naming;
 use crate::db::Db;
-use crate::session::Session;
+use span_locks::board::Naming;
+use span_locks::session::Session;
 use span_machine::step::Verdict;
 use span_mutate::transaction::Transaction;
 use span_truetime::clock::Clock;

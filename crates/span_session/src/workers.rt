@@ -1,16 +1,16 @@
 //! Workers: they scan the leaves of one query, each part under the lock of its own slot. One worker is the thread that asks.
 ghost use Rattle.std.specs.Prelude.{◌≡◌, ◌<◌, IfErr};
-ghost use Rattle.span_session.specs.Answers.{IsPlanOf, IsLeafOf};
-ghost use Rattle.span_session.specs.Refusing.{IsUnscanned};
+ghost use Rattle.span_locks.specs.Answers.{IsPlanOf, IsLeafOf};
+ghost use Rattle.span_locks.specs.Refusing.{IsUnscanned};
 
-use crate::board::Naming;
 use crate::db::Db;
-use crate::open::SLOTS;
 use crate::queries::Gate;
 use crate::question::leaf_at;
 use crate::scan_queue::ScanQueue;
 use span_fragment::run::leaf_grouping;
 use span_journal::journal::Gap;
+use span_locks::board::Naming;
+use span_locks::places::SLOTS;
 use span_params::params::Params;
 use span_planner::leaf::{Leaf, Plan};
 use span_query::query::Grouping;

@@ -4,15 +4,15 @@ ghost use Rattle.span_mutate.specs.Typed.{AreTypedMutations};
 
 use crate::clock::{OpenGate, SharedClock};
 use span_gather::rows::Rows;
+use span_locks::board::Naming;
+use span_locks::session::Session;
 use span_mutate::mutation::{Mutation, MutationKind};
 use span_mutate::transaction::Transaction;
 use span_params::params::Params;
 use span_schema::schema::Schema;
 use span_schematext::text::parse_schema;
-use span_session::board::Naming;
 use span_session::db::Db;
 use span_session::open::Opened;
-use span_session::session::Session;
 use span_truetime::bound::Bound;
 use span_value::owned::give_after;
 use span_value::refusal::Refusal;

@@ -1,4 +1,4 @@
-use Rattle.span_session.proofs.Replying.{read_floor, advance_refusal_is}
+use Rattle.span_locks.proofs.Replying.{read_floor, advance_refusal_is}
 use Rattle.span_session.proofs.db.Db.advance.Goals as goal
 
 pub returns-clause-floor : goal.returns-clause-floor

@@ -2,8 +2,8 @@ use Rattle.std.proofs.Common.{ℕ, subst}
 use Rattle.span_machine.specs.Machine.{apply_step}
 use Rattle.span_machine.specs.declared.step.Reply.TheVariants as reply
 use Rattle.span_parts.specs.Replies.{as_reply}
-use Rattle.span_session.specs.Replies.{RepliesAt}
-use Rattle.span_session.proofs.Replying.{apply_refusal_is}
+use Rattle.span_locks.specs.Replies.{RepliesAt}
+use Rattle.span_locks.proofs.Replying.{apply_refusal_is}
 use Rattle.span_session.proofs.db.Db.apply.Goals as goal
 
 pub returns-clause-reply : goal.returns-clause-reply

@@ -1,5 +1,5 @@
 use Rattle.std.proofs.lemmas.Option.{slice_get_within}
-use Rattle.span_session.proofs.Stories.{decides_begun}
+use Rattle.span_locks.proofs.Stories.{decides_begun}
 use Rattle.span_session.proofs.db.Db.commit_begun.Goals as goal
 
 pub publish_begun-requires : goal.publish_begun-requires

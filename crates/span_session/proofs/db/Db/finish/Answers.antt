@@ -2,10 +2,10 @@ use Rattle.std.proofs.Common.{Result, sym, subst}
 use Rattle.std.specs.Prelude.{IfOk, IfErr}
 use Rattle.span_value.specs.declared.refusal.Refusal.{Refusal}
 use Rattle.span_gather.specs.declared.rows.Rows.{Rows}
-use Rattle.span_session.specs.Answers.{IsAnswered}
-use Rattle.span_session.specs.Refusing.{IsUnfinished}
-use Rattle.span_session.proofs.Held.{rows_answer}
-use Rattle.span_session.proofs.Refusing.{result_unfinished}
+use Rattle.span_locks.specs.Answers.{IsAnswered}
+use Rattle.span_locks.specs.Refusing.{IsUnfinished}
+use Rattle.span_locks.proofs.Held.{rows_answer}
+use Rattle.span_locks.proofs.Refusing.{result_unfinished}
 use Rattle.span_session.proofs.db.Db.finish.Goals as goal
 
 pub returns-in-Ok-clause-rows : goal.returns-in-Ok-clause-rows

@@ -1,8 +1,8 @@
 use Rattle.std.proofs.Common.{ℕ, subst}
 use Rattle.span_machine.specs.Machine.{prepare}
 use Rattle.span_machine.specs.declared.step.Reply.TheVariants as reply
-use Rattle.span_session.specs.Replies.{MayReplyAt}
-use Rattle.span_session.proofs.Replying.{prepare_why_is}
+use Rattle.span_locks.specs.Replies.{MayReplyAt}
+use Rattle.span_locks.proofs.Replying.{prepare_why_is}
 use Rattle.span_session.proofs.db.Db.prepare.Goals as goal
 
 pub returns-in-Err-clause-reply : goal.returns-in-Err-clause-reply

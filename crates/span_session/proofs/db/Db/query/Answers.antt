@@ -1,6 +1,6 @@
 use Rattle.std.proofs.Common.{refl, inl}
-use Rattle.span_session.proofs.Owners.{prefix_self}
-use Rattle.span_session.proofs.Refusing.{ended_refused}
+use Rattle.span_locks.proofs.Owners.{prefix_self}
+use Rattle.span_locks.proofs.Refusing.{ended_refused}
 use Rattle.span_session.proofs.db.Db.query.Goals as goal
 
 pub returns-in-Err-clause-seen : goal.returns-in-Err-clause-seen

@@ -1,5 +1,5 @@
 use Rattle.std.proofs.Common.{sym}
-use Rattle.span_session.proofs.Held.{plan_leaf}
+use Rattle.span_locks.proofs.Held.{plan_leaf}
 use Rattle.span_session.proofs.db.Db.scan_place.Goals as goal
 
 pub scan_slot-requires : goal.scan_slot-requires

@@ -4,8 +4,8 @@ use Rattle.span_value.specs.declared.refusal.Refusal.TheVariants.{BadSplit, OutO
 use Rattle.span_schema.specs.declared.table.Table.{Table}
 use Rattle.span_machine.specs.Machine.{split_at}
 use Rattle.span_machine.specs.declared.step.Reply.TheVariants.{Refused}
-use Rattle.span_session.specs.Replies.{IsAmong, MayReplyOnce}
-use Rattle.span_session.proofs.Replying.{key_replies, key_refused, no_key_refusal}
+use Rattle.span_locks.specs.Replies.{IsAmong, MayReplyOnce}
+use Rattle.span_locks.proofs.Replying.{key_replies, key_refused, no_key_refusal}
 use Rattle.span_mutate.specs.RootKeys.{root_key}
 use Rattle.span_session.proofs.db.Db.split.Goals as goal
 

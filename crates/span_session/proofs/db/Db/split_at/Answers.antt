@@ -1,4 +1,4 @@
-use Rattle.span_session.proofs.Replying.{cut_refusal}
+use Rattle.span_locks.proofs.Replying.{cut_refusal}
 use Rattle.span_session.proofs.db.Db.split_at.Goals as goal
 
 pub returns-in-Err-clause-refused : goal.returns-in-Err-clause-refused

@@ -1,0 +1,9 @@
+pub mod Owners
+pub mod Steps
+pub mod Meets
+pub mod Stories
+pub mod Opening
+pub mod Held
+pub mod Refusals
+pub mod Replying
+pub mod Refusing

@@ -1,0 +1,74 @@
+use Rattle.std.proofs.Common.{◌≡◌, List, Option, sym, ap, ◌∙◌, subst}
+use Rattle.std.specs.Prelude.{IfSome}
+use Rattle.span_schema.specs.declared.table.Table.{Table}
+use Rattle.span_planner.specs.declared.leaf.Leaf.{Leaf}
+use Rattle.span_parts.specs.Whole.{IsRead}
+use Rattle.span_machine.specs.declared.step.Step.TheVariants as step
+use Rattle.span_machine.specs.Pieces.{machine_of}
+use Rattle.span_machine.specs.declared.step.Reply.TheVariants as reply
+use Rattle.span_parts.proofs.Passing.{passed_register}
+use Rattle.span_parts.proofs.Wholes.{no_text}
+use Rattle.span_locks.specs.Held.{IsUnderstoodAs}
+use Rattle.span_locks.specs.Known.{kept}
+use Rattle.span_locks.specs.Rule.{SlotVersions, number_of, versions_of, known_at}
+use Rattle.span_locks.proofs.Held.{slot_belongs, own_leaf, keeper_stays}
+use Rattle.span_locks.proofs.Meets.{holder_shape, keeper_shape}
+use Rattle.span_locks.proofs.Refusing.{scan_unscanned}
+use Rattle.span_locks.proofs.slot.LockedSlot.register.Goals as goal
+
+pub agree-requires-clause-tables : goal.agree-requires-clause-tables
+agree-requires-clause-tables g c = (c.self.invariant.0, ap (λ b. b.table_id) c.replace-keeper.ensures.value ∙ c.journal.invariant.at)
+
+pub agree-requires-clause-holder : goal.agree-requires-clause-holder
+agree-requires-clause-holder g c = holder_shape c.self.inside.seat.me c.self.inside.number c.self.inside.shard c.self.invariant.1
+
+pub agree-requires-clause-keeper : goal.agree-requires-clause-keeper
+agree-requires-clause-keeper g c = keeper_shape c.journal.inside.badge.views _ (ap (λ b. b.views) c.replace-keeper.ensures.value) c.journal.invariant.knows
+
+pub register-requires-clause-belongs : goal.register-requires-clause-belongs
+register-requires-clause-belongs g c =
+    let me = c.self.inside in
+    let j = c.journal.inside in
+    let schema = g.J.Naming.schema in
+    let board = c.args.board.now in
+    let views = ap (λ b. b.views) c.replace-keeper.ensures.value in
+    let number = ap (λ k. number_of k.0) c.self.invariant.1 in
+    let is : me.shard ≡ kept (known_at j.badge.views) me.number =
+    sym (ap (λ k. versions_of k.0) c.self.invariant.1) ∙ c.agree.ensures.known.0 ∙ ap (λ v. kept (known_at v) (number_of me.seat.me.0)) views ∙ ap (kept (known_at j.badge.views)) number in
+    let within = c.is_used.ensures.used c.if-not-is_used.false in
+    slot_belongs schema board.schema g.J.Naming.table j.badge.table_id j.badge.views j.journal board.schema_is c.journal.invariant me.number me.shard within is
+
+pub register-requires-clause-read : goal.register-requires-clause-read
+register-requires-clause-read g c =
+    let j = c.journal.inside in
+    let schema = g.J.Naming.schema in
+    let board = c.args.board.now in
+    let me = c.self.inside in
+    let asked = c.is_asked.ensures c.if-not-is_asked.false in
+    let leaf = own_leaf schema board.schema g.J.Naming.table j.badge.table_id j.badge.views j.journal board.schema_is c.journal.invariant c.args.text.now c.args.params.now c.args.query c.args.place c.args.leaf.now asked c.requires.leaf (c.understanding_is_unique.ensures schema) in
+    subst (λ (o : Option Leaf). IfSome o (IsRead board.schema me.shard c.args.gap.now.range c.args.gap.now.s c.args.piece)) (sym leaf)
+    (subst (λ (s : List Table). IsRead s me.shard c.args.gap.now.range c.args.gap.now.s c.args.piece c.args.leaf.now) (sym board.schema_is)
+    (subst (λ (k : SlotVersions). IsRead schema k.versions c.args.gap.now.range c.args.gap.now.s c.args.piece c.args.leaf.now) (sym c.self.view_is) c.requires.read))
+
+pub invariant_of-journal : goal.invariant_of-journal
+invariant_of-journal g c =
+    let me = c.self.inside in
+    let j = c.journal.inside in
+    let schema = g.J.Naming.schema in
+    let board = c.args.board.now in
+    let views = ap (λ b. b.views) c.replace-keeper.ensures.value in
+    let number = ap (λ k. number_of k.0) c.self.invariant.1 in
+    let is : me.shard ≡ kept (known_at j.badge.views) me.number =
+    sym (ap (λ k. versions_of k.0) c.self.invariant.1) ∙ c.agree.ensures.known.0 ∙ ap (λ v. kept (known_at v) (number_of me.seat.me.0)) views ∙ ap (kept (known_at j.badge.views)) number in
+    let within = c.is_used.ensures.used c.if-not-is_used.false in
+    keeper_stays schema board.schema g.J.Naming.table j.badge.table_id j.badge.views j.journal board.schema_is c.journal.invariant me.number me.shard within is _ _ c.register.new.journal c.agree.ensures.tables.1 (c.agree.ensures.keeper ∙ views)
+    (passed_register (IsUnderstoodAs schema) board.schema (machine_of j.journal) c.journal.invariant.asked c.register.result no_text (step.Scan c.args.query c.args.place me.number c.args.interval) tt reply.Scanned (machine_of c.register.new.journal) c.register.ensures.scanned c.register.ensures.same c.register.ensures.refused)
+    c.register.ensures.whole
+
+pub returns-clause-refused : goal.returns-clause-refused
+returns-clause-refused g c =
+    let schema = g.J.Naming.schema in
+    let me = c.self.inside in
+    let j = c.journal.inside in
+    let board = c.args.board.now in
+    scan_unscanned schema board.schema g.J.Naming.table j.badge.table_id j.badge.views j.journal board.schema_is c.journal.invariant c.args.query c.args.place me.number c.args.interval c.register.result (machine_of c.register.new.journal) c.register.ensures.refused

@@ -1,0 +1,111 @@
+-- What a call answers that takes a step of the journal: the machine's reply to that step, on a machine that the journal may be when its
+-- lock is taken.
+use Rattle.std.specs.Prelude.{◌≡◌, ◌⊎◌, ◌≤◌, ◌<◌, ℕ, Bool, true, false, List, [], ◌∷◌, ◌++◌, find, slice_get, Option, Some, None, Result, Ok, Err}
+use Rattle.std.specs.List.{list_any}
+use Rattle.span_value.specs.declared.refusal.Refusal.{Refusal}
+use Rattle.span_value.specs.declared.refusal.Refusal.TheVariants.{OutOfMemory, UnknownTransaction, WrongState, Conflict, ShardFull, TooEarly, TimestampRange, BadSplit, SplitBusy, NoSlot, TrimTooNew, TrimBackward}
+use Rattle.span_schema.specs.declared.table.Table.{Table}
+use Rattle.span_schema.specs.Lineages.{MeetsRules}
+use Rattle.span_mutate.specs.Faults.{is_mutation_fault}
+use Rattle.span_machine.specs.declared.step.Reply.{Reply}
+use Rattle.span_machine.specs.declared.step.Reply.TheVariants.{Refused}
+use Rattle.span_machine.specs.Machine.{Machine, Answer, for_slot, if_some, is_transaction, holds, root_at}
+use Rattle.span_machine_laws.proofs.Reached.{IsReached}
+use Rattle.span_parts.specs.Whole.{Shards, AreAllKept}
+use Rattle.span_locks.specs.Known.{Known}
+
+-- ---- replies
+
+-- The machine goes with what the rule knows of the journal: a run reaches it, its log is the one that is known, and its slots, the first of
+-- those that are known, keep what these are to have.
+pub record IsMachineOf (schema : List Table) (known : Known) (m : Machine) : Type 0 where
+  pub rules : MeetsRules schema
+  pub reached : IsReached schema m
+  pub log : known.commits ≡ m.log
+  pub used : Shards
+  pub spare : Shards
+  pub slots : known.slots ≡ used ++ spare
+  pub kept : AreAllKept schema m used
+
+-- a machine that goes with what is known replies this to the step
+pub record Replies (schema : List Table) (known : Known) (step : Machine → Answer) (r : Reply) : Type 0 where
+  pub machine : Machine
+  pub goes : IsMachineOf schema known machine
+  pub is : r ≡ (step machine).0
+
+-- the same, or memory ran out
+abbrev pub MayReply : List Table → Known → (Machine → Answer) → Reply → Type 0
+MayReply schema known step r = (r ≡ Refused OutOfMemory) ⊎ Replies schema known step r
+
+-- the same of a call that takes the journal's lock: what is known then it doesn't say
+abbrev pub RepliesOnce : List Table → (Machine → Answer) → Reply → Type 0
+RepliesOnce schema step r = (known : Known) × Replies schema known step r
+
+abbrev pub MayReplyOnce : List Table → (Machine → Answer) → Reply → Type 0
+MayReplyOnce schema step r = (r ≡ Refused OutOfMemory) ⊎ RepliesOnce schema step r
+
+-- where the slot is not in use, that comes first
+abbrev pub at_slot : ℕ → (Machine → Answer) → Machine → Answer
+at_slot slot step m = for_slot m slot (λ _. step m)
+
+-- the same of a call that takes a slot's lock too: there may be no slot of the number
+abbrev pub RepliesAt : List Table → ℕ → (Machine → Answer) → Reply → Type 0
+RepliesAt schema slot step r = (r ≡ Refused NoSlot) ⊎ RepliesOnce schema (at_slot slot step) r
+
+abbrev pub MayReplyAt : List Table → ℕ → (Machine → Answer) → Reply → Type 0
+MayReplyAt schema slot step r = (r ≡ Refused OutOfMemory) ⊎ RepliesAt schema slot step r
+
+-- ---- refusals
+
+abbrev pub IsAmong : List Refusal → Refusal → Type 0
+IsAmong [] why = ⊥
+IsAmong (r ∷ rs) why = (why ≡ r) ⊎ IsAmong rs why
+
+-- the result is one of these refusals
+abbrev pub IsErrAmong : {A : Type 0} → List Refusal → Result A Refusal → Type 0
+IsErrAmong rs (Ok x) = ⊥
+IsErrAmong rs (Err why) = IsAmong rs why
+
+-- why a transaction is not prepared at a slot: one of these, or what its mutations are refused with
+abbrev pub prepare_refusals : List Refusal
+prepare_refusals =
+    NoSlot ∷ UnknownTransaction ∷ WrongState ∷ Conflict ∷ ShardFull ∷ TimestampRange ∷ OutOfMemory ∷ []
+
+abbrev pub IsPrepareRefusal : Refusal → Type 0
+IsPrepareRefusal why = IsAmong prepare_refusals why ⊎ (is_mutation_fault why ≡ true)
+
+-- why it is not applied there
+abbrev pub apply_refusals : List Refusal
+apply_refusals = NoSlot ∷ UnknownTransaction ∷ WrongState ∷ TooEarly ∷ []
+
+-- why it is not aborted
+abbrev pub abort_refusals : List Refusal
+abort_refusals = UnknownTransaction ∷ WrongState ∷ []
+
+-- why a slot is not cut
+abbrev pub split_refusals : List Refusal
+split_refusals = BadSplit ∷ SplitBusy ∷ NoSlot ∷ OutOfMemory ∷ []
+
+-- why it is not trimmed
+abbrev pub trim_refusals : List Refusal
+trim_refusals = NoSlot ∷ TrimBackward ∷ TrimTooNew ∷ []
+
+-- ---- where mutations lie
+
+-- mutations of the transaction lie in the slot
+abbrev pub has_mutations : List Table → Machine → ℕ → ℕ → ℕ → Bool
+has_mutations schema m owner txn slot =
+    if_some (find (is_transaction owner txn) m.transactions) false
+    (λ t. if_some (slice_get m.slots slot) false
+    (λ slot_state. list_any (λ mutation. holds schema slot_state (root_at schema mutation)) t.mutations))
+
+-- the lowest slot from one on where mutations of the transaction lie
+pub record IsNextSlot (schema : List Table) (m : Machine) (owner txn from slot : ℕ) : Type 0 where
+  pub above : from ≤ slot
+  pub there : has_mutations schema m owner txn slot ≡ true
+  pub lowest : (i : ℕ) → from ≤ i → i < slot → has_mutations schema m owner txn i ≡ false
+
+-- that slot, or none
+abbrev pub IsNext : List Table → Machine → ℕ → ℕ → ℕ → Option ℕ → Type 0
+IsNext schema m owner txn from None = (i : ℕ) → from ≤ i → has_mutations schema m owner txn i ≡ false
+IsNext schema m owner txn from (Some slot) = IsNextSlot schema m owner txn from slot
