@@ -86,8 +86,8 @@ use Rattle.span_syntax.specs.Expressions.{span_of, spelling_of, spelling, close_
     column_of, qualified_column, column, direction, chain_of, conjunction_of, disjunction_of, apply_test, term_sign, sum_sign, comparison,
     maybe_not, null_words, list_more, list, when, case_operand, case_else, case_end, case_arms, case_of, in_case, argument_list, Inner,
     parenthesis, arguments, members, case, negation, opposite, after_name, call_or_column, if_call, compound, word_literal, other_primary,
-    primary, unary, other_unary, signed, term_more, term, sum_more, sum, comparison_test, is_null, like, high_end, between, within,
-    negatable_test, maybe_not_test, predicate_rest, predicate, negated, conjunction_more, conjunction, expression_more, expression, after}
+    primary, unary, other_unary, signed_primary, term_more, term, sum_more, sum, comparison_test, is_null, like, high_end, between, within,
+    negatable_test, maybe_not_test, predicate_rest, predicate, negated_predicate, conjunction_more, conjunction, expression_more, expression, after}
 """ + GOOD
 
 
@@ -176,8 +176,8 @@ DEEP = """-- ---- expressions
 -- what is one opening deeper is read so, where there is one left
 pub record Deep (n : ℕ) (inner : Inner) : Type 0 where
   pub expression : (m : ℕ) → n ≡ suc m → Good m (rule_of part.Expression) inner.expression
-  pub negated : (m : ℕ) → n ≡ suc m → Good m (rule_of part.Negated) inner.negated
-  pub signed : (m : ℕ) → n ≡ suc m → Good m (rule_of part.Signed) inner.signed
+  pub negated_predicate : (m : ℕ) → n ≡ suc m → Good m (rule_of part.Negated) inner.negated_predicate
+  pub signed_primary : (m : ℕ) → n ≡ suc m → Good m (rule_of part.Signed) inner.signed_primary
 
 module _ (text : List ℕ) (n : ℕ) (inner : Inner) (deep : Deep n inner) where
 """
@@ -204,8 +204,8 @@ def openings(writer):
         ("arguments", "Arguments", opening(closing(inside("argument_list", " name"))), name),
         ("members", "Members", opening(closing(inside("list")))),
         ("case", "Case", opening(inside("in_case"))),
-        ("negation", "Negation", apply("e.Not", opening(deep("negated")))),
-        ("opposite", "Opposite", opening(deep("signed"))),
+        ("negation", "Negation", apply("e.Not", opening(deep("negated_predicate")))),
+        ("opposite", "Opposite", opening(deep("signed_primary"))),
         ("after_name", "AfterName",
          either(expr("arguments", "name"), apply("e.Column", proved("qualified_column text name", "qualified_name_good text n name"))), name),
         ("call_or_column", "Named", then(spelling(NAME), "name", expr("after_name", "name"))),
@@ -228,7 +228,7 @@ def primaries(writer):
         ("primary", "Primary", either(constant("e.Integer (integer_of false t)", "sort.Int"), expr("other_primary"))),
         ("unary", "Unary", either(expr("opposite"), expr("primary"))),
         ("other_unary", "OtherUnary", either(expr("opposite"), expr("other_primary"))),
-        ("signed", "Signed", either(constant("e.Integer (integer_of true t)", "sort.Int"), apply("e.Negative", expr("other_unary")))),
+        ("signed_primary", "Signed", either(constant("e.Integer (integer_of true t)", "sort.Int"), apply("e.Negative", expr("other_unary")))),
     ])
 
 
@@ -272,9 +272,9 @@ def predicates(writer):
 def junctions(writer):
     """NOT, AND and OR."""
     return writer.lemmas(EXPRESSION, [
-        ("negated", "Negated", either(expr("negation"), expr("predicate"))),
-        ("conjunction_more", "ConjunctionMore", after(token(word("And")), expr("negated"))),
-        ("conjunction", "Conjunction", chain("negated", "conjunction_of", "conjunction_more")),
+        ("negated_predicate", "Negated", either(expr("negation"), expr("predicate"))),
+        ("conjunction_more", "ConjunctionMore", after(token(word("And")), expr("negated_predicate"))),
+        ("conjunction", "Conjunction", chain("negated_predicate", "conjunction_of", "conjunction_more")),
         ("expression_more", "ExpressionMore", after(token(word("Or")), expr("conjunction"))),
         ("expression", "Expression", chain("conjunction", "disjunction_of", "expression_more")),
     ])
@@ -287,14 +287,14 @@ before n m h = omega (arith, h)
 
 pub deep : (text : List ℕ) (n : ℕ) → Deep n (after text n)
 unfolding after
-deep text zero = record { expression = λ m h. absurd cc; negated = λ m h. absurd cc; signed = λ m h. absurd cc }
+deep text zero = record { expression = λ m h. absurd cc; negated_predicate = λ m h. absurd cc; signed_primary = λ m h. absurd cc }
 deep text (suc n) =
     let inner = after text n in
     let all = deep text n in
     record {
       expression = λ m h. subst (λ (k : ℕ). Good k (rule_of part.Expression) (expression text n inner)) (before n m h) (expression_good text n inner all);
-      negated = λ m h. subst (λ (k : ℕ). Good k (rule_of part.Negated) (negated text n inner)) (before n m h) (negated_good text n inner all);
-      signed = λ m h. subst (λ (k : ℕ). Good k (rule_of part.Signed) (signed text n inner)) (before n m h) (signed_good text n inner all);
+      negated_predicate = λ m h. subst (λ (k : ℕ). Good k (rule_of part.Negated) (negated_predicate text n inner)) (before n m h) (negated_good text n inner all);
+      signed_primary = λ m h. subst (λ (k : ℕ). Good k (rule_of part.Signed) (signed_primary text n inner)) (before n m h) (signed_good text n inner all);
     }
 """
 

@@ -645,7 +645,7 @@ use Rattle.std.specs.Str.{bytes_eq, str_to_ascii_lowercase}
 use Rattle.std.specs.Cmp.Lexicographic.{same_text, nat_list_eq_equiv}
 use Rattle.span_grammar.specs.declared.class.Context.{Context}
 use Rattle.span_grammar.specs.declared.class.Context.TheVariants as context
-use Rattle.span_lexer.proofs.Words.{if_true, if_false}
+use Rattle.span_value.proofs.Choices.{if_true, if_false}
 use Rattle.span_grammar.specs.Contexts.{word, matching_word}
 """, "in_lower_case : (v : Context) → str_to_ascii_lowercase (word v) ≡ word v\n" + lines(
         f"in_lower_case context.{word} = refl" for word in t.grammar.contexts) + LOOKING_UP)

@@ -88,7 +88,8 @@ def proved(definition, proof, name=None):
 # Definitions whose lemma is not called as they are.
 LEMMAS = {
     "call_or_column": "named", "qualified_column": "qualified", "comparison_test": "compared", "negatable_test": "deniable",
-    "block_body": "block_shown", "order_and_limit": "ordered", "key_and_parent": "keyed", "primary_key": "with_key",
+    "signed_primary": "signed", "negated_predicate": "negated", "block_body": "block_shown", "order_and_limit": "ordered",
+    "key_and_parent": "keyed", "primary_key": "with_key",
 }
 
 
