@@ -17,6 +17,11 @@ more_looked n m s0 s1 s2 a b =
     let p = a.compared in let q = b.compared in
     record { compared = omega arith; written = b.written ∙ a.written }
 
+pub few_looked : (n m : ℕ) (s0 s1 : Count) → n ≤ m → IsLookCost n s0 s1 → IsLookCost m s0 s1
+few_looked n m s0 s1 few a =
+    let p = a.compared in
+    record { compared = omega arith; written = a.written }
+
 pub level_looked : (n : ℕ) (s0 s1 s2 : Count) → IsLookCost (16 * n) s0 s1 → IsLookCost 16 s1 s2 → IsLookCost (16 * (n + 1)) s0 s2
 level_looked n s0 s1 s2 a b =
     let p = a.compared in let q = b.compared in

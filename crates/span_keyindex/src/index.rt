@@ -21,6 +21,7 @@ use span_keycode::key::Key;
 use span_keycode::range::KeyRange;
 use span_value::refusal::Refusal;
 use std::alloc::Global;
+use std::cmp::Ordering;
 use std::sync::ledger::Ledger;
 
 /// A sorted list of keys with their chains. Each call is handed the index's own arena: its chains are those of the keys, and it has
@@ -88,6 +89,21 @@ impl KeyIndex {
             Near::Here => Some(Chain { number: near }),
             Near::Absent => None,
             Near::Unknown => self.find(arena, key),
+        }
+    }
+
+    /// The chain of a key, where `near` is its number: no search is made, and None says nothing.
+    pub fn chain_at(&self, arena: &Arena, key: &[u8], near: u32) -> Option<Chain>
+        requires { IsIndexOf self.now arena.now }
+        ensures own { IfSome result (HasChain (entries_of self.now arena.now) key.now) }
+        ensures chain { IfSome result (λ chain. IsChain arena.now chain.number) }
+    {
+        if near as usize >= arena.numbers() || !arena.is_chain(near) {
+            return None;
+        }
+        match arena.order(near, key) {
+            Ordering::Equal => Some(Chain { number: near }),
+            _ => None,
         }
     }
 

@@ -60,21 +60,7 @@ fn step<C: Ledger, W: Ledger>(
     }
 }
 
-// As `step`, where there is a key.
-fn step_lane<C: Ledger, W: Ledger>(
-    arena: &Arena,
-    key: Option<&Key>,
-    lane: Lane,
-    steps: &mut Steps<C, W>,
-) -> Lane
-    ensures { IsLookCost 1 steps.old steps.new }
-{
-    match key {
-        None => lane,
-        Some(key) => step(arena, key.as_slice(), lane, steps),
-    }
-}
-
+// One level down for each key.
 fn step_all<C: Ledger, W: Ledger>(
     arena: &Arena,
     keys: &[Key],
@@ -83,8 +69,8 @@ fn step_all<C: Ledger, W: Ledger>(
 )
     ensures { IsLookCost 16 steps.old steps.new }
 {
-    for i in 0..LANES {
-        lanes[i] = step_lane(arena, keys.get(i), lanes[i], steps);
+    for i in 0..keys.len().min(LANES) {
+        lanes[i] = step(arena, keys[i].as_slice(), lanes[i], steps);
     }
 }
 

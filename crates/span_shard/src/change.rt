@@ -12,7 +12,7 @@ use super::made::MadeRows;
 use super::overlay::Changes;
 use super::run::run;
 use super::store::Store;
-use super::write::Write;
+use super::write::{NearWrite, Write};
 use span_keycode::key::Key;
 use span_keyindex::near::NO_CHAIN;
 use span_mutate::mutation::CheckedMutation;
@@ -60,7 +60,7 @@ fn removals(
     store: &Lookups<'_>,
     made: &MadeRows,
     removed: BTreeSet<Key>,
-) -> Result<Vec<Write>, AllocError>
+) -> Result<Vec<NearWrite>, AllocError>
     requires { AreInOrder store.now }
     ensures { IfOk result
         (λ ws. AreWrittenFrom store.now (changes_of made.now removed.keys) (changes_of made.now []) ws.items) }
@@ -70,7 +70,8 @@ fn removals(
     while let Some(key) = left.pop_last() {
         let write = Write { key, row: None };
         if is_removal(store, made, &write) {
-            writes.push(write)?;
+            let near = NO_CHAIN;
+            writes.push(NearWrite { write, near })?;
         }
     }
     Ok(writes)
@@ -82,7 +83,7 @@ fn writes_of_changes(
     alloc: Global,
     store: &Lookups<'_>,
     changes: Changes,
-) -> Result<Vec<Write>, AllocError>
+) -> Result<Vec<NearWrite>, AllocError>
     requires { AreInOrder store.now }
     ensures { IfOk result (λ ws. AreWritesAt store.now changes ws.items) }
 {
@@ -98,7 +99,7 @@ fn writes_of_changes(
             row: Some(row),
         };
         if is_change(store, &write, near) {
-            writes.push(write)?;
+            writes.push(NearWrite { write, near })?;
         }
     }
     Ok(writes)
@@ -110,7 +111,7 @@ pub(crate) fn writes_of(
     schema: &Schema,
     store: &Store,
     mutations: &[CheckedMutation],
-) -> Result<Vec<Write>, Refusal>
+) -> Result<Vec<NearWrite>, Refusal>
     requires order { AreInOrder store.now }
     requires typed { AreTypedMutations schema.now mutations.now }
     ensures ok { IfOk result (λ ws. AreWrites schema.now mutations.now store.now ws.items) }

@@ -21,7 +21,7 @@ use std::marker::Brand;
 use std::sync::ledger::{Blank, Ledger};
 
 /// The chain of a key: its own, or a new one. `Refusal::OutOfMemory` leaves all as it was.
-pub(crate) fn slot_for(index: &mut KeyIndex, arena: &mut Arena, key: Key) -> Result<Chain, Refusal>
+fn slot_for(index: &mut KeyIndex, arena: &mut Arena, key: Key) -> Result<Chain, Refusal>
     requires { IsIndexOf index.old arena.old }
     ensures ok { IfOk result (IsSlotFor (entries_of index.old arena.old) (entries_of index.new arena.new) arena.old arena.new key) }
     ensures chain { IfOk result (λ chain. IsChain arena.new chain.number) }
@@ -52,6 +52,27 @@ fn counted_slot_for<C: Ledger, W: Ledger>(
 {
     let mut steps: Steps<C, W> = Steps::new(compared, written);
     index.slot_for(arena, key, &mut steps)
+}
+
+/// As `slot_for`, where a chain is handed from `near_chains`.
+pub(crate) fn slot_near(
+    index: &mut KeyIndex,
+    arena: &mut Arena,
+    key: Key,
+    near: u32,
+) -> Result<Chain, Refusal>
+    requires { IsIndexOf index.old arena.old }
+    ensures ok { IfOk result (IsSlotFor (entries_of index.old arena.old) (entries_of index.new arena.new) arena.old arena.new key) }
+    ensures chain { IfOk result (λ chain. IsChain arena.new chain.number) }
+    ensures index { OnErr result (index.new ≡ index.old) }
+    ensures arena { OnErr result (arena.new ≡ arena.old) }
+    ensures memory { IfErr result (λ why. why ≡ Refusal.OutOfMemory) }
+    ensures own { IsIndexOf index.new arena.new }
+{
+    match index.chain_at(arena, key.as_slice(), near) {
+        Some(chain) => Ok(chain),
+        None => slot_for(index, arena, key),
+    }
 }
 
 /// Chains near up to 16 keys.

@@ -11,7 +11,7 @@ ghost use Rattle.span_shard.specs.declared.write.Write.{Write};
 use super::change::writes_of;
 use super::snapshot::{Snapshot, snapshot_of};
 use super::store::Store;
-use super::write::Write;
+use super::write::NearWrite;
 use span_keycode::range::KeyRange;
 use span_mutate::mutation::CheckedMutation;
 use span_schema::schema::Schema;
@@ -182,7 +182,7 @@ impl Shard {
 }
 
 /// Prepares writes, from the last to the first. After an error some are prepared.
-fn put_all(store: &mut Store, txn: u64, writes: Vec<Write>) -> Result<(), Refusal>
+fn put_all(store: &mut Store, txn: u64, writes: Vec<NearWrite>) -> Result<(), Refusal>
     requires order { AreInOrder store.old }
     requires used { AllByRecursion IsInUse store.old }
     ensures ok { OnOk result (store.new ≡ with_writes txn writes.items store.old) }

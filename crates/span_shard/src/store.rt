@@ -6,10 +6,10 @@ ghost use Rattle.span_shard.specs.Versions.{applied_to_key, is_used};
 ghost use Rattle.span_shard.specs.Shard.{AreInOrder, HaveFallingVersions, IsIdle, IsInUse, IsLaterCommit, IsPutRefused, keys_before, keys_from, with_write, trimmed_key, live};
 
 use super::node::{PreparedNode, end_nodes, prepare_node};
-use super::search::{slot_for, split_at};
+use super::search::{slot_near, split_at};
 use super::split::{add_room, move_versions};
 use super::trim::trim_chains;
-use super::write::Write;
+use super::write::{NearWrite, Write};
 use span_arena::arena::Arena;
 use span_keyindex::index::KeyIndex;
 use span_value::refusal::Refusal;
@@ -61,15 +61,18 @@ impl Store {
     }
 
     /// Prepares a write at its key. A refusal leaves all as it was.
-    pub(crate) fn put(&mut self, txn: u64, write: Write) -> Result<(), Refusal>
+    pub(crate) fn put(&mut self, txn: u64, write: NearWrite) -> Result<(), Refusal>
         requires order { AreInOrder self.old }
         requires used { AllByRecursion IsInUse self.old }
         ensures ok { OnOk result (self.new ≡ with_write txn write self.old) }
         ensures err { OnErr result (self.new ≡ self.old) }
         ensures refused { IfErr result (IsPutRefused self.old write.key) }
     {
-        let Write { key, row } = write;
-        let chain = slot_for(&mut self.index, &mut self.arena, key)?;
+        let NearWrite {
+            write: Write { key, row },
+            near,
+        } = write;
+        let chain = slot_near(&mut self.index, &mut self.arena, key, near)?;
         match prepare_node(&mut self.arena, &mut self.prepared, chain, txn, row) {
             Ok(()) => Ok(()),
             Err(why) => {
