@@ -1,6 +1,7 @@
 //! The steps of the rule, on bare seats: the keeper's joins another, the two step as one, and they part.
-ghost use Rattle.std.specs.Prelude.{◌≡◌, ◌<◌, ◌^◌, [], ◌∷◌, ◌++◌, length};
+ghost use Rattle.std.specs.Prelude.{◌≡◌, ◌<◌, [], ◌∷◌, ◌++◌, length};
 ghost use mathlib.Core.List.{IsPrefix};
+ghost use Rattle.span_truetime.specs.Limits.{timestamp_end};
 ghost use Rattle.span_locks.specs.Known.{kept, grown, restated, restated_twice, owned};
 ghost use Rattle.span_locks.specs.Rule.{number_of, versions_of, known_at, seen_of, mine_of, shard_of_change};
 ghost use Rattle.span_locks.specs.declared.board.Role.TheVariants.{Holder, Keeper, Client};
@@ -24,7 +25,7 @@ pub(crate) fn grow<J: Naming>(
     requires client { seat.old.me ≡ (Client owner (seen_of seat.old.me.0) (mine_of seat.old.me.0) ∷ [], []) }
     requires keeper { keeper.views ≡ (Keeper (known_at keeper.views) ∷ []) ∷ [] }
     requires owner { commit.owner ≡ owner }
-    requires count { (length (known_at keeper.views).commits ≡ count) × (count < 2 ^ 62) }
+    requires count { (length (known_at keeper.views).commits ≡ count) × (count < timestamp_end) }
     ensures tables { (seat.new.table_id ≡ J.table) × (result.table_id ≡ J.table) }
     ensures known { IsPrefix (seen_of seat.old.me.0) (known_at keeper.views).commits
         × (owned owner (seen_of seat.old.me.0) ≡ mine_of seat.old.me.0)

@@ -238,9 +238,9 @@ impl<J: Naming> LockedSlot<J> {
         }
     }
 
-    /// What a leaf of a query gives on a part of its range, as far as this slot has it, with the groups that the query above makes of all its rows,
-    /// if it does. `OutOfMemory`: a slot has rows of the schema's
-    /// tables, and so nothing else is wanting where a part can't be read.
+    /// What a leaf of a query gives on a part of its range, as far as this slot has it, with the groups that the query above makes
+    /// of all its rows, if it does. The only refusal is `OutOfMemory`: a slot has rows of the schema's tables, so no bytes in it are
+    /// other than a key and a row.
     pub fn read(
         &self,
         board: &Board<J>,
