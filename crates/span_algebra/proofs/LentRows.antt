@@ -6,26 +6,26 @@ use Rattle.std.proofs.lemmas.List.{length-map, map-append, take-map, drop-map, g
 use Rattle.std.proofs.lemmas.Option.{slice_get-map}
 use Rattle.span_query.specs.Rows.{Row}
 use Rattle.span_query.specs.Sorting.{insert_sorted}
-use Rattle.span_algebra.specs.Indexed.{lent}
-use Rattle.span_algebra.proofs.Gathering.{drop_at}
-use Rattle.span_algebra.proofs.Indexing.{taken_more}
+use Rattle.span_rows.specs.LentRows.{lent_rows}
+use Rattle.span_rows.proofs.Gathering.{drop_at}
+use Rattle.span_rows.proofs.Indexing.{taken_more}
 
-pub lent_count : (xs : List (Bor Row)) → length (lent xs) ≡ length xs
+pub lent_count : (xs : List (Bor Row)) → length (lent_rows xs) ≡ length xs
 lent_count xs = length-map xs (λ (r : Bor Row). r.now)
 
-pub lent_get : (xs : List (Bor Row)) (k : ℕ) (x : Bor Row) → k < length xs → x ≡ get_or xs k x → x.now ≡ get_or (lent xs) k x.now
+pub lent_get : (xs : List (Bor Row)) (k : ℕ) (x : Bor Row) → k < length xs → x ≡ get_or xs k x → x.now ≡ get_or (lent_rows xs) k x.now
 lent_get xs k x below is = ap (λ (r : Bor Row). r.now) is ∙ sym (get_or-map (λ (r : Bor Row). r.now) xs k x x.now below)
 
-pub lent_found : (xs : List (Bor Row)) (k : ℕ) (x : Bor Row) → slice_get xs k ≡ Some x → slice_get (lent xs) k ≡ Some x.now
+pub lent_found : (xs : List (Bor Row)) (k : ℕ) (x : Bor Row) → slice_get xs k ≡ Some x → slice_get (lent_rows xs) k ≡ Some x.now
 lent_found xs k x is = slice_get-map (λ (r : Bor Row). r.now) xs k ∙ ap (option_map (λ (r : Bor Row). r.now)) is
 
-pub lent_put : (xs : List (Bor Row)) (at : ℕ) (x : Bor Row) → lent (take at xs ++ x ∷ drop at xs) ≡ take at (lent xs) ++ x.now ∷ drop at (lent xs)
+pub lent_put : (xs : List (Bor Row)) (at : ℕ) (x : Bor Row) → lent_rows (take at xs ++ x ∷ drop at xs) ≡ take at (lent_rows xs) ++ x.now ∷ drop at (lent_rows xs)
 lent_put xs at x =
     map-append (λ (r : Bor Row). r.now) (take at xs) (x ∷ drop at xs)
-    ∙ ap (λ (l : List Row). l ++ x.now ∷ lent (drop at xs)) (sym (take-map (λ (r : Bor Row). r.now) at xs))
-    ∙ ap (λ (l : List Row). take at (lent xs) ++ x.now ∷ l) (sym (drop-map (λ (r : Bor Row). r.now) at xs))
+    ∙ ap (λ (l : List Row). l ++ x.now ∷ lent_rows (drop at xs)) (sym (take-map (λ (r : Bor Row). r.now) at xs))
+    ∙ ap (λ (l : List Row). take at (lent_rows xs) ++ x.now ∷ l) (sym (drop-map (λ (r : Bor Row). r.now) at xs))
 
-pub lent_part : (xs : List (Bor Row)) (skip count : ℕ) → lent (take count (drop skip xs)) ≡ take count (drop skip (lent xs))
+pub lent_part : (xs : List (Bor Row)) (skip count : ℕ) → lent_rows (take count (drop skip xs)) ≡ take count (drop skip (lent_rows xs))
 lent_part xs skip count =
     sym (take-map (λ (r : Bor Row). r.now) count (drop skip xs)) ∙ ap (take count) (sym (drop-map (λ (r : Bor Row). r.now) skip xs))
 

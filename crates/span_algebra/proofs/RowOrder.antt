@@ -18,7 +18,7 @@ use Rattle.span_expr.specs.Operators.{column_of}
 use Rattle.span_query.specs.declared.query.SortKey.{SortKey}
 use Rattle.span_query.specs.Rows.{Row}
 use Rattle.span_query.specs.Sorting.{reverse_if, or_next, key_order, row_order, comes_before, insert_sorted, insertion_sort, sorted}
-use Rattle.span_algebra.specs.Indexed.{lent}
+use Rattle.span_rows.specs.LentRows.{lent_rows}
 use Rattle.span_algebra.proofs.Sorting.{from_sorted, is_the_order}
 
 same_turn : (o : Ordering) → reverse_if true o ≡ ordering_reverse o
@@ -57,24 +57,24 @@ module _ (keys : List SortKey) where
   lent_ranked : IsStrictWeakOrder lent_before
   lent_ranked = ranks_by (rows_total keys) (λ (r : Bor Row). r.now)
 
-  lent_inserted : (x : Bor Row) (ys : List (Bor Row)) → lent (insert_sorted lent_before x ys) ≡ insert_sorted (comes_before keys) x.now (lent ys)
+  lent_inserted : (x : Bor Row) (ys : List (Bor Row)) → lent_rows (insert_sorted lent_before x ys) ≡ insert_sorted (comes_before keys) x.now (lent_rows ys)
   lent_inserted x [] = refl
-  lent_inserted x (y ∷ ys) = elim (comes_before keys y.now x.now) as (λ b. lent (cond b (y ∷ insert_sorted lent_before x ys) (x ∷ y ∷ ys)) ≡ cond b (y.now ∷ insert_sorted (comes_before keys) x.now (lent ys)) (x.now ∷ y.now ∷ lent ys)) [
+  lent_inserted x (y ∷ ys) = elim (comes_before keys y.now x.now) as (λ b. lent_rows (cond b (y ∷ insert_sorted lent_before x ys) (x ∷ y ∷ ys)) ≡ cond b (y.now ∷ insert_sorted (comes_before keys) x.now (lent_rows ys)) (x.now ∷ y.now ∷ lent_rows ys)) [
     | true ↦ ap (λ (l : List Row). y.now ∷ l) (lent_inserted x ys)
     | false ↦ refl
   ]
 
-  lent_in_order : (xs : List (Bor Row)) → lent (insertion_sort lent_before xs) ≡ sorted keys (lent xs)
+  lent_in_order : (xs : List (Bor Row)) → lent_rows (insertion_sort lent_before xs) ≡ sorted keys (lent_rows xs)
   lent_in_order [] = refl
   lent_in_order (x ∷ xs) = lent_inserted x (insertion_sort lent_before xs) ∙ ap (insert_sorted (comes_before keys) x.now) (lent_in_order xs)
 
   -- what the clauses of a stable sort say, where each call compares two rows
   pub sorted_rows : {F : Type 0} {g : Mut F (Bor (Bor Row) × (Bor (Bor Row) × Unit)) Ordering} {f : F} (xs ys : List (Bor Row))
       → IsSortedByClosure g f ys → IsStableByClosure g f xs ys
-      → ((a : Bor (Bor Row) × (Bor (Bor Row) × Unit)) (r : Ordering) (f' : F) → Called g f a r f' → (r ≡ row_order keys a.0.now.now a.1.0.now.now) × (f' ≡ f)) → lent ys ≡ sorted keys (lent xs)
+      → ((a : Bor (Bor Row) × (Bor (Bor Row) × Unit)) (r : Ordering) (f' : F) → Called g f a r f' → (r ≡ row_order keys a.0.now.now a.1.0.now.now) × (f' ≡ f)) → lent_rows ys ≡ sorted keys (lent_rows xs)
   sorted_rows {g = g} {f = f} xs ys up stable h =
       let by = always_returns_same g (λ a r. is_lt r ≡ lent_before a.0.now a.1.0.now) f (λ a r f' k. (ap is_lt (h a r f' k).0, (h a r f' k).1)) in
-      ap lent (is_the_order lent_before lent_ranked xs ys (from_sorted lent_before lent_ranked ys (up lent_before lent_ranked by)) (stable lent_before lent_ranked by))
+      ap lent_rows (is_the_order lent_before lent_ranked xs ys (from_sorted lent_before lent_ranked ys (up lent_before lent_ranked by)) (stable lent_before lent_ranked by))
       ∙ lent_in_order xs
 
 in_front : (row : Row) (rows : List Row) → insert_sorted (comes_before []) row rows ≡ row ∷ rows

@@ -1,12 +1,12 @@
 //! The first rows in the order of some keys, without an order of the others.
 ghost use Rattle.std.specs.Prelude.{◌≡◌, ◌∷◌, ◌++◌, ◌≤◌, IfOk, OnOk, drop, length, take, true};
 ghost use Rattle.span_query.specs.Sorting.{comes_before, insert_sorted, sorted};
-ghost use Rattle.span_algebra.specs.Indexed.{lent};
+ghost use Rattle.span_rows.specs.LentRows.{lent_rows};
 ghost use Rattle.span_algebra.specs.Orders.{IsSorted};
 
-use super::row_list::RowList;
 use super::sort::compare_rows;
 use span_query::query::SortKey;
+use span_rows::row_list::RowList;
 use span_value::value::Value;
 use std::alloc::{AllocError, Global};
 
@@ -20,7 +20,7 @@ fn is_before(keys: &[SortKey], left: &[Value], right: &[Value]) -> bool
 /// The place among rows before which a row is to be put: that of the first that does not come before it.
 fn place_in_order(keys: &[SortKey], rows: &[&[Value]], row: &[Value]) -> usize
     ensures within { result ≤ length rows.now }
-    ensures place { insert_sorted (comes_before keys.now) row.now (lent rows.now) ≡ take result (lent rows.now) ++ row.now ∷ drop result (lent rows.now) }
+    ensures place { insert_sorted (comes_before keys.now) row.now (lent_rows rows.now) ≡ take result (lent_rows rows.now) ++ row.now ∷ drop result (lent_rows rows.now) }
 {
     for at in 0..rows.len() {
         if !is_before(keys, rows[at], row) {
@@ -32,9 +32,9 @@ fn place_in_order(keys: &[SortKey], rows: &[&[Value]], row: &[Value]) -> usize
 
 /// Whether there are `count` rows, and the last comes before the row.
 fn is_beyond(keys: &[SortKey], rows: &[&[Value]], row: &[Value], count: usize) -> bool
-    requires order { IsSorted (comes_before keys.now) (lent rows.now) }
+    requires order { IsSorted (comes_before keys.now) (lent_rows rows.now) }
     requires few { length rows.now ≤ count }
-    ensures { result ≡ true → take count (insert_sorted (comes_before keys.now) row.now (lent rows.now)) ≡ lent rows.now }
+    ensures { result ≡ true → take count (insert_sorted (comes_before keys.now) row.now (lent_rows rows.now)) ≡ lent_rows rows.now }
 {
     match rows.last() {
         Some(last) => rows.len() == count && is_before(keys, *last, row),
@@ -49,10 +49,10 @@ fn put_in_order<'a>(
     row: &'a [Value],
     count: usize,
 ) -> Result<(), AllocError>
-    requires order { IsSorted (comes_before keys.now) (lent rows.old.items) }
+    requires order { IsSorted (comes_before keys.now) (lent_rows rows.old.items) }
     requires few { length rows.old.items ≤ count }
     ensures { OnOk result
-        (lent rows.new.items ≡ take count (insert_sorted (comes_before keys.now) row.now (lent rows.old.items))) }
+        (lent_rows rows.new.items ≡ take count (insert_sorted (comes_before keys.now) row.now (lent_rows rows.old.items))) }
 {
     if is_beyond(keys, rows.as_slice(), row, count) {
         return Ok(());
@@ -72,7 +72,7 @@ pub(crate) fn first_rows<'a>(
     rows: &'a RowList,
     count: usize,
 ) -> Result<Vec<&'a [Value]>, AllocError>
-    ensures { IfOk result (λ first. lent first.items ≡ take count (sorted keys.now rows.now)) }
+    ensures { IfOk result (λ first. lent_rows first.items ≡ take count (sorted keys.now rows.now)) }
 {
     let mut first = Vec::new(alloc);
     let mut at = rows.len();

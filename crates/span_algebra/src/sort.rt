@@ -7,15 +7,14 @@ ghost use Rattle.span_query.specs.Rows.{Row};
 ghost use Rattle.span_query.specs.Sorting as spec;
 ghost use Rattle.span_query.specs.Meaning as meaning;
 ghost use Rattle.span_query.specs.declared.query.SortKey.{SortKey};
-ghost use Rattle.span_algebra.specs.Answers.{Gives};
-ghost use Rattle.span_algebra.specs.Indexed.{lent};
+ghost use Rattle.span_rows.specs.Answers.{Gives};
+ghost use Rattle.span_rows.specs.LentRows.{lent_rows};
 ghost use Rattle.span_algebra.specs.Orders.{IsSorted};
 
-use super::candidates::lent_rows;
 use super::first_rows::first_rows;
-use super::row_list::RowList;
 use span_expr::cell::Failure;
 use span_query::query::{Limit, SortKey};
+use span_rows::row_list::{RowList, lent_rows};
 use span_value::order::compare;
 use span_value::value::Value;
 use std::alloc::{AllocError, Global};
@@ -60,7 +59,7 @@ fn sort_rows<'a>(
     keys: &[SortKey],
     rows: &'a RowList,
 ) -> Result<Vec<&'a [Value]>, AllocError>
-    ensures { IfOk result (λ all. lent all.items ≡ spec.sorted keys.now rows.now) }
+    ensures { IfOk result (λ all. lent_rows all.items ≡ spec.sorted keys.now rows.now) }
 {
     let mut all = lent_rows(alloc, rows)?;
     if keys.is_empty() {
@@ -119,7 +118,7 @@ fn is_as_it_is(keys: &[SortKey], limit: Option<Limit>) -> bool
 
 /// A part of the rows.
 fn limit_rows<'a, 'b>(limit: Option<Limit>, rows: &'a [&'b [Value]]) -> &'a [&'b [Value]]
-    ensures { lent result.now ≡ meaning.limit_rows limit (lent rows.now) }
+    ensures { lent_rows result.now ≡ meaning.limit_rows limit (lent_rows rows.now) }
 {
     let Some(limit) = limit else {
         return rows;
@@ -130,7 +129,7 @@ fn limit_rows<'a, 'b>(limit: Option<Limit>, rows: &'a [&'b [Value]]) -> &'a [&'b
 
 /// Copies of the rows.
 fn copy_rows(alloc: Global, rows: &[&[Value]]) -> Result<RowList, AllocError>
-    ensures { IfOk result (λ copies. copies ≡ lent rows.now) }
+    ensures { IfOk result (λ copies. copies ≡ lent_rows rows.now) }
 {
     let mut copies = RowList::new(alloc);
     for row in rows {

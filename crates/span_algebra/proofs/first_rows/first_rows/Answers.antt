@@ -3,7 +3,7 @@ use Rattle.span_query.specs.Rows.{Row}
 use Rattle.span_query.specs.Sorting.{comes_before, insert_sorted, sorted}
 use Rattle.span_algebra.specs.Orders.{IsSorted}
 use Rattle.span_algebra.proofs.FirstRows.{first_in_order, first_of_inserted}
-use Rattle.span_algebra.proofs.Gathering.{drop_at}
+use Rattle.span_rows.proofs.Gathering.{drop_at}
 use Rattle.span_algebra.proofs.RowOrder.{rows_ranked}
 use Rattle.span_algebra.proofs.first_rows.first_rows.Goals as goal
 

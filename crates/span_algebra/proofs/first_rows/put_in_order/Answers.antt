@@ -2,7 +2,7 @@ use Rattle.std.proofs.Common.{rules, ◌≡◌, ◌∙◌, ◌++◌, ◌∷◌, 
 use denote.Ref.{Bor}
 use Rattle.span_query.specs.Rows.{Row}
 use Rattle.span_query.specs.Sorting.{comes_before, insert_sorted}
-use Rattle.span_algebra.specs.Indexed.{lent}
+use Rattle.span_rows.specs.LentRows.{lent_rows}
 use Rattle.span_algebra.proofs.LentRows.{lent_put, lent_part}
 use Rattle.span_algebra.proofs.first_rows.put_in_order.Goals as goal
 
@@ -13,5 +13,5 @@ returns c =
     let row : Bor Row = c.args.row in
     let put : List (Bor Row) = take at rows ++ row ∷ drop at rows in
     let is : c.truncate.new.self.items ≡ take c.args.count put = search rules in
-    let place : insert_sorted (comes_before c.args.keys.now) row.now (lent rows) ≡ take at (lent rows) ++ row.now ∷ drop at (lent rows) = search rules in
-    ap lent is ∙ lent_part put 0 c.args.count ∙ ap (take c.args.count) (lent_put rows at row ∙ sym place)
+    let place : insert_sorted (comes_before c.args.keys.now) row.now (lent_rows rows) ≡ take at (lent_rows rows) ++ row.now ∷ drop at (lent_rows rows) = search rules in
+    ap lent_rows is ∙ lent_part put 0 c.args.count ∙ ap (take c.args.count) (lent_put rows at row ∙ sym place)

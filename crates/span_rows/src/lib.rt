@@ -1,0 +1,10 @@
+//! Lists of rows: conditions at rows, joins, filters, and each row once.
+#![tactic(auto)]
+
+mod candidates;
+pub mod distinct;
+pub mod filter;
+pub mod join;
+pub mod key;
+pub mod row;
+pub mod row_list;
