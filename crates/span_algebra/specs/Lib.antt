@@ -1,5 +1,4 @@
 pub mod Selecting
-pub mod Orders
 pub mod States
 pub mod BlockMeaning
 pub mod Sources

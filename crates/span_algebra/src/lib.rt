@@ -3,13 +3,11 @@
 
 mod aggregate;
 mod block;
-mod first_rows;
 mod group;
 pub mod grouped;
 mod merge;
 pub mod plain;
 mod select;
-pub mod sort;
 pub mod source;
 mod states;
 mod sum;

@@ -8,3 +8,9 @@ pub mod Skipping
 pub mod Indexing
 pub mod Cutting
 mod Compared
+pub mod Order
+pub mod Sorting
+pub mod RowOrder
+mod FirstRows
+pub mod Limits
+pub mod LentRows

@@ -7,3 +7,4 @@ pub mod EqualRows
 pub mod Candidates
 pub mod LentRows
 pub mod RowIndexes
+pub mod Orders
