@@ -10,12 +10,12 @@ use Rattle.span_query.specs.Rows.{Row}
 use Rattle.span_query.specs.Groups.{are_equal, columns_at, group_keys, rows_with}
 use Rattle.span_algebra.specs.declared.aggregate.State.{State}
 use Rattle.span_algebra.specs.declared.group.Group.{Group}
-use Rattle.span_algebra.specs.Keys.{contains_row, with_new, place_of}
+use Rattle.span_rows.specs.Keys.{contains_row, with_new, place_of, AreApart}
 use Rattle.span_algebra.specs.States.{AreStatesOf, CanCountOne}
-use Rattle.span_algebra.specs.Grouped.{keys_of, HasTakenRows, AreGroupsOf, HasPlace}
-use Rattle.span_algebra.proofs.Alike.{are_equal-itself}
+use Rattle.span_algebra.specs.GroupStates.{keys_of, HasTakenRows, AreGroupsOf, HasPlace}
+use Rattle.span_rows.proofs.Alike.{are_equal-itself}
 use Rattle.span_algebra.proofs.Together.{filter-shorter}
-use Rattle.span_algebra.proofs.Places.{AreApart, place_found, place_tells, place_most, apart_at, group_keys-apart, group_keys-more, no_rows, rows_with-push}
+use Rattle.span_rows.proofs.Places.{place_found, place_tells, place_most, apart_at, group_keys-apart, group_keys-more, no_rows, rows_with-push}
 
 pub key_at : (groups : List Group) (i : ℕ) (d : Group) (e : Row) → i < length groups → get_or (keys_of groups) i e ≡ (get_or groups i d).key
 key_at groups i d e inside = get_or-map (λ (x : Group). x.key) groups i d e inside

@@ -11,7 +11,7 @@ use Rattle.span_query.specs.Layers.{map_block, map_item, map_join}
 use Rattle.span_query.specs.Meaning.{block_rows, distinct_if, from}
 use Rattle.span_query.specs.Rows.{Row, Rows, OrFault, ◌>>=◌, filter_where, project_rows}
 use Rattle.span_query.specs.Groups.{groups, group_rows}
-use Rattle.span_algebra.specs.Meant.{GroupsTable, project_groups}
+use Rattle.span_algebra.specs.BlockMeaning.{GroupsTable, project_groups}
 
 then_some : {A : Type 0} (o : OrFault A) → (o >>= (λ x. Some x)) ≡ o
 then_some (Some x) = refl

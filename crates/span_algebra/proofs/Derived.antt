@@ -11,9 +11,9 @@ use Rattle.span_query.proofs.Layers.{layer_mapped}
 use Rattle.span_query.specs.Meaning.{meaning_over, item_rows, join_rows, join_next, query_rows}
 use Rattle.span_expr.specs.declared.cell.Failure.{Failure}
 use Rattle.span_expr.specs.declared.cell.Failure.TheVariants.{Fault, OutOfMemory}
-use Rattle.span_algebra.specs.Answers.{Gives}
+use Rattle.span_rows.specs.Answers.{Gives}
 use Rattle.span_algebra.specs.Sources.{GivesRows}
-use Rattle.span_algebra.proofs.Gathering.{drop_at}
+use Rattle.span_rows.proofs.Gathering.{drop_at}
 
 pub meaning_is : (tables : ℕ → Rows) (q : BoundQuery) → meaning_over tables q ≡ query_rows tables (map_layer (meaning_over tables) (out-BoundQuery q))
 meaning_is tables q = fold_out-BoundQuery Rows (query_rows tables) q ∙ ap (query_rows tables) (layer_mapped (meaning_over tables) (out-BoundQuery q))

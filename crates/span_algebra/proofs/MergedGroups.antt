@@ -12,14 +12,14 @@ use Rattle.span_query.specs.Rows.{Row}
 use Rattle.span_query.specs.Groups.{are_equal, columns_at, distinct, group_keys, rows_with}
 use Rattle.span_algebra.specs.declared.aggregate.State.{State}
 use Rattle.span_algebra.specs.declared.group.Group.{Group}
-use Rattle.span_algebra.specs.Keys.{contains_row, with_new, place_of}
+use Rattle.span_rows.specs.Keys.{contains_row, with_new, place_of, AreApart}
 use Rattle.span_algebra.specs.States.{AreStatesOf}
-use Rattle.span_algebra.specs.Grouped.{keys_of, HasTakenRows, AreGroupsOf}
-use Rattle.span_algebra.specs.Merged.{AreApart, AreWholeGroups, HasGroupAt, with_keys, rows_by_key}
-use Rattle.span_algebra.proofs.Alike.{are_equal-same, are_equal-reversed}
-use Rattle.span_algebra.proofs.Firsts.{unlike, distinct-more}
+use Rattle.span_algebra.specs.GroupStates.{keys_of, HasTakenRows, AreGroupsOf}
+use Rattle.span_algebra.specs.MergedGroups.{AreWholeGroups, HasGroupAt, with_keys, rows_by_key}
+use Rattle.span_rows.proofs.Alike.{are_equal-same, are_equal-reversed}
+use Rattle.span_rows.proofs.Firsts.{unlike, distinct-more}
 use Rattle.span_algebra.proofs.Absorbed.{key_at, key_count, keys-same}
-use Rattle.span_algebra.proofs.Places.{place_found, place_tells, place_most, apart_at, group_keys-apart, distinct-apart, contains_row-distinct, none_with}
+use Rattle.span_rows.proofs.Places.{place_found, place_tells, place_most, apart_at, group_keys-apart, distinct-apart, contains_row-distinct, none_with}
 
 -- ---- rows with a key
 

@@ -28,7 +28,7 @@ use Rattle.span_algebra.specs.declared.sum.Sum.{Sum}
 use Rattle.span_algebra.specs.declared.aggregate.State.{State}
 use Rattle.span_algebra.specs.declared.aggregate.State.TheVariants as state
 use Rattle.span_algebra.specs.States.{best, better_of, HasCounted, HasTaken, IsStateOf, AreStatesOf}
-use Rattle.span_algebra.proofs.Gathering.{concat_map-append}
+use Rattle.span_rows.proofs.Gathering.{concat_map-append}
 
 -- ---- sums
 

@@ -8,11 +8,11 @@ use Rattle.span_query.specs.declared.query.Grouping.{Grouping}
 use Rattle.span_query.specs.Rows.{Row, Rows, ◌>>=◌, append_results, keep_if, holds, filter_where}
 use Rattle.span_query.specs.Groups.{groups}
 use Rattle.span_algebra.specs.declared.group.Group.{Group}
-use Rattle.span_algebra.specs.Answers.{Gives}
+use Rattle.span_rows.specs.Answers.{Gives}
 use Rattle.span_algebra.specs.Selecting.{holds_where}
 use Rattle.span_algebra.specs.States.{operand_at}
-use Rattle.span_algebra.specs.Grouped.{AreGroupsOf, AreGroupsWhere, CanCountRow}
-use Rattle.span_algebra.proofs.Gathering.{drop_at, gathered_at, one_more, one_less, one_fails, then_fails}
+use Rattle.span_algebra.specs.GroupStates.{AreGroupsOf, AreGroupsWhere, CanCountRow}
+use Rattle.span_rows.proofs.Gathering.{drop_at, gathered_at, one_more, one_less, one_fails, then_fails}
 use Rattle.span_algebra.proofs.Shown.{groups-fault}
 
 -- before row i, where these are the groups so far

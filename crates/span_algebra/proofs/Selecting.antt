@@ -3,7 +3,7 @@ use Rattle.std.proofs.Common.{◌≡◌, Bool, true, false, List, [], ◌∷◌,
 use Rattle.span_expr.specs.declared.expr.Expr.{Expr}
 use Rattle.span_query.specs.Rows.{Row, OrFault, ◌>>=◌, append_results, concat_map, keep_if, filter_where, filter_rows, holds, project_rows}
 use Rattle.span_algebra.specs.Selecting.{project_row}
-use Rattle.span_algebra.proofs.Gathering.{nil-append_results}
+use Rattle.span_rows.proofs.Gathering.{nil-append_results}
 
 append_results-none : {A : Type 0} (a : OrFault (List A)) → append_results a None ≡ None
 append_results-none (Some xs) = refl

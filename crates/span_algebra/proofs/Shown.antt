@@ -13,14 +13,14 @@ use Rattle.span_query.specs.declared.query.Grouping.{Grouping}
 use Rattle.span_query.specs.Rows.{Row, Rows, OrFault, ◌>>=◌, value_of, append_results, concat_map, each, singleton}
 use Rattle.span_query.specs.Groups.{are_equal, columns_at, group_keys, rows_with, of_values, without_nulls, aggregate, group_row, groups}
 use Rattle.span_algebra.specs.declared.group.Group.{Group}
-use Rattle.span_algebra.specs.Answers.{Gives}
-use Rattle.span_algebra.specs.Keys.{place_of}
+use Rattle.span_rows.specs.Answers.{Gives}
+use Rattle.span_rows.specs.Keys.{place_of}
 use Rattle.span_algebra.specs.declared.aggregate.State.{State}
 use Rattle.span_algebra.specs.States.{AreStatesOf, operand_at}
-use Rattle.span_algebra.specs.Grouped.{keys_of, HasTakenRows, AreGroupsOf}
-use Rattle.span_algebra.proofs.Gathering.{concat_map-append, nil-append_results, one_more, one_fails}
-use Rattle.span_algebra.proofs.Alike.{are_equal-itself}
-use Rattle.span_algebra.proofs.Places.{place_found, place_known, has_key}
+use Rattle.span_algebra.specs.GroupStates.{keys_of, HasTakenRows, AreGroupsOf}
+use Rattle.span_rows.proofs.Gathering.{concat_map-append, nil-append_results, one_more, one_fails}
+use Rattle.span_rows.proofs.Alike.{are_equal-itself}
+use Rattle.span_rows.proofs.Places.{place_found, place_known, has_key}
 
 -- ---- the row of each group
 

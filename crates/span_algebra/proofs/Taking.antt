@@ -18,7 +18,7 @@ use Rattle.span_algebra.specs.declared.sum.Sum.{Sum}
 use Rattle.span_algebra.specs.declared.aggregate.State.{State}
 use Rattle.span_algebra.specs.declared.aggregate.State.TheVariants as state
 use Rattle.span_algebra.specs.States.{HasCounted, HasTaken, IsStateOf}
-use Rattle.span_algebra.proofs.Gathering.{concat_map-append}
+use Rattle.span_rows.proofs.Gathering.{concat_map-append}
 
 total-push : (vs : List Value) (v : Value) → total (vs ++ v ∷ []) ≡ total vs +ℤ int_of v
 total-push [] v = omega (arith, ints)

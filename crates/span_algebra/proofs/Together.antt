@@ -17,21 +17,21 @@ use Rattle.span_query.specs.Rows.{Row, OrFault, append_results, each, singleton,
 use Rattle.span_query.specs.Groups.{without_nulls, aggregate}
 use Rattle.span_expr.specs.declared.cell.Failure.{Failure}
 use Rattle.span_expr.specs.declared.cell.Failure.TheVariants as failure
-use Rattle.span_algebra.specs.Answers.{Gives}
-use Rattle.span_algebra.proofs.Gathering.{gathered_at, one_more, one_fails}
+use Rattle.span_rows.specs.Answers.{Gives}
+use Rattle.span_rows.proofs.Gathering.{gathered_at, one_more, one_fails}
 use Rattle.span_algebra.specs.declared.aggregate.State.{State}
 use Rattle.span_algebra.specs.declared.aggregate.State.TheVariants as state
-use Rattle.span_algebra.specs.States.{counted, HasCounted, HasTaken, IsStateOf, AreStatesOf, CanCountOne}
+use Rattle.span_algebra.specs.States.{count_of, HasCounted, HasTaken, IsStateOf, AreStatesOf, CanCountOne}
 
 -- ---- how many were counted
 
-has_counted : (n : ℕ) (s : State) → HasCounted n s → counted s ≡ n
+has_counted : (n : ℕ) (s : State) → HasCounted n s → count_of s ≡ n
 has_counted n (state.Count m) h = h
 has_counted n (state.Sum s) h = absurd h
 has_counted n (state.Least v) h = absurd h
 has_counted n (state.Greatest v) h = absurd h
 
-taken_count : (f : Function) (vs : List Value) (s : State) → HasTaken f vs s → counted s ≤ length vs
+taken_count : (f : Function) (vs : List Value) (s : State) → HasTaken f vs s → count_of s ≤ length vs
 taken_count function.Count vs s h = omega (arith, has_counted (length vs) s h)
 taken_count function.Sum vs (state.Sum s) h = omega (arith, h.0)
 taken_count function.Sum vs (state.Count n) h = absurd h
@@ -63,7 +63,7 @@ pub each-length : {A B : Type 0} (f : A → OrFault B) (xs : List A) (ys : List 
 each-length f [] ys e = let is : [] ≡ ys = cc in ap (λ (l : List _). length l) (sym is)
 each-length f (x ∷ xs) ys e = same_Some_list (each f xs) (f x) ys e (length xs) (λ ws is. each-length f xs ws is)
 
-pub counted_few : (a : Aggregate) (rows : List Row) (s : State) → IsStateOf a rows s → counted s ≤ length rows
+pub counted_few : (a : Aggregate) (rows : List Row) (s : State) → IsStateOf a rows s → count_of s ≤ length rows
 counted_few CountRows rows s h = omega (arith, has_counted (length rows) s h)
 counted_few (Of f e) rows s h =
     omega (arith, taken_count f (without_nulls h.0) s h.2, filter-shorter (λ (v : Value). not (is_null v)) h.0, each-length (λ (row : Row). value_of (val row e)) rows h.0 h.1)
@@ -100,7 +100,7 @@ module _ (all : List Aggregate) (row : Row) (old : List State) where
   takes_all now at same takes rows h all_done =
       record { long = same ∙ h.long; each = λ k a s here there. (takes rows h k a s here there).0 (omega (arith, slice_get_within all k a here)) }
 
-  pub room_left : (now : List State) (at : ℕ) (a : Aggregate) (s : State) → CanCountOne all old → Takes now at → slice_get all at ≡ Some a → slice_get now at ≡ Some s → counted s + 1 < 2 ^ 64
+  pub room_left : (now : List State) (at : ℕ) (a : Aggregate) (s : State) → CanCountOne all old → Takes now at → slice_get all at ≡ Some a → slice_get now at ≡ Some s → count_of s + 1 < 2 ^ 64
   room_left now at a s room takes here there = omega (arith, room.few, counted_few a room.rows s ((takes room.rows room.are at a s here there).1 (omega arith)))
 
 -- ---- one more aggregate

@@ -9,7 +9,7 @@ use Rattle.span_query.specs.Rows.{Row}
 use Rattle.span_algebra.specs.declared.grouped.Measure.{Measure}
 use Rattle.span_algebra.specs.declared.grouped.Measure.TheVariants.{CountRows, OfColumn}
 use Rattle.span_algebra.specs.declared.grouped.Groups.{Groups}
-use Rattle.span_algebra.specs.Grouped.{AreGroupsOf}
+use Rattle.span_algebra.specs.GroupStates.{AreGroupsOf}
 
 abbrev pub aggregate_of : Measure → Aggregate
 aggregate_of CountRows = aggregate.CountRows

@@ -14,10 +14,10 @@ use Rattle.span_algebra.specs.declared.aggregate.State.{State}
 use Rattle.span_algebra.specs.declared.aggregate.State.TheVariants as state
 
 -- the number of values that it has counted
-abbrev pub counted : State → ℕ
-counted (state.Count n) = n
-counted (state.Sum s) = s.values
-counted s = 0
+abbrev pub count_of : State → ℕ
+count_of (state.Count n) = n
+count_of (state.Sum s) = s.values
+count_of s = 0
 
 -- the best of the values, where there is one
 abbrev pub best : (Value → Value → Value) → List Value → Option Value

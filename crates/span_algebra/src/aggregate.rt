@@ -9,13 +9,13 @@ ghost use Rattle.span_query.specs.declared.query.Aggregate.{Aggregate};
 ghost use Rattle.span_query.specs.declared.query.Function.{Function};
 ghost use Rattle.span_query.specs.Rows.{Row, value_of};
 ghost use Rattle.span_query.specs.Groups as spec;
-ghost use Rattle.span_algebra.specs.Answers.{Gives};
-ghost use Rattle.span_algebra.specs.States.{better_of, counted, HasCounted, HasTaken, IsStateOf, operand_at, or_better, or_null};
+ghost use Rattle.span_rows.specs.Answers.{Gives};
+ghost use Rattle.span_algebra.specs.States.{better_of, count_of, HasCounted, HasTaken, IsStateOf, operand_at, or_better, or_null};
 
-use super::row::{copy_of, operand_value};
 use super::sum::{Sum, number};
 use span_expr::cell::{Failure, LentValue};
 use span_query::query::{Aggregate, Function};
+use span_rows::row::{copy_of, operand_value};
 use span_value::order::compare;
 use span_value::value::Value;
 use std::alloc::{AllocError, Global};
@@ -150,7 +150,7 @@ impl State {
 
     /// One more row of a count of rows.
     fn count_row(&mut self)
-        requires { counted self.old + 1 < 2 ^ 64 }
+        requires { count_of self.old + 1 < 2 ^ 64 }
         ensures { (n : ℕ) → HasCounted n self.old → HasCounted (n + 1) self.new }
     {
         if let State::Count(count) = self {
@@ -160,7 +160,7 @@ impl State {
 
     /// One more value that is not NULL. Only a least or a greatest value is kept, and so copied.
     fn take_value(&mut self, alloc: Global, value: LentValue<'_>) -> Result<(), AllocError>
-        requires { counted self.old + 1 < 2 ^ 64 }
+        requires { count_of self.old + 1 < 2 ^ 64 }
         ensures { OnOk result
             ((f : Function) (vs : List Value)
             → HasTaken f vs self.old
@@ -192,7 +192,7 @@ impl State {
         aggregate: &Aggregate,
         row: &[Value],
     ) -> Result<(), Failure>
-        requires { counted self.old + 1 < 2 ^ 64 }
+        requires { count_of self.old + 1 < 2 ^ 64 }
         ensures ok { OnOk result
             ((rows : List Row)
             → IsStateOf aggregate.now rows self.old

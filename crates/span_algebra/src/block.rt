@@ -3,15 +3,15 @@ ghost use Rattle.std.specs.Prelude.{◌≡◌, Some};
 ghost use Rattle.span_query.specs.Rows.{filter_where, project_rows};
 ghost use Rattle.span_query.specs.Groups.{group_rows};
 ghost use Rattle.span_query.specs.Meaning.{distinct_if};
-ghost use Rattle.span_algebra.specs.Answers.{Gives};
-ghost use Rattle.span_algebra.specs.Meant.{outputs_of, project_block, project_groups};
+ghost use Rattle.span_rows.specs.Answers.{Gives};
+ghost use Rattle.span_algebra.specs.BlockMeaning.{outputs_of, project_block, project_groups};
 
-use super::distinct::distinct;
 use super::group::group_rows;
-use super::row_list::RowList;
 use super::select::select_rows;
 use span_expr::cell::Failure;
 use span_query::query::{Block, BoundQuery, Grouping};
+use span_rows::distinct::distinct;
+use span_rows::row_list::RowList;
 use std::alloc::Global;
 
 /// The select list at the rows of the FROM, or at those of the groups.

@@ -1,14 +1,14 @@
 //! Rows with the groups that they fall into, made where the rows are read, so that several threads can make the groups of their parts.
 ghost use Rattle.std.specs.Prelude.{◌≡◌, IfOk, IfSome, IsTrue, MatchOption, MatchResult, map};
 ghost use Rattle.span_query.specs.Groups as spec;
-ghost use Rattle.span_algebra.specs.Grouped.{AreGroupsOf};
+ghost use Rattle.span_algebra.specs.GroupStates.{AreGroupsOf};
 ghost use Rattle.span_algebra.specs.Parts.{aggregate_of, AreMeasuresOf, HaveGroups};
 
 use super::group::{Group, groups_where};
-use super::row_list::RowList;
 use span_expr::cell::Failure;
 use span_expr::expr::Expr;
 use span_query::query::{Aggregate, Function, Grouping};
+use span_rows::row_list::RowList;
 use std::alloc::{AllocError, Global};
 use std::marker::Model;
 

@@ -4,18 +4,18 @@ ghost use Rattle.span_query.specs.declared.query.Aggregate.{Aggregate};
 ghost use Rattle.span_query.specs.declared.query.Grouping.{Grouping};
 ghost use Rattle.span_query.specs.Rows.{Row};
 ghost use Rattle.span_query.specs.Groups.{group_keys, rows_with};
-ghost use Rattle.span_algebra.specs.Grouped.{keys_of, HasTakenRows, AreGroupsOf};
-ghost use Rattle.span_algebra.specs.Keys.{with_new};
-ghost use Rattle.span_algebra.specs.Merged.{AreWholeGroups, HasGroupAt};
+ghost use Rattle.span_algebra.specs.GroupStates.{keys_of, HasTakenRows, AreGroupsOf};
+ghost use Rattle.span_rows.specs.Keys.{with_new};
+ghost use Rattle.span_algebra.specs.MergedGroups.{AreWholeGroups, HasGroupAt};
 ghost use Rattle.span_algebra.specs.Parts.{all_rows};
 
 use super::group::{Group, first_groups, new_group};
 use super::grouped::GroupedRows;
-use super::key::RowKey;
-use super::row::{add, copy_row};
 use super::states::merge_all;
 use indexmap::IndexSet;
 use span_query::query::{Aggregate, Grouping};
+use span_rows::key::RowKey;
+use span_rows::row::{add, copy_row};
 use span_value::value::Row;
 use std::alloc::{AllocError, Global};
 

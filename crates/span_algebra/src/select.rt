@@ -1,13 +1,13 @@
 //! The select list at the rows where a condition is TRUE.
 ghost use Rattle.std.specs.Prelude.{◌≡◌};
 ghost use Rattle.span_query.specs.Rows.{unless_fault, filter_where, project_rows, values};
-ghost use Rattle.span_algebra.specs.Answers.{Gives, Puts};
+ghost use Rattle.span_rows.specs.Answers.{Gives, Puts};
 ghost use Rattle.span_algebra.specs.Selecting.{holds_where};
 
-use super::row::{add, is_met, value_at};
-use super::row_list::RowList;
 use span_expr::cell::Failure;
 use span_expr::expr::Expr;
+use span_rows::row::{add, is_met, value_at};
+use span_rows::row_list::RowList;
 use span_value::value::Value;
 use std::alloc::Global;
 

@@ -4,16 +4,16 @@ ghost use Rattle.std.specs.Option.{option_copied};
 ghost use Rattle.span_query.specs.Meaning as spec;
 ghost use Rattle.span_query.specs.Groups.{groups};
 ghost use Rattle.span_query.specs.Rows.{Row, unless_fault};
-ghost use Rattle.span_algebra.specs.Answers.{Gives};
+ghost use Rattle.span_rows.specs.Answers.{Gives};
 ghost use Rattle.span_algebra.specs.Parts.{all_rows};
 ghost use Rattle.span_algebra.specs.Sources.{GivesRows, IsGivenBy, source_rows, source_result};
 
 use super::group::rows_of;
 use super::grouped::GroupedRows;
 use super::merge::merge_parts;
-use super::row_list::RowList;
 use span_expr::cell::Failure;
 use span_query::query::Grouping;
+use span_rows::row_list::RowList;
 use std::alloc::{AllocError, Global};
 use std::marker::Model;
 

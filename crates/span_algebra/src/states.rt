@@ -4,13 +4,13 @@ ghost use Rattle.span_expr.specs.declared.cell.Failure.TheVariants.{Fault};
 ghost use Rattle.span_query.specs.declared.query.Aggregate.{Aggregate};
 ghost use Rattle.span_query.specs.Rows.{Row, unless_fault, each};
 ghost use Rattle.span_query.specs.Groups.{aggregate};
-ghost use Rattle.span_algebra.specs.Answers.{Gives};
+ghost use Rattle.span_rows.specs.Answers.{Gives};
 ghost use Rattle.span_algebra.specs.States.{AreStatesOf, CanCountOne, operand_at};
 
 use super::aggregate::State;
-use super::row::add;
 use span_expr::cell::Failure;
 use span_query::query::Aggregate;
+use span_rows::row::add;
 use span_value::seq::Seq;
 use span_value::value::{Row, Value};
 use std::alloc::{AllocError, Global};

@@ -21,8 +21,8 @@ use Rattle.span_expr.specs.Places.{is_in, reads_only, moved, rank}
 use Rattle.span_expr.proofs.Places.{reads_only-wider}
 use Rattle.span_query.specs.Rows.{Row, OrFault, Rows, ◌>>=◌, value_of, is_true, append_results, keep_if, holds, filter_rows, filter_where}
 use Rattle.span_query.proofs.Results.{append_results-nil}
-use Rattle.span_algebra.specs.Answers.{Gives, Adds}
-use Rattle.span_algebra.proofs.Gathering.{nil-append_results, one_adds, one_fails, adding-fails}
+use Rattle.span_rows.specs.Answers.{Gives, Adds}
+use Rattle.span_rows.proofs.Gathering.{nil-append_results, one_adds, one_fails, adding-fails}
 use Rattle.span_planner.specs.declared.leaf.Leaf.{Leaf}
 use Rattle.span_planner.specs.declared.leaf.LeafJoin.{LeafJoin}
 use Rattle.span_planner.specs.Leaves.{width_of}

@@ -1,10 +1,10 @@
 use Rattle.std.proofs.Common.{rules, arith, ◌≡◌, ◌≢◌, ◌∷◌, ◌++◌, ◌<◌, [], sym, subst, List, length}
 use Rattle.span_query.specs.Groups.{columns_at}
 use Rattle.span_algebra.specs.declared.group.Group.{Group}
-use Rattle.span_algebra.specs.Keys.{place_of}
+use Rattle.span_rows.specs.Keys.{place_of}
 use Rattle.span_algebra.specs.States.{AreStatesOf}
-use Rattle.span_algebra.specs.Grouped.{keys_of, HasPlace}
-use Rattle.span_algebra.proofs.Places.{place_most, index_place, index_stays}
+use Rattle.span_algebra.specs.GroupStates.{keys_of, HasPlace}
+use Rattle.span_rows.proofs.Places.{place_most, index_place, index_stays}
 use Rattle.span_algebra.proofs.Absorbed.{key_count, has_place, new_place}
 use Rattle.span_algebra.proofs.group.group_of.Goals as goal
 

@@ -1,5 +1,5 @@
 use Rattle.std.proofs.Common.{◌≡◌}
-use Rattle.span_algebra.specs.Grouped.{keys_of}
+use Rattle.span_algebra.specs.GroupStates.{keys_of}
 use Rattle.span_algebra.proofs.Passes.{HavePassed}
 use Rattle.span_algebra.proofs.group.groups_where.Given as goal
 

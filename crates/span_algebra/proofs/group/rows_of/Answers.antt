@@ -2,8 +2,8 @@ use Rattle.std.proofs.Common.{rules, ◌≡◌, ◌∷◌, ◌+◌, ◌<◌, ◌
 use Rattle.std.proofs.lemmas.List.{drop_all}
 use Rattle.span_query.specs.Rows.{Row, Rows}
 use Rattle.span_query.specs.Groups.{group_row, groups}
-use Rattle.span_algebra.specs.Answers.{Gives}
-use Rattle.span_algebra.proofs.Gathering.{drop_at}
+use Rattle.span_rows.specs.Answers.{Gives}
+use Rattle.span_rows.proofs.Gathering.{drop_at}
 use Rattle.span_algebra.proofs.Shown.{AreShown, groups-shown, gives_row, next_taken, shown_more, shown_fails, shown_all}
 use Rattle.span_algebra.proofs.group.rows_of.Goals as goal
 

@@ -1,7 +1,7 @@
 use Rattle.std.proofs.Common.{List, drop}
 use Rattle.span_query.specs.declared.query.Grouping.{Grouping}
 use Rattle.span_query.specs.Rows.{Row}
-use Rattle.span_algebra.specs.Grouped.{AreGroupsOf}
+use Rattle.span_algebra.specs.GroupStates.{AreGroupsOf}
 use Rattle.span_algebra.proofs.Shown.{AreShown}
 use Rattle.span_algebra.proofs.group.rows_of.Given as goal
 

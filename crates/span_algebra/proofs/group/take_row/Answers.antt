@@ -3,7 +3,7 @@ use Rattle.std.proofs.lemmas.Result.{on_ok_weaker}
 use Rattle.span_query.specs.declared.query.Aggregate.{Aggregate}
 use Rattle.span_algebra.specs.declared.group.Group.{Group}
 use Rattle.span_algebra.specs.States.{CanCountOne}
-use Rattle.span_algebra.specs.Grouped.{keys_of, HasPlace}
+use Rattle.span_algebra.specs.GroupStates.{keys_of, HasPlace}
 use Rattle.span_algebra.proofs.Absorbed.{TakesRow, keys-same, has_room, absorbed}
 use Rattle.span_algebra.proofs.group.take_row.Goals as goal
 

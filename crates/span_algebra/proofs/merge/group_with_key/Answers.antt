@@ -1,12 +1,12 @@
 use Rattle.std.proofs.Common.{rules, arith, ◌≡◌, ◌≢◌, ◌∷◌, ◌++◌, ◌<◌, [], sym, subst, List, length}
 use Rattle.span_query.specs.declared.query.Aggregate.{Aggregate}
 use Rattle.span_algebra.specs.declared.group.Group.{Group}
-use Rattle.span_algebra.specs.Keys.{place_of}
+use Rattle.span_rows.specs.Keys.{place_of}
 use Rattle.span_algebra.specs.States.{AreStatesOf}
-use Rattle.span_algebra.specs.Grouped.{keys_of}
-use Rattle.span_algebra.specs.Merged.{HasGroupAt}
+use Rattle.span_algebra.specs.GroupStates.{keys_of}
+use Rattle.span_algebra.specs.MergedGroups.{HasGroupAt}
 use Rattle.span_algebra.proofs.Absorbed.{key_count}
-use Rattle.span_algebra.proofs.Places.{place_most, index_place, index_stays}
+use Rattle.span_rows.proofs.Places.{place_most, index_place, index_stays}
 use Rattle.span_algebra.proofs.MergedGroups.{has_group, new_group_at}
 use Rattle.span_algebra.proofs.merge.group_with_key.Goals as goal
 

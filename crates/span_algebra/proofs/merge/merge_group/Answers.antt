@@ -4,7 +4,7 @@ use Rattle.span_query.specs.Rows.{Row}
 use Rattle.span_algebra.specs.declared.group.Group.{Group}
 use Rattle.span_algebra.specs.declared.aggregate.State.{State}
 use Rattle.span_algebra.specs.States.{AreStatesOf}
-use Rattle.span_algebra.specs.Merged.{HasGroupAt}
+use Rattle.span_algebra.specs.MergedGroups.{HasGroupAt}
 use Rattle.span_algebra.proofs.MergedGroups.{group_merged, keys_kept, on_ok_always}
 use Rattle.span_algebra.proofs.merge.merge_group.Goals as goal
 

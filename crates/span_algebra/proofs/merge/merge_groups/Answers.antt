@@ -2,7 +2,7 @@ use Rattle.std.proofs.Common.{rules, ◌≡◌, ◌∷◌, ◌++◌, ◌+◌, �
 use Rattle.std.proofs.lemmas.List.{take_more}
 use Rattle.span_query.specs.Rows.{Row}
 use Rattle.span_algebra.specs.declared.group.Group.{Group}
-use Rattle.span_algebra.specs.Grouped.{keys_of, HasTakenRows}
+use Rattle.span_algebra.specs.GroupStates.{keys_of, HasTakenRows}
 use Rattle.span_algebra.proofs.Absorbed.{key_at, key_count}
 use Rattle.span_algebra.proofs.MergedGroups.{merged_first, merged_more, merged_all}
 use Rattle.span_algebra.proofs.merge.merge_groups.Goals as goal

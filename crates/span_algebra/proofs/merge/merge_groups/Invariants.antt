@@ -1,7 +1,7 @@
 use Rattle.std.proofs.Common.{◌≡◌, List}
 use Rattle.span_query.specs.declared.query.Grouping.{Grouping}
 use Rattle.span_query.specs.Rows.{Row}
-use Rattle.span_algebra.specs.Grouped.{keys_of, AreGroupsOf}
+use Rattle.span_algebra.specs.GroupStates.{keys_of, AreGroupsOf}
 use Rattle.span_algebra.proofs.MergedGroups.{AreMergedTo}
 use Rattle.span_algebra.proofs.merge.merge_groups.Given as goal
 

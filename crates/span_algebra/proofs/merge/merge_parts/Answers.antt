@@ -1,6 +1,6 @@
 use Rattle.std.proofs.Common.{rules, ◌≡◌, ◌++◌, ◌<◌, ◌≤◌, IsTrue, List, length, get_or, take, sym, subst}
 use Rattle.span_query.specs.Rows.{Row}
-use Rattle.span_algebra.specs.Grouped.{AreGroupsOf}
+use Rattle.span_algebra.specs.GroupStates.{AreGroupsOf}
 use Rattle.span_algebra.specs.Parts.{all_rows}
 use Rattle.span_algebra.proofs.Parting.{rows_more, rows_all}
 use Rattle.span_algebra.proofs.merge.merge_parts.Goals as goal

@@ -1,5 +1,5 @@
 use Rattle.std.proofs.Common.{◌≡◌, take}
-use Rattle.span_algebra.specs.Grouped.{keys_of, AreGroupsOf}
+use Rattle.span_algebra.specs.GroupStates.{keys_of, AreGroupsOf}
 use Rattle.span_algebra.specs.Parts.{all_rows}
 use Rattle.span_algebra.proofs.merge.merge_parts.Given as goal
 

@@ -1,6 +1,0 @@
-use Rattle.std.proofs.Common.{◌≡◌, drop}
-use Rattle.span_query.specs.Groups.{are_equal}
-use Rattle.span_algebra.proofs.distinct.are_equal.Given as goal
-
-abbrev pub invariant-loop-at : goal.invariant-loop-at
-invariant-loop-at l = are_equal l.left l.right ≡ are_equal (drop l.at l.left) (drop l.at l.right)

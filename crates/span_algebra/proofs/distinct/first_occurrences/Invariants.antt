@@ -1,6 +1,0 @@
-use Rattle.std.proofs.Common.{◌≡◌, take}
-use Rattle.span_query.specs.Groups.{distinct}
-use Rattle.span_algebra.proofs.distinct.first_occurrences.Given as goal
-
-abbrev pub invariant-loop-at : goal.invariant-loop-at
-invariant-loop-at l = l.seen.keys ≡ distinct (take l.at l.rows)

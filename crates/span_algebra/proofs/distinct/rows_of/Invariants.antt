@@ -1,6 +1,0 @@
-use Rattle.std.proofs.Common.{◌≡◌, ◌++◌}
-use Rattle.span_algebra.proofs.distinct.rows_of.Given as goal
-
--- the rows so far, and those that are left
-abbrev pub invariant-loop-key : goal.invariant-loop-key
-invariant-loop-key l = l.rows ++ l.key-iterator ≡ l.fn.seen.keys

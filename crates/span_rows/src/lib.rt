@@ -1,0 +1,12 @@
+//! Lists of rows: conditions at rows, joins, filters, each row once, and rows in order.
+#![tactic(auto)]
+
+mod candidates;
+pub mod distinct;
+pub mod filter;
+mod first_rows;
+pub mod join;
+pub mod key;
+pub mod row;
+pub mod row_list;
+pub mod sort;

@@ -1,0 +1,233 @@
+//! Rows: conditions at them, and rows made of others.
+ghost use Rattle.std.specs.Prelude.{◌≡◌, ◌<◌, ◌+◌, ◌++◌, ◌∷◌, [], false, Some, IfOk, IfSome, OnOk, OnErr, length, map, replicate, take, vec_len, vec_capacity};
+ghost use Rattle.span_query.specs.Rows.{holds, value_of};
+ghost use Rattle.span_value.specs.declared.truth.Outcome.TheVariants.{Val};
+ghost use Rattle.span_value.specs.declared.value.Value.TheVariants as value;
+ghost use Rattle.span_expr.specs.Cells as cells;
+ghost use Rattle.span_expr.specs.Meaning.{all_of, val};
+ghost use Rattle.span_expr.specs.Memory.{has_concatenation, RunsOutOnlyIf};
+ghost use Rattle.span_expr.specs.Operators as operators;
+ghost use Rattle.span_expr.specs.Outcomes.{is_null};
+ghost use Rattle.span_rows.specs.Answers.{Gives};
+
+use span_expr::cell::{Failure, LentValue, column_of};
+use span_expr::eval::evaluate;
+use span_expr::expr::{Comparison, Expr};
+use span_value::order::compare;
+use span_value::seq::Seq;
+use span_value::truth::Truth;
+use span_value::value::{Row, Value};
+use std::alloc::{AllocError, Global};
+use std::cmp::Ordering;
+
+/// What an expression comes to at a row, lent where it lies there or in the expression. A column is read with no walk over an
+/// expression's tree. The error is an arithmetic error, or out of memory where the expression has a `||`.
+pub fn operand_value<'a>(
+    alloc: Global,
+    expr: &'a Expr,
+    row: &'a [Value],
+) -> Result<LentValue<'a>, Failure>
+    ensures value { cells.Gives result (val row.now expr.now) }
+    ensures memory { RunsOutOnlyIf result (has_concatenation expr.now) }
+{
+    match expr {
+        Expr::Column(place) => Ok(column_of(row, *place)),
+        _ => evaluate(alloc, expr, row),
+    }
+}
+
+fn is_order_met(comparison: Comparison, order: Ordering) -> bool
+    ensures { result ≡ operators.holds comparison order }
+{
+    match comparison {
+        Comparison::Equal => order.is_eq(),
+        Comparison::NotEqual => !order.is_eq(),
+        Comparison::Less => order.is_lt(),
+        Comparison::AtMost => !order.is_gt(),
+        Comparison::Greater => order.is_gt(),
+        Comparison::AtLeast => !order.is_lt(),
+    }
+}
+
+/// A value, where it is not NULL.
+fn non_null(value: &Value) -> Option<&Value>
+    ensures { IfSome result (λ known. (known.now ≡ value.now) × (is_null known.now ≡ false)) }
+{
+    match value {
+        Value::Null => None,
+        _ => Some(value),
+    }
+}
+
+/// The value of a column of a row, where it is not NULL.
+fn non_null_at(row: &[Value], place: usize) -> Option<&Value>
+    ensures { IfSome result (λ known. (operators.column_of row.now place ≡ known.now) × (is_null known.now ≡ false)) }
+{
+    match row.get(place) {
+        None | Some(Value::Null) => None,
+        Some(value) => Some(value),
+    }
+}
+
+/// The same of a row that lies in two parts.
+#[tactic(auto, using(crate::proofs::Skipping::left_column, crate::proofs::Skipping::from_front))]
+fn known_in<'a>(left: &'a [Value], right: &'a [Value], place: usize) -> Option<&'a Value>
+    ensures { IfSome result
+        (λ known. (operators.column_of (left.now ++ right.now) place ≡ known.now) × (is_null known.now ≡ false)) }
+{
+    if place < left.len() {
+        non_null_at(left, place)
+    } else {
+        non_null_at(right, place - left.len())
+    }
+}
+
+/// The value of a column of a row in two parts or of a literal, where it is not NULL. None for another expression.
+fn known_operand<'a>(expr: &'a Expr, left: &'a [Value], right: &'a [Value]) -> Option<&'a Value>
+    ensures { IfSome result
+        (λ known. (val (left.now ++ right.now) expr.now ≡ Val known.now) × (is_null known.now ≡ false)) }
+{
+    match expr {
+        Expr::Column(place) => known_in(left, right, *place),
+        Expr::Literal(value) => non_null(value),
+        _ => None,
+    }
+}
+
+/// Whether a comparison of columns and literals is TRUE at a row in two parts. None where the condition has another form, or an operand is
+/// NULL.
+fn is_comparison_met(condition: &Expr, left: &[Value], right: &[Value]) -> Option<bool>
+    ensures { IfSome result (λ met. val (left.now ++ right.now) condition.now ≡ Val (value.Bool met)) }
+{
+    let Expr::Compare(first, comparison, second) = condition else {
+        return None;
+    };
+    let first = known_operand(first.get(), left, right)?;
+    let second = known_operand(second.get(), left, right)?;
+    Some(is_order_met(*comparison, compare(first, second)))
+}
+
+/// Whether such comparisons are all TRUE at the row.
+fn are_all_met(first: &Expr, more: &[Expr], left: &[Value], right: &[Value]) -> Option<bool>
+    ensures { IfSome result
+        (λ met. all_of (val (left.now ++ right.now) first.now) (map (val (left.now ++ right.now)) more.now) ≡ Val (value.Bool met)) }
+{
+    let mut all = is_comparison_met(first, left, right)?;
+    for condition in more {
+        let met = is_comparison_met(condition, left, right)?;
+        all = all && met;
+    }
+    Some(all)
+}
+
+/// Whether a comparison, or an AND of some, is TRUE at a row in two parts, which is not put together.
+pub(crate) fn are_comparisons_met(condition: &Expr, left: &[Value], right: &[Value]) -> Option<bool>
+    ensures { IfSome result (λ met. val (left.now ++ right.now) condition.now ≡ Val (value.Bool met)) }
+{
+    match condition {
+        Expr::And(first, more) => are_all_met(first.get(), more.as_slice(), left, right),
+        _ => is_comparison_met(condition, left, right),
+    }
+}
+
+/// Whether the condition is TRUE at the row, by a walk over its tree.
+pub(crate) fn is_true(alloc: Global, condition: &Expr, row: &[Value]) -> Result<bool, Failure>
+    ensures holds { Gives result (holds condition.now row.now) }
+    ensures memory { RunsOutOnlyIf result (has_concatenation condition.now) }
+{
+    Ok(evaluate(alloc, condition, row)?.truth() == Truth::True)
+}
+
+/// Whether the condition is TRUE at the row. Comparisons of columns and literals take no walk over the tree. The error is an
+/// arithmetic error, or out of memory where the condition has a `||`.
+pub fn is_met(alloc: Global, condition: &Expr, row: &[Value]) -> Result<bool, Failure>
+    ensures holds { Gives result (holds condition.now row.now) }
+    ensures memory { RunsOutOnlyIf result (has_concatenation condition.now) }
+{
+    if let Some(met) = are_comparisons_met(condition, row, &[]) {
+        return Ok(met);
+    }
+    is_true(alloc, condition, row)
+}
+
+/// The value of an expression at the row, the caller's own. The error is an arithmetic error, or out of memory.
+pub fn value_at(alloc: Global, expr: &Expr, row: &[Value]) -> Result<Value, Failure>
+    ensures { Gives result (value_of (val row.now expr.now)) }
+{
+    match evaluate(alloc, expr, row)?.into_value(alloc) {
+        Ok(value) => Ok(value),
+        Err(_) => Err(Failure::OutOfMemory),
+    }
+}
+
+/// Adds an item at the end. The only error is out of memory.
+pub fn add<T: Drop>(items: &mut Vec<T>, item: T) -> Result<(), AllocError>
+    ensures { OnOk result (items.new.items ≡ items.old.items ++ item ∷ []) }
+{
+    items.push(item)?;
+    Ok(())
+}
+
+/// A copy of the value. The only error is out of memory.
+pub fn copy_of(alloc: Global, value: &Value) -> Result<Value, AllocError>
+    ensures { IfOk result (λ copy. copy ≡ value.now) }
+{
+    match value.copy(alloc) {
+        Ok(copy) => Ok(copy),
+        Err(_) => Err(AllocError),
+    }
+}
+
+/// Adds a copy of a value at the end, where it has capacity for it. What owns no memory is copied without a call. An error leaves the
+/// values as they were.
+fn add_copy(alloc: Global, row: &mut Vec<Value>, value: &Value) -> Result<(), AllocError>
+    requires { vec_len row.old < vec_capacity row.old }
+    ensures ok { OnOk result (row.new.items ≡ row.old.items ++ value.now ∷ []) }
+    ensures err { OnErr result (row.new.items ≡ row.old.items) }
+    ensures len { OnOk result (vec_len row.new ≡ vec_len row.old + 1) }
+    ensures capacity { vec_capacity row.new ≡ vec_capacity row.old }
+{
+    match value {
+        Value::Null => row.push_reserved(Value::Null),
+        Value::Int(n) => row.push_reserved(Value::Int(*n)),
+        Value::Bool(b) => row.push_reserved(Value::Bool(*b)),
+        _ => row.push_reserved(copy_of(alloc, value)?),
+    }
+    Ok(())
+}
+
+/// Adds copies of values at the end. An error leaves some of them added.
+pub(crate) fn extend_row(
+    alloc: Global,
+    row: &mut Vec<Value>,
+    more: &[Value],
+) -> Result<(), AllocError>
+    ensures ok { OnOk result (row.new.items ≡ row.old.items ++ more.now) }
+    ensures kept { take (length row.old.items) row.new.items ≡ row.old.items }
+{
+    row.reserve(more.len())?;
+    for value in more {
+        add_copy(alloc, row, value)?;
+    }
+    Ok(())
+}
+
+/// A copy of the row, in a vector of its own. The only error is out of memory.
+pub fn copy_row(alloc: Global, row: &[Value]) -> Result<Row, AllocError>
+    ensures { IfOk result (λ copy. copy ≡ row.now) }
+{
+    let mut copy = Vec::with_capacity(alloc, row.len())?;
+    extend_row(alloc, &mut copy, row)?;
+    Ok(Seq::from_vec(copy))
+}
+
+/// Adds `width` NULLs at the end.
+#[tactic(auto, using(crate::proofs::Gathering::row_steps))]
+pub(crate) fn pad_row(row: &mut Vec<Value>, width: usize) -> Result<(), AllocError>
+    ensures { OnOk result (row.new.items ≡ row.old.items ++ replicate width Value.Null) }
+{
+    for _ in 0..width {
+        row.push(Value::Null)?;
+    }
+    Ok(())
+}

@@ -1,0 +1,295 @@
+//! Rows in one buffer: no row has an allocation of its own.
+ghost use Rattle.std.specs.Prelude.{◌≡◌, ◌==◌, ◌<◌, ◌≤◌, ◌-◌, ◌++◌, ◌∷◌, [], IfOk, OnOk, OnErr, drop, length, slice_index_or, take};
+ghost use Rattle.span_rows.specs.Cuts.{AreEnds, cut_at, shift, start_at};
+ghost use Rattle.span_rows.specs.LentRows.{lent_rows};
+
+use super::row::{copy_row, extend_row};
+use span_value::seq::Seq;
+use span_value::value::{Row, Value};
+use std::alloc::{AllocError, Global};
+use std::marker::Model;
+
+/// Rows. Contracts see them as a list.
+#[derive(Debug, Drop)]
+pub struct RowList {
+    /// The values of all rows, row by row.
+    values: Vec<Value>,
+    /// For each row the place after its last value.
+    ends: Vec<usize>,
+}
+
+impl Model for RowList {
+    ghost use Rattle.std.specs.Prelude.{List, length};
+    ghost use Rattle.span_query.specs.Rows.{Row};
+    ghost use Rattle.span_rows.specs.Cuts.{cut_at, AreEnds};
+
+    ghost Value = { List Row };
+
+    ghost view = { λ a. cut_at 0 a.ends.items a.values.items };
+
+    ghost invariant = { λ a. AreEnds 0 a.ends.items (length a.values.items) };
+}
+
+impl RowList {
+    /// No rows. It takes no memory.
+    pub fn new(alloc: Global) -> RowList
+        ensures { result ≡ [] }
+    {
+        RowList {
+            values: Vec::new(alloc),
+            ends: Vec::new(alloc),
+        }
+    }
+
+    /// The number of rows.
+    #[tactic(auto, using(crate::proofs::Cutting::cut_count))]
+    pub fn len(&self) -> usize
+        ensures { result ≡ length self.now }
+    {
+        self.ends.len()
+    }
+
+    /// Whether there are no rows.
+    #[tactic(auto, using(crate::proofs::Cutting::cut_count))]
+    pub fn is_empty(&self) -> bool
+        ensures { result ≡ (length self.now == 0) }
+    {
+        self.ends.is_empty()
+    }
+
+    /// The row at a place.
+    #[tactic(auto, using(crate::proofs::Cutting::cut_count))]
+    pub fn row(&self, at: usize) -> &[Value]
+        requires { at < length self.now }
+        ensures { result.now ≡ slice_index_or self.now at result.now }
+    {
+        row_at(self.values.as_slice(), self.ends.as_slice(), at)
+    }
+
+    /// Adds a row, whose values are moved. An error leaves the rows and the values as they were.
+    pub fn push(&mut self, row: &mut Vec<Value>) -> Result<(), AllocError>
+        ensures ok { OnOk result (self.new ≡ self.old ++ row.old.items ∷ []) }
+        ensures err { OnErr result (self.new ≡ self.old) }
+        ensures moved { OnOk result (row.new.items ≡ []) }
+        ensures kept { OnErr result (row.new.items ≡ row.old.items) }
+    {
+        push_values(&mut self.values, &mut self.ends, row)
+    }
+
+    /// Adds a row, whose values are moved. The only error is out of memory; it leaves the rows as they were.
+    pub fn push_row(&mut self, row: Row) -> Result<(), AllocError>
+        ensures { OnOk result (self.new ≡ self.old ++ row ∷ []) }
+    {
+        let mut values = row.into_vec();
+        self.push(&mut values)
+    }
+
+    /// Adds a copy of a row. An error leaves the rows as they were.
+    pub fn push_copy(&mut self, alloc: Global, row: &[Value]) -> Result<(), AllocError>
+        ensures ok { OnOk result (self.new ≡ self.old ++ row.now ∷ []) }
+        ensures err { OnErr result (self.new ≡ self.old) }
+    {
+        self.push_pair(alloc, row, &[])
+    }
+
+    /// Adds a row whose values are copies of those of two rows. An error leaves the rows as they were.
+    pub fn push_pair(
+        &mut self,
+        alloc: Global,
+        left: &[Value],
+        right: &[Value],
+    ) -> Result<(), AllocError>
+        ensures ok { OnOk result (self.new ≡ self.old ++ (left.now ++ right.now) ∷ []) }
+        ensures err { OnErr result (self.new ≡ self.old) }
+    {
+        push_copies(alloc, &mut self.values, &mut self.ends, left, right)
+    }
+
+    /// Copies of the rows, each in a vector of its own.
+    pub fn to_rows(&self, alloc: Global) -> Result<Seq<Row>, AllocError>
+        ensures { IfOk result (λ rows. rows ≡ self.now) }
+    {
+        let mut rows = Vec::with_capacity(alloc, self.len())?;
+        for at in 0..self.len() {
+            rows.push(copy_row(alloc, self.row(at))?)?;
+        }
+        Ok(Seq::from_vec(rows))
+    }
+
+    /// Adds rows. An error leaves the rows as they were.
+    pub fn append(&mut self, more: RowList) -> Result<(), AllocError>
+        ensures ok { OnOk result (self.new ≡ self.old ++ more) }
+        ensures err { OnErr result (self.new ≡ self.old) }
+    {
+        let RowList { mut values, ends } = more;
+        append_parts(
+            &mut self.values,
+            &mut self.ends,
+            &mut values,
+            ends.as_slice(),
+        )
+    }
+}
+
+/// The rows of a list, each lent, in their order. The only error is out of memory.
+pub fn lent_rows(alloc: Global, rows: &RowList) -> Result<Vec<&[Value]>, AllocError>
+    ensures { IfOk result (λ all. lent_rows all.items ≡ rows.now) }
+{
+    let mut all = Vec::with_capacity(alloc, rows.len())?;
+    for at in 0..rows.len() {
+        all.push(rows.row(at))?;
+    }
+    Ok(all)
+}
+
+/// The place of the first value of a row.
+#[tactic(auto, using(crate::proofs::Cutting::start_after))]
+fn start_of(ends: &[usize], at: usize) -> usize
+    requires { at ≤ length ends.now }
+    ensures { result ≡ start_at 0 ends.now at }
+{
+    if at == 0 { 0 } else { ends[at - 1] }
+}
+
+fn part(values: &[Value], start: usize, end: usize) -> &[Value]
+    requires start { start ≤ end }
+    requires end { end ≤ length values.now }
+    ensures { result.now ≡ take (end - start) (drop start values.now) }
+{
+    &values[start..end]
+}
+
+#[tactic(auto, using(crate::proofs::Cutting::start_within, crate::proofs::Cutting::end_within, crate::proofs::Cutting::one_cut))]
+fn row_at<'a>(values: &'a [Value], ends: &[usize], at: usize) -> &'a [Value]
+    requires within { at < length ends.now }
+    requires ends { AreEnds 0 ends.now (length values.now) }
+    ensures { result.now ≡ slice_index_or (cut_at 0 ends.now values.now) at result.now }
+{
+    part(values, start_of(ends, at), ends[at])
+}
+
+/// Adds a row, whose values are moved. An error leaves all as it was.
+#[tactic(auto, using(crate::proofs::Cutting::whole_more, crate::proofs::Cutting::rows_more))]
+fn push_values(
+    values: &mut Vec<Value>,
+    ends: &mut Vec<usize>,
+    row: &mut Vec<Value>,
+) -> Result<(), AllocError>
+    requires { AreEnds 0 ends.old.items (length values.old.items) }
+    ensures whole { AreEnds 0 ends.new.items (length values.new.items) }
+    ensures ok { OnOk result
+        (cut_at 0 ends.new.items values.new.items ≡ cut_at 0 ends.old.items values.old.items ++ row.old.items ∷ []) }
+    ensures err { OnErr result (cut_at 0 ends.new.items values.new.items ≡ cut_at 0 ends.old.items values.old.items) }
+    ensures moved { OnOk result (row.new.items ≡ []) }
+    ensures kept { OnErr result (row.new.items ≡ row.old.items) }
+{
+    ends.reserve(1)?;
+    values.append(row)?;
+    ends.push(values.len()).unwrap();
+    Ok(())
+}
+
+/// Adds copies of the values of two rows. An error leaves some of them added.
+#[tactic(auto, using(crate::proofs::Cutting::kept_before, crate::proofs::Cutting::both_added))]
+fn extend_pair(
+    alloc: Global,
+    values: &mut Vec<Value>,
+    left: &[Value],
+    right: &[Value],
+) -> Result<(), AllocError>
+    ensures ok { OnOk result (values.new.items ≡ values.old.items ++ (left.now ++ right.now)) }
+    ensures kept { take (length values.old.items) values.new.items ≡ values.old.items }
+{
+    extend_row(alloc, values, left)?;
+    extend_row(alloc, values, right)?;
+    Ok(())
+}
+
+/// Adds copies of the values of two rows. An error leaves the values as they were.
+fn add_pair(
+    alloc: Global,
+    values: &mut Vec<Value>,
+    left: &[Value],
+    right: &[Value],
+) -> Result<(), AllocError>
+    ensures ok { OnOk result (values.new.items ≡ values.old.items ++ (left.now ++ right.now)) }
+    ensures err { OnErr result (values.new.items ≡ values.old.items) }
+{
+    let kept = values.len();
+    match extend_pair(alloc, values, left, right) {
+        Ok(()) => Ok(()),
+        Err(why) => {
+            values.truncate(kept);
+            Err(why)
+        }
+    }
+}
+
+/// Adds a row that is a copy of two. An error leaves the rows as they were.
+#[tactic(auto, using(crate::proofs::Cutting::whole_more, crate::proofs::Cutting::rows_more))]
+fn push_copies(
+    alloc: Global,
+    values: &mut Vec<Value>,
+    ends: &mut Vec<usize>,
+    left: &[Value],
+    right: &[Value],
+) -> Result<(), AllocError>
+    requires { AreEnds 0 ends.old.items (length values.old.items) }
+    ensures whole { AreEnds 0 ends.new.items (length values.new.items) }
+    ensures ok { OnOk result
+        (cut_at 0 ends.new.items values.new.items ≡ cut_at 0 ends.old.items values.old.items ++ (left.now ++ right.now) ∷ []) }
+    ensures err { OnErr result (cut_at 0 ends.new.items values.new.items ≡ cut_at 0 ends.old.items values.old.items) }
+{
+    ends.reserve(1)?;
+    add_pair(alloc, values, left, right)?;
+    ends.push(values.len()).unwrap();
+    Ok(())
+}
+
+/// Adds ends after a number of values more. An error leaves some of them added.
+fn add_ends(ends: &mut Vec<usize>, offset: usize, more: &[usize]) -> Result<(), AllocError>
+    ensures ok { OnOk result (ends.new.items ≡ ends.old.items ++ shift offset more.now) }
+    ensures kept { take (length ends.old.items) ends.new.items ≡ ends.old.items }
+{
+    for end in more {
+        ends.push(offset.checked_add(*end).ok_or(AllocError)?)?;
+    }
+    Ok(())
+}
+
+/// Adds ends after a number of values more. An error leaves the ends as they were.
+fn append_ends(ends: &mut Vec<usize>, offset: usize, more: &[usize]) -> Result<(), AllocError>
+    ensures ok { OnOk result (ends.new.items ≡ ends.old.items ++ shift offset more.now) }
+    ensures err { OnErr result (ends.new.items ≡ ends.old.items) }
+{
+    let kept = ends.len();
+    match add_ends(ends, offset, more) {
+        Ok(()) => Ok(()),
+        Err(why) => {
+            ends.truncate(kept);
+            Err(why)
+        }
+    }
+}
+
+/// Adds rows, whose values are moved. An error leaves the rows as they were.
+#[tactic(auto, using(crate::proofs::Cutting::whole_joined, crate::proofs::Cutting::cut_joined))]
+fn append_parts(
+    values: &mut Vec<Value>,
+    ends: &mut Vec<usize>,
+    more: &mut Vec<Value>,
+    more_ends: &[usize],
+) -> Result<(), AllocError>
+    requires ends { AreEnds 0 ends.old.items (length values.old.items) }
+    requires more { AreEnds 0 more_ends.now (length more.old.items) }
+    ensures whole { AreEnds 0 ends.new.items (length values.new.items) }
+    ensures ok { OnOk result
+        (cut_at 0 ends.new.items values.new.items
+        ≡ cut_at 0 ends.old.items values.old.items ++ cut_at 0 more_ends.now more.old.items) }
+    ensures err { OnErr result (cut_at 0 ends.new.items values.new.items ≡ cut_at 0 ends.old.items values.old.items) }
+{
+    values.reserve(more.len())?;
+    append_ends(ends, values.len(), more_ends)?;
+    values.append(more).unwrap();
+    Ok(())
+}
