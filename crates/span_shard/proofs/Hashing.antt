@@ -1,5 +1,5 @@
 -- Rows by hash, as a list in the order of their keys: what is at a key, and the same rows in another order.
-use Rattle.std.proofs.Common.{◌≡◌, ℕ, Bool, true, false, cond, List, [], ◌∷◌, ◌++◌, Option, Some, None, is_none, IsPermutation, refl, sym, ap, subst, ◌∙◌, append_assoc}
+use Rattle.std.proofs.Common.{◌≡◌, ℕ, Bool, true, false, cond, List, [], ◌∷◌, ◌++◌, Option, Some, None, is_none, is_some, not, IfSome, IfNone, IsPermutation, refl, sym, ap, subst, ◌∙◌, append_assoc}
 use Rattle.std.specs.List.{IsDistinct}
 use Rattle.std.specs.List.Sorted.{IsStrictlySortedBy}
 use Rattle.std.specs.Ordering.{is_eq, ordering_reverse, match_ordering}
@@ -19,7 +19,7 @@ use Rattle.span_shard.specs.Made.{AreInKeyOrder, HaveDistinctKeys, HasSameRows, 
 use Rattle.span_shard.proofs.Bytes.{bytes_total, same_bytes, bytes_same}
 use Rattle.span_shard.proofs.Lists.{all_map}
 use Rattle.span_shard.proofs.Overlays.{Made, turned}
-use Rattle.span_shard.proofs.MadeRows.{order_apart, after_none, not_same, back_all, front_all, not_in_first, not_in_second}
+use Rattle.span_shard.proofs.MadeRows.{order_apart, after_none, not_same, back_all, front_all, both_all, not_in_first, not_in_second}
 
 -- ---- a row is put into a list in the order of the keys
 
@@ -115,8 +115,14 @@ pub hashed_set : (old new : Made) (key : List ℕ) (o : Option (List ℕ)) → (
 hashed_set old new key o set k = order_at new k ∙ set k ∙ ap (λ (p : Option (List ℕ)). cond (is_same key k) o p) (sym (order_at old k))
 
 -- whether there was none
-pub hashed_absent : (old : Made) (key : List ℕ) (o : Option (List ℕ)) → o ≡ made_at old key → is_none o ≡ is_none (made_at (in_key_order old) key)
-hashed_absent old key o is = ap (λ (p : Option (List ℕ)). is_none p) (is ∙ sym (order_at old key))
+pub hashed_absent : (old : Made) (key : List ℕ) (o : Option (List ℕ)) (b : Bool) → o ≡ made_at old key → is_some o ≡ not b → b ≡ is_none (made_at (in_key_order old) key)
+hashed_absent old key o b is none = cases o b none ∙ ap (λ (p : Option (List ℕ)). is_none p) (is ∙ sym (order_at old key))
+  where
+    cases : (p : Option (List ℕ)) (c : Bool) → is_some p ≡ not c → c ≡ is_none p
+    cases None true e = refl
+    cases None false e = absurd (let f : false ≡ true = e in cc)
+    cases (Some row) true e = absurd (let f : true ≡ false = e in cc)
+    cases (Some row) false e = refl
 
 -- ---- a list moves to the index by hash
 
@@ -175,6 +181,26 @@ last_none (e ∷ made) key row distinct =
 
 pub less_distinct : (map tail rest last : Made) → HaveDistinctKeys (map ++ tail) → tail ≡ rest ++ last → HaveDistinctKeys (map ++ rest)
 less_distinct map tail rest last distinct is = front_distinct (map ++ rest) last (subst HaveDistinctKeys (ap (λ (l : Made). map ++ l) is ∙ sym (append_assoc map rest last)) distinct)
+
+back_distinct : (made last : Made) → HaveDistinctKeys (made ++ last) → HaveDistinctKeys last
+unfolding IsDistinct
+back_distinct [] last distinct = distinct
+back_distinct (e ∷ made) last distinct = back_distinct made last distinct.1
+
+middle_distinct : (rest middle list : Made) → HaveDistinctKeys ((rest ++ middle) ++ list) → HaveDistinctKeys (rest ++ list)
+unfolding IsDistinct
+middle_distinct [] middle list distinct = back_distinct middle list distinct
+middle_distinct (e ∷ rest) middle list distinct = (
+  both_all (λ (k : List ℕ). is_same e.0 k ≡ false) rest list
+  (front_all (λ (k : List ℕ). is_same e.0 k ≡ false) rest middle (front_all (λ (k : List ℕ). is_same e.0 k ≡ false) (rest ++ middle) list distinct.0))
+  (back_all (λ (k : List ℕ). is_same e.0 k ≡ false) (rest ++ middle) list distinct.0),
+  middle_distinct rest middle list distinct.1,
+)
+
+-- so too where it was the last of a map that is before a list
+pub less_map : (map rest list : Made) (last : Option (List ℕ × List ℕ)) → HaveDistinctKeys (map ++ list) → IfSome last (λ e. map ≡ rest ++ e ∷ []) → IfNone last (rest ≡ map) → HaveDistinctKeys (rest ++ list)
+less_map map rest list (Some e) distinct some none = middle_distinct rest (e ∷ []) list (subst (λ (l : Made). HaveDistinctKeys (l ++ list)) some distinct)
+less_map map rest list None distinct some none = subst (λ (l : Made). HaveDistinctKeys (l ++ list)) (sym none) distinct
 
 -- it was at its key
 last_at : (rest : Made) (key row : List ℕ) → HaveDistinctKeys (rest ++ (key, row) ∷ []) → made_at (rest ++ (key, row) ∷ []) key ≡ Some row

@@ -60,7 +60,7 @@ pub back_all : (P : List ℕ → Type 0) (ps qs : Made) → AllByRecursion P (ke
 back_all P [] qs h = h
 back_all P (e ∷ ps) qs h = back_all P ps qs h.1
 
-both_all : (P : List ℕ → Type 0) (ps qs : Made) → AllByRecursion P (keys_of ps) → AllByRecursion P (keys_of qs) → AllByRecursion P (keys_of (ps ++ qs))
+pub both_all : (P : List ℕ → Type 0) (ps qs : Made) → AllByRecursion P (keys_of ps) → AllByRecursion P (keys_of qs) → AllByRecursion P (keys_of (ps ++ qs))
 both_all P [] qs h g = g
 both_all P (e ∷ ps) qs h g = (h.0, both_all P ps qs h.1 g)
 
@@ -292,6 +292,12 @@ moved_next whole map next left rest key row order parts is put =
     let after : IsAfterAll key map =
     all_map (λ (k : List ℕ). IsBeforeAll k ((key, row) ∷ rest)) (λ (k : List ℕ). byte_order k key ≡ Less) (λ k h. h.0) (keys_of map) (order_apart map ((key, row) ∷ rest) ordered) in
     ap (λ (l : Made). l ++ rest) (put ∙ insert_end map key row after) ∙ append_assoc map ((key, row) ∷ []) rest ∙ ap (λ (l : Made). map ++ l) (sym is) ∙ parts
+
+-- ---- the second list is taken out
+
+pub first_order : (map tail rest : Made) → AreInKeyOrder (map ++ tail) → rest ≡ [] → AreInKeyOrder (map ++ rest)
+first_order map tail rest order none =
+    subst (λ (l : Made). AreInKeyOrder (map ++ l)) (sym none) (order_front (map ++ []) tail (subst AreInKeyOrder (sym (append_assoc map [] tail)) order))
 
 -- ---- a search in one list
 

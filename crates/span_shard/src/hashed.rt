@@ -1,8 +1,8 @@
 //! Rows that mutations made, by a hash of their keys.
-ghost use Rattle.std.specs.Prelude.{◌≡◌, ◌×◌, is_none, IfOk, OnOk, None, Some};
+ghost use Rattle.std.specs.Prelude.{◌≡◌, is_none, IfOk, OnOk, None, Some};
 ghost use Rattle.std.specs.Option.{option_copied};
-ghost use Rattle.span_shard.specs.Overlay.{made_at};
-ghost use Rattle.span_shard.specs.Made.{AreInKeyOrder, HaveDistinctKeys, HasSameRows, IsSetAt};
+ghost use Rattle.span_shard.specs.Overlay.{is_same, made_at};
+ghost use Rattle.span_shard.specs.Made.{AreInKeyOrder, HaveDistinctKeys, HasSameRows, IsSetAt, in_key_order};
 
 use super::made_row::MadeRow;
 use super::rows_left::RowsLeft;
@@ -213,7 +213,8 @@ fn map_of(
 {
     let mut map = BTreeMap::new(alloc);
     let mut rest = rows.into_iter();
-    while let Some((HashedKey { key }, row)) = rest.next_back() {
+    while let Some((key, row)) = rest.next_back() {
+        let HashedKey { key } = key;
         let _before = map.insert(key, row)?;
     }
     Ok(map)

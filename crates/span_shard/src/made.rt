@@ -6,7 +6,7 @@
 //! are asked for, when a row is deleted with those below it, are they moved into an ordered map. They stay there: each row is
 //! moved to the index by hash once at most, and from it to the map once at most. At the end, rows by hash are sorted by their keys, since what is written
 //! in the order of keys is written faster.
-ghost use Rattle.std.specs.Prelude.{◌≡◌, ◌×◌, [], is_none, IfOk, OnOk, None, Some};
+ghost use Rattle.std.specs.Prelude.{◌≡◌, [], is_none, IfOk, OnOk, None, Some};
 ghost use Rattle.std.specs.Option.{option_copied};
 ghost use Rattle.span_shard.specs.Overlay.{made_at, AddsMade};
 ghost use Rattle.span_shard.specs.Made.{HasSameRows, IsSetAt, rows_of};

@@ -87,7 +87,7 @@ impl OrderedRows {
     /// Puts a row at the end.
     pub(crate) fn push(&mut self, key: Key, row: MadeRow) -> Result<(), AllocError>
         requires { IsAfterAll key self.old }
-        ensures set { OnOk result (IsSetAt key (Some row) self.old self.new) }
+        ensures { OnOk result (IsSetAt key (Some row) self.old self.new) }
     {
         self.tail.push((key, row))?;
         Ok(())

@@ -2,7 +2,7 @@
 //!
 //! What is sorted are the rows' places, each with eight bytes of its key: two are mostly told apart by these, which are in the list
 //! that is sorted, and rows are moved once. No contract speaks of the order, which is for speed alone.
-ghost use Rattle.std.specs.Prelude.{◌≡◌, ◌×◌, ◌<◌, length, IfOk, IsTrue, OnOk, IsPermutation};
+ghost use Rattle.std.specs.Prelude.{◌≡◌, ◌<◌, length, IfOk, IsTrue, OnOk, IsPermutation};
 
 use super::made_row::MadeRow;
 use span_keycode::key::Key;

@@ -4,8 +4,8 @@ use Rattle.span_shard.specs.Made.{AreInKeyOrder, IsAfterAll}
 use Rattle.span_shard.proofs.MadeRows.{tail_order, tail_set}
 use Rattle.span_shard.proofs.ordered.OrderedRows.push.Goals as goal
 
-pub invariant_of-self : goal.invariant_of-self
-invariant_of-self c =
+pub invariant_of-self-2 : goal.invariant_of-self-2
+invariant_of-self-2 c =
     let map = c.self.inside.map.entries in
     let tail = c.self.inside.tail.items in
     let after = subst (IsAfterAll c.args.key) (sym c.self.view_is) c.requires in
