@@ -28,3 +28,4 @@ pub mod Moving
 pub mod Parting
 pub mod NoRows
 pub mod MadeRows
+pub mod Hashing

@@ -30,7 +30,7 @@ lt_less Less e = refl
 lt_less Equal e = absurd (let f : false ≡ true = e in cc)
 lt_less Greater e = absurd (let f : false ≡ true = e in cc)
 
-not_same : (k l : List ℕ) → byte_order k l ≡ Less → is_same k l ≡ false
+pub not_same : (k l : List ℕ) → byte_order k l ≡ Less → is_same k l ≡ false
 not_same k l e = ap is_eq e
 
 -- a key before one that is not after another is before that one
@@ -52,15 +52,15 @@ after_none key (e ∷ es) h = ap (λ (b : Bool). cond b (Some e.1) (made_at es k
 
 -- ---- the order of two lists
 
-front_all : (P : List ℕ → Type 0) (ps qs : Made) → AllByRecursion P (keys_of (ps ++ qs)) → AllByRecursion P (keys_of ps)
+pub front_all : (P : List ℕ → Type 0) (ps qs : Made) → AllByRecursion P (keys_of (ps ++ qs)) → AllByRecursion P (keys_of ps)
 front_all P [] qs h = tt
 front_all P (e ∷ ps) qs h = (h.0, front_all P ps qs h.1)
 
-back_all : (P : List ℕ → Type 0) (ps qs : Made) → AllByRecursion P (keys_of (ps ++ qs)) → AllByRecursion P (keys_of qs)
+pub back_all : (P : List ℕ → Type 0) (ps qs : Made) → AllByRecursion P (keys_of (ps ++ qs)) → AllByRecursion P (keys_of qs)
 back_all P [] qs h = h
 back_all P (e ∷ ps) qs h = back_all P ps qs h.1
 
-both_all : (P : List ℕ → Type 0) (ps qs : Made) → AllByRecursion P (keys_of ps) → AllByRecursion P (keys_of qs) → AllByRecursion P (keys_of (ps ++ qs))
+pub both_all : (P : List ℕ → Type 0) (ps qs : Made) → AllByRecursion P (keys_of ps) → AllByRecursion P (keys_of qs) → AllByRecursion P (keys_of (ps ++ qs))
 both_all P [] qs h g = g
 both_all P (e ∷ ps) qs h g = (h.0, both_all P ps qs h.1 g)
 
@@ -293,34 +293,11 @@ moved_next whole map next left rest key row order parts is put =
     all_map (λ (k : List ℕ). IsBeforeAll k ((key, row) ∷ rest)) (λ (k : List ℕ). byte_order k key ≡ Less) (λ k h. h.0) (keys_of map) (order_apart map ((key, row) ∷ rest) ordered) in
     ap (λ (l : Made). l ++ rest) (put ∙ insert_end map key row after) ∙ append_assoc map ((key, row) ∷ []) rest ∙ ap (λ (l : Made). map ++ l) (sym is) ∙ parts
 
--- ---- the last row is taken out
+-- ---- the second list is taken out
 
--- the others stay in order
-pub less_order : (map tail rest last : Made) → AreInKeyOrder (map ++ tail) → tail ≡ rest ++ last → AreInKeyOrder (map ++ rest)
-less_order map tail rest last order is = order_front (map ++ rest) last (subst AreInKeyOrder (ap (λ (l : Made). map ++ l) is ∙ sym (append_assoc map rest last)) order)
-
--- it was at its key
-pub last_at : (rest : Made) (key row : List ℕ) → AreInKeyOrder (rest ++ (key, row) ∷ []) → made_at (rest ++ (key, row) ∷ []) key ≡ Some row
-last_at rest key row order =
-    in_second rest ((key, row) ∷ []) key row (order_apart rest ((key, row) ∷ []) order) (ap (λ (b : Bool). cond b (Some row) None) (bytes_same key key refl))
-
--- what is at the other keys stays
-pub last_out : (rest : Made) (key row : List ℕ) → AreInKeyOrder (rest ++ (key, row) ∷ []) → IsSetAt key None (rest ++ (key, row) ∷ []) rest
-last_out rest key row order k = cases (is_same key k) refl
-  where
-    after : IsAfterAll key rest
-    after = all_map (λ (k : List ℕ). IsBeforeAll k ((key, row) ∷ [])) (λ (k : List ℕ). byte_order k key ≡ Less) (λ k h. h.0) (keys_of rest) (order_apart rest ((key, row) ∷ []) order)
-
-    cases : (b : Bool) → is_same key k ≡ b → made_at rest k ≡ cond b None (made_at (rest ++ (key, row) ∷ []) k)
-    cases true e = ap (made_at rest) (sym (same_bytes key k e)) ∙ after_none key rest after
-    cases false e = sym (not_in_second rest ((key, row) ∷ []) k (ap (λ (b : Bool). cond b (Some row) None) (turned k key ∙ e)))
-
--- the same where what is left is named
-pub popped_at : (left rest : Made) (key row : List ℕ) → AreInKeyOrder left → left ≡ rest ++ (key, row) ∷ [] → made_at left key ≡ Some row
-popped_at left rest key row order is = ap (λ (l : Made). made_at l key) is ∙ last_at rest key row (subst AreInKeyOrder is order)
-
-pub popped_out : (left rest : Made) (key row : List ℕ) → AreInKeyOrder left → left ≡ rest ++ (key, row) ∷ [] → IsSetAt key None left rest
-popped_out left rest key row order is = subst (λ (l : Made). IsSetAt key None l rest) (sym is) (last_out rest key row (subst AreInKeyOrder is order))
+pub first_order : (map tail rest : Made) → AreInKeyOrder (map ++ tail) → rest ≡ [] → AreInKeyOrder (map ++ rest)
+first_order map tail rest order none =
+    subst (λ (l : Made). AreInKeyOrder (map ++ l)) (sym none) (order_front (map ++ []) tail (subst AreInKeyOrder (sym (append_assoc map [] tail)) order))
 
 -- ---- a search in one list
 

@@ -428,6 +428,10 @@ removals_written cs es made left ws none so_far = subst (λ (l : List (List ℕ)
 pub written_of : (cs : List KeyVersions) (es left : Changes) (ws : List Write) → AreWrittenFrom cs (changes_of es.made es.removed) left ws → AreWrittenFrom cs es left ws
 written_of cs es left ws so_far = record { changed = so_far.changed; at = so_far.at }
 
+-- the rows that are left are those that were made, in another order
+pub written_left : (cs : List KeyVersions) (es : Changes) (made left : List (List ℕ × List ℕ)) (ws : List Write) → ((k : List ℕ) → made_at left k ≡ made_at made k) → AreWrittenFrom cs es (changes_of made []) ws → AreWrittenFrom cs es (changes_of left []) ws
+written_left cs es made left ws same so_far = written_alike cs es (changes_of made []) (changes_of left []) ws so_far (λ k. ap (λ (o : Option (List ℕ)). change_of o false) (same k))
+
 -- a row that was made is looked at
 pub made_taken : (made rest : List (List ℕ × List ℕ)) (key row : List ℕ) → made_at made key ≡ Some row → ((k : List ℕ) → made_at rest k ≡ cond (is_same key k) None (made_at made k)) → TakesOut key (Some row) (changes_of made []) (changes_of rest [])
 made_taken made rest key row here out = (

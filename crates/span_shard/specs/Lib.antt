@@ -7,5 +7,6 @@ pub mod Shard
 pub mod Reading
 pub mod Overlay
 pub mod Made
+pub mod Hashes
 pub mod EmptyRanges
 pub mod Ledgers

@@ -1,6 +1,7 @@
 -- The rows that mutations made: in the order of their keys, with a key among them.
-use Rattle.std.specs.Prelude.{◌≡◌, ℕ, true, false, if◌then◌else◌, List, [], ◌∷◌, Option}
-use Rattle.std.specs.List.{AllByRecursion}
+use Rattle.std.specs.Prelude.{◌≡◌, ℕ, true, false, if◌then◌else◌, List, [], ◌∷◌, Option, Some, None}
+use Rattle.std.specs.BTreeMap.{insert_entry}
+use Rattle.std.specs.List.{AllByRecursion, IsDistinct}
 use Rattle.std.specs.List.Sorted.{IsStrictlySortedBy, IsPartitionPoint}
 use Rattle.std.specs.Map.{keys_of}
 use Rattle.std.specs.Ordering.{is_lt}
@@ -11,6 +12,24 @@ use Rattle.span_shard.specs.Overlay.{is_same, made_at}
 -- their keys rise
 abbrev pub AreInKeyOrder : List (List ℕ × List ℕ) → Type 0
 AreInKeyOrder made = IsStrictlySortedBy byte_order (keys_of made)
+
+-- no two of them are at one key
+abbrev pub HaveDistinctKeys : List (List ℕ × List ℕ) → Type 0
+HaveDistinctKeys made = IsDistinct is_same (keys_of made)
+
+-- rows at the keys of a list, in the order of the keys; where two are at one key, the first
+abbrev pub in_key_order : List (List ℕ × List ℕ) → List (List ℕ × List ℕ)
+in_key_order [] = []
+in_key_order (e ∷ made) = insert_entry byte_order (in_key_order made) e.0 e.1
+
+-- those that are kept by hash, or else those that are kept in order
+abbrev pub rows_of : Option (List (List ℕ × List ℕ)) → List (List ℕ × List ℕ) → List (List ℕ × List ℕ)
+rows_of (Some hashed) ordered = hashed
+rows_of None ordered = ordered
+
+-- at each key the same row, or none
+abbrev pub HasSameRows : List (List ℕ × List ℕ) → List (List ℕ × List ℕ) → Type 0
+HasSameRows old new = (k : List ℕ) → made_at new k ≡ made_at old k
 
 -- the key is after those of all rows
 abbrev pub IsAfterAll : List ℕ → List (List ℕ × List ℕ) → Type 0

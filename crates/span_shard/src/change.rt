@@ -87,13 +87,10 @@ fn writes_of_changes(
     requires { AreInOrder store.now }
     ensures { IfOk result (λ ws. AreWritesAt store.now changes ws.items) }
 {
-    let Changes {
-        made: mut left,
-        removed,
-        ..
-    } = changes;
-    let mut writes = removals(alloc, store, &left, removed)?;
-    while let Some((key, row, near)) = left.pop_last() {
+    let Changes { made, removed, .. } = changes;
+    let mut writes = removals(alloc, store, &made, removed)?;
+    let mut left = made.into_left(alloc)?;
+    while let Some((key, row, near)) = left.pop() {
         let write = Write {
             key,
             row: Some(row),

@@ -1,66 +1,41 @@
 //! The rows that mutations made, by their keys.
 //!
-//! Mutations mostly come in the order of their keys. A row at a key after all others is put at the end of a list, by one
-//! comparison. Rows that come in another order are in a map.
-ghost use Rattle.std.specs.Prelude.{◌≡◌, ◌≤◌, ◌++◌, ◌∷◌, [], length, is_none, IfOk, IsTrue, OnOk, MatchBool, MatchOption, None, Some};
+//! While each comes at a key after all others, they are a list in the order of their keys, and a row takes one comparison. Once a key
+//! comes among theirs, they are kept by hash: a search in a map that is ordered reads a node of keys at each level, most of which
+//! wait for memory where the rows are many, and a search by hash reads two or three lines of memory. Only where keys under a front
+//! are asked for, when a row is deleted with those below it, are they moved into an ordered map. They stay there: each row is
+//! moved to the index by hash once at most, and from it to the map once at most. At the end, rows by hash are sorted by their keys, since what is written
+//! in the order of keys is written faster.
+ghost use Rattle.std.specs.Prelude.{◌≡◌, [], is_none, IfOk, OnOk, None, Some};
 ghost use Rattle.std.specs.Option.{option_copied};
-ghost use Rattle.std.specs.Ordering.{is_lt};
-ghost use Rattle.span_keycode.specs.Order.{byte_order};
-ghost use Rattle.span_shard.specs.Rows.{begins_with};
 ghost use Rattle.span_shard.specs.Overlay.{made_at, AddsMade};
-ghost use Rattle.span_shard.specs.Made.{AreInKeyOrder, IsAfterAll, IsBeforeAll, IsFromFirst, IsCountBefore, IsSetAt};
+ghost use Rattle.span_shard.specs.Made.{HasSameRows, IsSetAt, rows_of};
 
+use super::hashed::HashedRows;
+use super::made_row::MadeRow;
+use super::ordered::OrderedRows;
+use super::rows_left::RowsLeft;
 use span_keycode::key::Key;
 use span_value::seq::Seq;
 use std::alloc::{AllocError, Global};
-use std::collections::BTreeMap;
 use std::marker::Model;
-use std::mem;
-
-/// A packed row that mutations made, and a chain from `Lookups::near` near its key, by which the row that is there now is found
-/// without a search of the whole tree. Contracts see the row.
-#[derive(Drop)]
-pub(crate) struct MadeRow {
-    row: Seq<u8>,
-    near: u32,
-}
-
-impl Model for MadeRow {
-    ghost use Rattle.std.specs.Prelude.{List, ℕ};
-
-    ghost Value = { List ℕ };
-
-    ghost view = { λ m. m.row };
-}
-
-impl MadeRow {
-    /// The row.
-    pub(crate) fn row(&self) -> &Seq<u8>
-        ensures { result.now ≡ self.now }
-    {
-        &self.row
-    }
-}
 
 /// By coded keys, the packed rows that mutations made.
 #[derive(Drop)]
 pub(crate) struct MadeRows {
-    /// The rows at the lower keys.
-    map: BTreeMap<Key, MadeRow>,
-    /// The others, in the order of their keys: each was made at a key after all that were there. They are moved into the
-    /// map when a key comes among theirs, so that each is moved once at most.
-    tail: Vec<(Key, MadeRow)>,
+    /// The rows while they are kept by hash.
+    hashed: Option<HashedRows>,
+    /// The rows while they are not.
+    ordered: OrderedRows,
 }
 
 impl Model for MadeRows {
-    ghost use Rattle.std.specs.Prelude.{List, ℕ, ◌++◌};
-    ghost use Rattle.span_shard.specs.Made.{AreInKeyOrder};
+    ghost use Rattle.std.specs.Prelude.{List, ℕ};
+    ghost use Rattle.span_shard.specs.Made.{rows_of};
 
     ghost Value = { List (List ℕ × List ℕ) };
 
-    ghost view = { λ m. m.map.entries ++ m.tail.items };
-
-    ghost invariant = { λ m. AreInKeyOrder (m.map.entries ++ m.tail.items) };
+    ghost view = { λ m. rows_of m.hashed m.ordered };
 }
 
 impl MadeRows {
@@ -69,18 +44,8 @@ impl MadeRows {
         ensures { result ≡ [] }
     {
         MadeRows {
-            map: BTreeMap::new(alloc),
-            tail: Vec::new(alloc),
-        }
-    }
-
-    // Whether a key is after those of all rows.
-    fn is_after_all(&self, key: &Key) -> bool
-        ensures { IsTrue result → IsAfterAll key.now self.now }
-    {
-        match self.tail.last() {
-            Some((last, _)) => last.cmp(key).is_lt(),
-            None => is_after_map(&self.map, key),
+            hashed: None,
+            ordered: OrderedRows::new(alloc),
         }
     }
 
@@ -88,13 +53,10 @@ impl MadeRows {
     pub(crate) fn get(&self, key: &Key) -> Option<&MadeRow>
         ensures { option_copied result ≡ made_at self.now key.now }
     {
-        if self.is_after_all(key) {
-            return None;
+        match &self.hashed {
+            Some(rows) => rows.get(key),
+            None => self.ordered.get(key),
         }
-        if is_before_all(self.tail.as_slice(), key) {
-            return self.map.get(key);
-        }
-        row_in(self.tail.as_slice(), key)
     }
 
     /// Leaves a row at a key, and tells whether there was none. `near` is a chain from `Lookups::near`.
@@ -102,184 +64,68 @@ impl MadeRows {
         ensures absent { IfOk result (λ absent. absent ≡ is_none (made_at self.old key)) }
         ensures set { OnOk result (IsSetAt key (Some row) self.old self.new) }
     {
-        if self.is_after_all(&key) {
-            self.tail.push((key, MadeRow { row, near }))?;
+        let row = MadeRow { row, near };
+        if let Some(rows) = &mut self.hashed {
+            return rows.insert(key, row);
+        }
+        if self.ordered.is_after_all(&key) {
+            self.ordered.push(key, row)?;
             return Ok(true);
         }
-        make_way(&mut self.map, &mut self.tail, &key)?;
-        let before = self.map.insert(key, MadeRow { row, near })?;
-        Ok(before.is_none())
+        let Some(list) = self.ordered.take_list() else {
+            return self.ordered.insert(key, row);
+        };
+        let mut rows = HashedRows::from_list(list)?;
+        let is_absent = rows.insert(key, row)?;
+        self.hashed = Some(rows);
+        Ok(is_absent)
     }
 
     /// Leaves no row at a key.
-    pub(crate) fn remove(&mut self, key: &Key) -> Result<(), AllocError>
+    pub(crate) fn remove(&mut self, alloc: Global, key: &Key) -> Result<(), AllocError>
         ensures { OnOk result (IsSetAt key.now None self.old self.new) }
     {
-        make_way(&mut self.map, &mut self.tail, key)?;
-        let _row = self.map.remove(key);
-        Ok(())
-    }
-
-    /// Takes out the row at the last key, with the chain near it.
-    pub(crate) fn pop_last(&mut self) -> Option<(Key, Seq<u8>, u32)>
-        ensures last { MatchOption result (self.old ≡ []) (λ p. self.old ≡ self.new ++ (p.0, p.1) ∷ []) }
-        ensures order { AreInKeyOrder self.old }
-    {
-        if let Some((key, MadeRow { row, near })) = self.tail.pop() {
-            return Some((key, row, near));
-        }
-        match self.map.pop_last() {
-            Some((key, MadeRow { row, near })) => Some((key, row, near)),
-            None => None,
-        }
+        order_rows(alloc, &mut self.hashed, &mut self.ordered)?;
+        self.ordered.remove(key)
     }
 
     /// Adds the keys that begin with `front`.
     pub(crate) fn push_keys(
-        &self,
+        &mut self,
         alloc: Global,
         keys: &mut Vec<Key>,
         front: &Key,
     ) -> Result<(), AllocError>
-        ensures { OnOk result (AddsMade self.now front.now keys.old.items keys.new.items) }
+        ensures same { OnOk result (self.new ≡ self.old) }
+        ensures added { OnOk result (AddsMade self.old front.now keys.old.items keys.new.items) }
     {
-        push_keys_of_map(alloc, keys, &self.map, front)?;
-        push_keys_of_list(alloc, keys, self.tail.as_slice(), front)?;
-        Ok(())
+        order_rows(alloc, &mut self.hashed, &mut self.ordered)?;
+        self.ordered.push_keys(alloc, keys, front)
     }
-}
 
-fn is_after_map(map: &BTreeMap<Key, MadeRow>, key: &Key) -> bool
-    ensures { IsTrue result → IsAfterAll key.now map.now.entries }
-{
-    match map.last_key_value() {
-        Some((last, _)) => last.cmp(key).is_lt(),
-        None => true,
-    }
-}
-
-// Whether a key is before those of all rows of a list.
-fn is_before_all(rows: &[(Key, MadeRow)], key: &Key) -> bool
-    requires { AreInKeyOrder rows.now }
-    ensures { MatchBool result (IsBeforeAll key.now rows.now) (IsFromFirst key.now rows.now) }
-{
-    match rows.first() {
-        Some((first, _)) => key.cmp(first).is_lt(),
-        None => true,
-    }
-}
-
-// How many rows of a list are at keys before this one.
-fn count_before(rows: &[(Key, MadeRow)], key: &Key) -> usize
-    requires { AreInKeyOrder rows.now }
-    ensures bound { result ≤ length rows.now }
-    ensures count { IsCountBefore key.now rows.now result }
-{
-    rows.partition_point(
-        |row: &(Key, MadeRow)| -> bool
-            ensures { result ≡ is_lt (byte_order row.now.0 key.entry.now) }
-        { row.0.cmp(key).is_lt() },
-    )
-}
-
-// The row of a list at a key, by a search.
-fn row_found<'a>(rows: &'a [(Key, MadeRow)], key: &Key) -> Option<&'a MadeRow>
-    requires { AreInKeyOrder rows.now }
-    ensures { option_copied result ≡ made_at rows.now key.now }
-{
-    let Some((found, row)) = rows.get(count_before(rows, key)) else {
-        return None;
-    };
-    if key.cmp(found).is_eq() {
-        Some(row)
-    } else {
-        None
-    }
-}
-
-// The row of a list at a key. The last one is looked at first: mostly a parent row is made right before the first row
-// below it.
-fn row_in<'a>(rows: &'a [(Key, MadeRow)], key: &Key) -> Option<&'a MadeRow>
-    requires { AreInKeyOrder rows.now }
-    ensures { option_copied result ≡ made_at rows.now key.now }
-{
-    match rows.last() {
-        Some((last, row)) if key.cmp(last).is_eq() => Some(row),
-        _ => row_found(rows, key),
-    }
-}
-
-// Moves rows from a list to a map, whose keys are all before theirs.
-fn insert_all(map: &mut BTreeMap<Key, MadeRow>, rows: Vec<(Key, MadeRow)>) -> Result<(), AllocError>
-    requires { AreInKeyOrder (map.old.entries ++ rows.items) }
-    ensures moved { OnOk result (map.new.entries ≡ map.old.entries ++ rows.items) }
-    ensures order { AreInKeyOrder map.new.entries }
-{
-    for (key, row) in rows {
-        let _before = map.insert(key, row)?;
-    }
-    Ok(())
-}
-
-// Moves the tail into the map, unless the key is before all those of the tail.
-fn make_way(
-    map: &mut BTreeMap<Key, MadeRow>,
-    tail: &mut Vec<(Key, MadeRow)>,
-    key: &Key,
-) -> Result<(), AllocError>
-    requires { AreInKeyOrder (map.old.entries ++ tail.old.items) }
-    ensures before { OnOk result (IsBeforeAll key.now tail.new.items) }
-    ensures same { OnOk result (map.new.entries ++ tail.new.items ≡ map.old.entries ++ tail.old.items) }
-    ensures order { AreInKeyOrder (map.new.entries ++ tail.new.items) }
-{
-    if is_before_all(tail.as_slice(), key) {
-        return Ok(());
-    }
-    let empty = Vec::new(*tail.allocator());
-    insert_all(map, mem::replace(tail, empty))
-}
-
-fn begins_with(key: &Key, front: &Key) -> bool
-    ensures { result ≡ begins_with key.now front.now }
-{
-    key.as_slice().starts_with(front.as_slice())
-}
-
-// Adds the keys of a map that begin with `front`.
-fn push_keys_of_map(
-    alloc: Global,
-    keys: &mut Vec<Key>,
-    map: &BTreeMap<Key, MadeRow>,
-    front: &Key,
-) -> Result<(), AllocError>
-    ensures { OnOk result (AddsMade map.now.entries front.now keys.old.items keys.new.items) }
-{
-    let mut rest = map.range(front..);
-    while let Some((key, _row)) = rest.next() {
-        if !begins_with(key, front) {
-            return Ok(());
+    /// The rows, to be taken out one after another.
+    pub(crate) fn into_left(self, alloc: Global) -> Result<RowsLeft, AllocError>
+        ensures { IfOk result (λ left. HasSameRows self left) }
+    {
+        let MadeRows { hashed, ordered } = self;
+        match hashed {
+            Some(rows) => rows.into_left(alloc),
+            None => Ok(ordered.into_left()),
         }
-        keys.push(Key::from_slice(alloc, key.as_slice())?)?;
     }
-    Ok(())
 }
 
-// Adds the keys of a list that begin with `front`.
-fn push_keys_of_list(
+// Moves rows that are kept by hash into an ordered map.
+fn order_rows(
     alloc: Global,
-    keys: &mut Vec<Key>,
-    rows: &[(Key, MadeRow)],
-    front: &Key,
+    hashed: &mut Option<HashedRows>,
+    ordered: &mut OrderedRows,
 ) -> Result<(), AllocError>
-    requires { AreInKeyOrder rows.now }
-    ensures { OnOk result (AddsMade rows.now front.now keys.old.items keys.new.items) }
+    ensures moved { OnOk result (hashed.new ≡ None) }
+    ensures same { OnOk result (ordered.new ≡ rows_of hashed.old ordered.old) }
 {
-    let rest = &rows[count_before(rows, front)..];
-    for (key, _row) in rest {
-        if !begins_with(key, front) {
-            return Ok(());
-        }
-        keys.push(Key::from_slice(alloc, key.as_slice())?)?;
+    if let Some(rows) = hashed.take() {
+        *ordered = OrderedRows::from_map(alloc, rows.into_map(alloc)?);
     }
     Ok(())
 }

@@ -71,23 +71,28 @@ impl Changes {
     }
 
     // Leaves no row at these keys.
-    fn remove(&mut self, keys: Vec<Key>) -> Result<(), AllocError>
+    fn remove(&mut self, alloc: Global, keys: Vec<Key>) -> Result<(), AllocError>
         ensures removed { OnOk result (AreRemoved self.old keys.items self.new) }
         ensures cleared { OnOk result (HasSameCleared self.old self.new) }
     {
         for key in keys {
-            self.made.remove(&key)?;
+            self.made.remove(alloc, &key)?;
             let _is_first = self.removed.insert(key)?;
         }
         Ok(())
     }
 
     /// Leaves no row at these keys, all those with a row that begin with `front`.
-    pub(crate) fn clear(&mut self, front: Key, keys: Vec<Key>) -> Result<(), AllocError>
+    pub(crate) fn clear(
+        &mut self,
+        alloc: Global,
+        front: Key,
+        keys: Vec<Key>,
+    ) -> Result<(), AllocError>
         ensures removed { OnOk result (AreRemoved self.old keys.items self.new) }
         ensures cleared { OnOk result (AddsCleared front self.old self.new) }
     {
-        self.remove(keys)?;
+        self.remove(alloc, keys)?;
         let _is_first = self.cleared.insert(front)?;
         Ok(())
     }
@@ -183,12 +188,13 @@ fn unchanged_under(
 pub(crate) fn keys_under(
     alloc: Global,
     store: &Lookups<'_>,
-    changes: &Changes,
+    changes: &mut Changes,
     front: &Key,
 ) -> Result<Vec<Key>, AllocError>
     requires order { AreInOrder store.now }
-    requires cleared { AreCleared store.now changes.now }
-    ensures { IfOk result (λ keys. AreUnder store.now changes.now front.now keys.items) }
+    requires cleared { AreCleared store.now changes.old }
+    ensures keys { IfOk result (λ keys. AreUnder store.now changes.old front.now keys.items) }
+    ensures same { OnOk result (changes.new ≡ changes.old) }
 {
     let mut keys = unchanged_under(alloc, store, changes, front)?;
     changes.made.push_keys(alloc, &mut keys, front)?;

@@ -280,17 +280,18 @@ fn keys_deleted(
     alloc: Global,
     schema: &Schema,
     store: &Lookups<'_>,
-    changes: &Changes,
+    changes: &mut Changes,
     mutation: &CheckedMutation,
     key: &Key,
 ) -> Result<Vec<Key>, Refusal>
     requires order { AreInOrder store.now }
-    requires cleared { AreCleared store.now changes.now }
+    requires cleared { AreCleared store.now changes.old }
     requires key { key.now ≡ own_code schema.now mutation.now }
-    requires there { is_some (row_over store.now changes.now key.now) ≡ true }
-    ensures { MatchResult result
-        (λ keys. AreUnder store.now changes.now key.now keys.items × IsBlocked schema.now mutation.now.table keys.items false)
-        (IsNoDelete schema.now store.now changes.now mutation.now) }
+    requires there { is_some (row_over store.now changes.old key.now) ≡ true }
+    ensures keys { MatchResult result
+        (λ keys. AreUnder store.now changes.old key.now keys.items × IsBlocked schema.now mutation.now.table keys.items false)
+        (IsNoDelete schema.now store.now changes.old mutation.now) }
+    ensures same { OnOk result (changes.new ≡ changes.old) }
 {
     let keys = keys_under(alloc, store, changes, key)?;
     if is_blocked(alloc, schema, mutation.table, keys.as_slice())? {
@@ -319,7 +320,7 @@ fn run_delete(
         return Ok(());
     }
     let keys = keys_deleted(alloc, schema, store, changes, mutation, &key)?;
-    Ok(changes.clear(key, keys)?)
+    Ok(changes.clear(alloc, key, keys)?)
 }
 
 // Runs one mutation. `known` is one whose parent row is there, and so is the result.

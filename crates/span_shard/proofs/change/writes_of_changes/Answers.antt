@@ -1,27 +1,29 @@
 use Rattle.std.proofs.Common.{[], Some, sym, subst, ◌∙◌}
 use Rattle.span_shard.specs.Overlay.{Changes, changes_of, AreWrittenFrom}
-use Rattle.span_shard.proofs.MadeRows.{popped_at, popped_out}
-use Rattle.span_shard.proofs.RunAll.{written_of, made_taken, written_more, written_same}
+use Rattle.span_shard.proofs.Hashing.{popped_at, popped_out}
+use Rattle.span_shard.proofs.RunAll.{written_of, written_left, made_taken, written_more, written_same}
 use Rattle.span_shard.proofs.change.writes_of_changes.Goals as goal
 
 pub loop-key-init : goal.loop-key-init
 loop-key-init c =
-    subst (λ (es : Changes). AreWrittenFrom c.args.store.now es (changes_of c.changes.inside.made []) c.in_ok-writes.writes.items) c.changes.view_is
-    (written_of c.args.store.now (record { made = c.changes.inside.made; removed = c.changes.inside.removed.keys; cleared = c.changes.inside.cleared.keys }) (changes_of c.changes.inside.made []) c.in_ok-writes.writes.items c.in_ok-writes.ensures)
+    let made = c.changes.inside.made in
+    written_left c.args.store.now c.args.changes made c.in_ok-left.left c.in_ok-writes.writes.items c.in_ok-left.ensures
+    (subst (λ (es : Changes). AreWrittenFrom c.args.store.now es (changes_of made []) c.in_ok-writes.writes.items) c.changes.view_is
+    (written_of c.args.store.now (record { made = made; removed = c.changes.inside.removed.keys; cleared = c.changes.inside.cleared.keys }) (changes_of made []) c.in_ok-writes.writes.items c.in_ok-writes.ensures))
 
-pub loop-key-preserved-in-Continue-branch-2 : goal.loop-key-preserved-in-Continue-branch-2
-loop-key-preserved-in-Continue-branch-2 c =
+pub loop-key-preserved-in-Continue-branch-3 : goal.loop-key-preserved-in-Continue-branch-3
+loop-key-preserved-in-Continue-branch-3 c =
     let left = c.loop-key.left in
-    let rest = c.pop_last.new.self in
+    let rest = c.pop.new.self in
     subst (AreWrittenFrom c.args.store.now c.args.changes (changes_of rest [])) (sym c.in_ok-push.ensures.items)
     (written_more c.args.store.now c.args.changes (changes_of left []) (changes_of rest []) c.loop-key.writes.items (record { key = c.in-Some.key; row = Some c.in-Some.row }) c.loop-key.invariant
-    (made_taken left rest c.in-Some.key c.in-Some.row (popped_at left rest c.in-Some.key c.in-Some.row c.in-Some.ensures.order c.in-Some.ensures.last) (popped_out left rest c.in-Some.key c.in-Some.row c.in-Some.ensures.order c.in-Some.ensures.last))
+    (made_taken left rest c.in-Some.key c.in-Some.row (popped_at left rest c.in-Some.key c.in-Some.row c.in-Some.ensures.distinct c.in-Some.ensures.last) (popped_out left rest c.in-Some.key c.in-Some.row c.in-Some.ensures.distinct c.in-Some.ensures.last))
     (sym c.is_change.ensures ∙ c.if-is_change.true))
 
 pub loop-key-preserved-else-is_change : goal.loop-key-preserved-else-is_change
 loop-key-preserved-else-is_change c =
     let left = c.loop-key.left in
-    let rest = c.pop_last.new.self in
+    let rest = c.pop.new.self in
     written_same c.args.store.now c.args.changes (changes_of left []) (changes_of rest []) c.loop-key.writes.items c.in-Some.key (Some c.in-Some.row) c.loop-key.invariant
-    (made_taken left rest c.in-Some.key c.in-Some.row (popped_at left rest c.in-Some.key c.in-Some.row c.in-Some.ensures.order c.in-Some.ensures.last) (popped_out left rest c.in-Some.key c.in-Some.row c.in-Some.ensures.order c.in-Some.ensures.last))
+    (made_taken left rest c.in-Some.key c.in-Some.row (popped_at left rest c.in-Some.key c.in-Some.row c.in-Some.ensures.distinct c.in-Some.ensures.last) (popped_out left rest c.in-Some.key c.in-Some.row c.in-Some.ensures.distinct c.in-Some.ensures.last))
     (sym c.is_change.ensures ∙ c.if-is_change.false)

@@ -1,4 +1,5 @@
-use Rattle.std.proofs.Common.{sym, ◌∙◌}
+use Rattle.std.proofs.Common.{sym, subst, ◌∙◌}
+use Rattle.span_shard.specs.Overlay.{Changes, AreRemoved, AddsCleared}
 use Rattle.span_shard.proofs.Overlays.{clears}
 use Rattle.span_shard.proofs.RunDeletes.{none_deleted}
 use Rattle.span_shard.proofs.run.run_delete.Goals as goal
@@ -9,4 +10,9 @@ returns-then-not-has_row-clause-ok c =
 
 pub returns-clause-cleared : goal.returns-clause-cleared
 returns-clause-cleared c =
-    clears c.args.store.now c.args.changes.now c.clear.new.self c.args.key c.in_ok-keys.keys.items c.requires.cleared c.in_ok-keys.ensures.0 c.in_ok-clear.ensures.removed c.in_ok-clear.ensures.cleared
+    let key = c.args.key in
+    let keys = c.in_ok-keys.keys.items in
+    let new = c.clear.new.self in
+    let same = c.in_ok-keys.ensures.same in
+    clears c.args.store.now c.args.changes.now new key keys c.requires.cleared c.in_ok-keys.ensures.keys.0 (subst (λ (es : Changes). AreRemoved es keys new) same c.in_ok-clear.ensures.removed)
+    (subst (λ (es : Changes). AddsCleared key es new) same c.in_ok-clear.ensures.cleared)

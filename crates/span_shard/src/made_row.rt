@@ -1,0 +1,30 @@
+//! A row that mutations made.
+ghost use Rattle.std.specs.Prelude.{◌≡◌};
+
+use span_value::seq::Seq;
+use std::marker::Model;
+
+/// A packed row that mutations made, and a chain from `Lookups::near` near its key, by which the row that is there now is found
+/// without a search of the whole tree. Contracts see the row.
+#[derive(Drop)]
+pub(crate) struct MadeRow {
+    pub(crate) row: Seq<u8>,
+    pub(crate) near: u32,
+}
+
+impl Model for MadeRow {
+    ghost use Rattle.std.specs.Prelude.{List, ℕ};
+
+    ghost Value = { List ℕ };
+
+    ghost view = { λ m. m.row };
+}
+
+impl MadeRow {
+    /// The row.
+    pub(crate) fn row(&self) -> &Seq<u8>
+        ensures { result.now ≡ self.now }
+    {
+        &self.row
+    }
+}
