@@ -19,7 +19,7 @@ use Rattle.span_shard.specs.Made.{AreInKeyOrder, HaveDistinctKeys, HasSameRows, 
 use Rattle.span_shard.proofs.Bytes.{bytes_total, same_bytes, bytes_same}
 use Rattle.span_shard.proofs.Lists.{all_map}
 use Rattle.span_shard.proofs.Overlays.{Made, turned}
-use Rattle.span_shard.proofs.MadeRows.{order_apart, after_none, not_same, back_all, front_all, both_all, not_in_first, not_in_second}
+use Rattle.span_shard.proofs.MadeRows.{order_apart, not_same, back_all, front_all, both_all, not_in_first, not_in_second}
 
 -- ---- a row is put into a list in the order of the keys
 
@@ -192,8 +192,8 @@ unfolding IsDistinct
 middle_distinct [] middle list distinct = back_distinct middle list distinct
 middle_distinct (e ∷ rest) middle list distinct = (
   both_all (λ (k : List ℕ). is_same e.0 k ≡ false) rest list
-  (front_all (λ (k : List ℕ). is_same e.0 k ≡ false) rest middle (front_all (λ (k : List ℕ). is_same e.0 k ≡ false) (rest ++ middle) list distinct.0))
-  (back_all (λ (k : List ℕ). is_same e.0 k ≡ false) (rest ++ middle) list distinct.0),
+      (front_all (λ (k : List ℕ). is_same e.0 k ≡ false) rest middle (front_all (λ (k : List ℕ). is_same e.0 k ≡ false) (rest ++ middle) list distinct.0))
+      (back_all (λ (k : List ℕ). is_same e.0 k ≡ false) (rest ++ middle) list distinct.0),
   middle_distinct rest middle list distinct.1,
 )
 

@@ -19,7 +19,7 @@ use Rattle.span_keycode.specs.Order.{byte_order}
 use Rattle.span_shard.specs.Rows.{begins_with}
 use Rattle.span_shard.specs.Overlay.{is_same, made_at, AddsMade}
 use Rattle.span_shard.specs.Made.{AreInKeyOrder, IsAfterAll, IsBeforeAll, IsFromFirst, IsCountBefore, IsSetAt}
-use Rattle.span_shard.proofs.Bytes.{bytes_total, same_bytes, bytes_same}
+use Rattle.span_shard.proofs.Bytes.{bytes_total, same_bytes}
 use Rattle.span_shard.proofs.Lists.{all_map, all_append, all_front, all_rest, filter_all, filter_none}
 use Rattle.span_shard.proofs.Overlays.{Made, turned, is_from, from_is}
 

@@ -1,11 +1,11 @@
 //! The rows that mutations made, by their keys.
 //!
-//! While each comes at a key after all others, they are a list in the order of their keys, and a row takes one comparison. Once a key
-//! comes among theirs, they are kept by hash: a search in a map that is ordered reads a node of keys at each level, most of which
-//! wait for memory where the rows are many, and a search by hash reads two or three lines of memory. Only where keys under a front
-//! are asked for, when a row is deleted with those below it, are they moved into an ordered map. They stay there: each row is
-//! moved to the index by hash once at most, and from it to the map once at most. At the end, rows by hash are sorted by their keys, since what is written
-//! in the order of keys is written faster.
+//! While each comes at a key after all others, they are a list in the order of their keys, and a row takes one comparison.
+//! Once a key comes among theirs, they are kept by hash: a search in an ordered map reads a node of keys at each level, most
+//! of which wait for memory where the rows are many, and a search by hash reads two or three lines of memory. Only where
+//! keys under a front are asked for, when a row is deleted with those below it, are they moved into an ordered map, and
+//! they stay there. So each row is moved to the index by hash once at most, and from there to the map once at most. At
+//! the end, rows by hash are sorted by their keys: what is written in the order of keys is written faster.
 ghost use Rattle.std.specs.Prelude.{◌≡◌, [], is_none, IfOk, OnOk, None, Some};
 ghost use Rattle.std.specs.Option.{option_copied};
 ghost use Rattle.span_shard.specs.Overlay.{made_at, AddsMade};

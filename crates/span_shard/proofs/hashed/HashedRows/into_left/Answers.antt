@@ -4,8 +4,8 @@ use Rattle.span_shard.specs.Made.{HaveDistinctKeys}
 use Rattle.span_shard.proofs.Hashing.{permuted_distinct, left_same}
 use Rattle.span_shard.proofs.hashed.HashedRows.into_left.Goals as goal
 
-pub new-2-requires : goal.new-2-requires
-new-2-requires c =
+pub new-requires-2 : goal.new-requires-2
+new-requires-2 c =
     let new = c.sort_rows.new.rows.items in
     subst (λ (l : List (List ℕ × List ℕ)). HaveDistinctKeys (l ++ new)) (sym c.new.ensures.empty)
     (permuted_distinct c.in_ok-list.list.items new c.in_ok-sort_rows.ensures (subst HaveDistinctKeys (sym c.in_ok-list.ensures.same) c.list_of.ensures.distinct))

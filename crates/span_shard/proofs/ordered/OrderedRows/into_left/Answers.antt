@@ -1,4 +1,3 @@
-use Rattle.std.specs.Map.{keys_of}
 use Rattle.std.proofs.lemmas.Map.Keys.{IsDistinct-from_sorted}
 use Rattle.span_keycode.specs.Order.{byte_order}
 use Rattle.span_shard.proofs.ordered.OrderedRows.into_left.Goals as goal
