@@ -14,3 +14,5 @@ pub mod RowOrder
 mod FirstRows
 pub mod Limits
 pub mod LentRows
+pub mod Codes
+pub mod CodedRows

@@ -8,3 +8,4 @@ pub mod Candidates
 pub mod LentRows
 pub mod RowIndexes
 pub mod Orders
+pub mod Codes

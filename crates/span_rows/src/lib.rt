@@ -2,6 +2,8 @@
 #![tactic(auto)]
 
 mod candidates;
+mod code;
+mod coded;
 pub mod distinct;
 pub mod filter;
 mod first_rows;
