@@ -16,3 +16,4 @@ pub mod Limits
 pub mod LentRows
 pub mod Codes
 pub mod CodedRows
+pub mod TakenColumns

@@ -9,3 +9,4 @@ pub mod LentRows
 pub mod RowIndexes
 pub mod Orders
 pub mod Codes
+pub mod Columns

@@ -4,6 +4,7 @@
 mod candidates;
 mod code;
 mod coded;
+pub mod columns;
 pub mod distinct;
 pub mod filter;
 mod first_rows;

@@ -1,9 +1,10 @@
 //! ORDER BY and LIMIT: rows in the order of some keys, and a part of a list of rows.
-ghost use Rattle.std.specs.Prelude.{◌≡◌, ◌+◌, IfOk, IfSome, Some, List, true};
+ghost use Rattle.std.specs.Prelude.{◌≡◌, ◌+◌, IfOk, IfSome, Some, List, map, true};
 ghost use Rattle.span_query.specs.declared.query.Limit.{Limit};
 ghost use Rattle.std.specs.Cmp.{IsStrictWeakOrder};
 ghost use Rattle.std.specs.List.Sorted.{IsStableBy};
 ghost use Rattle.span_query.specs.Rows.{Row};
+ghost use Rattle.span_query.specs.Groups.{columns_at};
 ghost use Rattle.span_query.specs.Sorting as spec;
 ghost use Rattle.span_query.specs.Meaning as meaning;
 ghost use Rattle.span_query.specs.declared.query.SortKey.{SortKey};
@@ -12,6 +13,7 @@ ghost use Rattle.span_rows.specs.LentRows.{lent_rows};
 ghost use Rattle.span_rows.specs.Orders.{IsSorted};
 
 use super::coded::{CodedRows, code_rows, compare_coded, uncode_rows};
+use super::columns::copy_columns;
 use super::first_rows::first_rows;
 use super::row_list::{RowList, lent_rows};
 use span_expr::cell::Failure;
@@ -124,6 +126,22 @@ pub fn order_rows(
     let all = lent_rows(alloc, &rows)?;
     let ordered = rows_in_order(alloc, keys, limit, all)?;
     Ok(copy_rows(alloc, limit_rows(limit, ordered.as_slice()))?)
+}
+
+/// The columns of the part that LIMIT leaves of the rows in the order of the keys. No other row is copied.
+pub fn order_columns(
+    alloc: Global,
+    keys: &[SortKey],
+    limit: Option<Limit>,
+    columns: &[usize],
+    rows: Vec<&[Value]>,
+) -> Result<RowList, AllocError>
+    ensures { IfOk result
+        (λ part. part ≡ map (columns_at columns.now) (meaning.limit_rows limit (spec.sorted keys.now (lent_rows rows.entry.items)))) }
+{
+    let ordered = rows_in_order(alloc, keys, limit, rows)?;
+    let part = copy_columns(alloc, columns, limit_rows(limit, ordered.as_slice()))?;
+    Ok(part)
 }
 
 /// Whether there is neither an order nor a limit.
