@@ -14,3 +14,6 @@ pub mod RowOrder
 mod FirstRows
 pub mod Limits
 pub mod LentRows
+pub mod Codes
+pub mod CodedRows
+pub mod TakenColumns

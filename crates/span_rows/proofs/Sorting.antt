@@ -25,7 +25,7 @@ exchanged false true x y zs h = refl
 exchanged false false x y zs h = refl
 
 module _ {A : Type 0} (lt : A → A → Bool) where
-  all_placed : (P : A → Type 0) (x : A) (ys : List A) → P x → AllByRecursion P ys → AllByRecursion P (insert_sorted lt x ys)
+  pub all_placed : (P : A → Type 0) (x : A) (ys : List A) → P x → AllByRecursion P ys → AllByRecursion P (insert_sorted lt x ys)
   all_placed P x [] p all = (p, tt)
   all_placed P x (y ∷ ys) p all = elim (lt y x) as (λ b. AllByRecursion P (cond b (y ∷ insert_sorted lt x ys) (x ∷ y ∷ ys))) [
     | true ↦ (all.0, all_placed P x ys p all.1)

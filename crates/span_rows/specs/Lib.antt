@@ -8,3 +8,5 @@ pub mod Candidates
 pub mod LentRows
 pub mod RowIndexes
 pub mod Orders
+pub mod Codes
+pub mod Columns

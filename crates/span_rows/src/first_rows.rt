@@ -4,7 +4,6 @@ ghost use Rattle.span_query.specs.Sorting.{comes_before, insert_sorted, sorted};
 ghost use Rattle.span_rows.specs.LentRows.{lent_rows};
 ghost use Rattle.span_rows.specs.Orders.{IsSorted};
 
-use super::row_list::RowList;
 use super::sort::compare_rows;
 use span_query::query::SortKey;
 use span_value::value::Value;
@@ -69,16 +68,16 @@ fn put_in_order<'a>(
 pub(crate) fn first_rows<'a>(
     alloc: Global,
     keys: &[SortKey],
-    rows: &'a RowList,
+    rows: &[&'a [Value]],
     count: usize,
 ) -> Result<Vec<&'a [Value]>, AllocError>
-    ensures { IfOk result (λ first. lent_rows first.items ≡ take count (sorted keys.now rows.now)) }
+    ensures { IfOk result (λ first. lent_rows first.items ≡ take count (sorted keys.now (lent_rows rows.now))) }
 {
     let mut first = Vec::new(alloc);
     let mut at = rows.len();
     while at > 0 {
         at -= 1;
-        put_in_order(keys, &mut first, rows.row(at), count)?;
+        put_in_order(keys, &mut first, rows[at], count)?;
     }
     Ok(first)
 }

@@ -2,6 +2,9 @@
 #![tactic(auto)]
 
 mod candidates;
+mod code;
+mod coded;
+pub mod columns;
 pub mod distinct;
 pub mod filter;
 mod first_rows;

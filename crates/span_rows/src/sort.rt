@@ -1,9 +1,10 @@
 //! ORDER BY and LIMIT: rows in the order of some keys, and a part of a list of rows.
-ghost use Rattle.std.specs.Prelude.{◌≡◌, ◌+◌, IfOk, IfSome, Some, List, true};
+ghost use Rattle.std.specs.Prelude.{◌≡◌, ◌+◌, IfOk, IfSome, Some, List, map, true};
 ghost use Rattle.span_query.specs.declared.query.Limit.{Limit};
 ghost use Rattle.std.specs.Cmp.{IsStrictWeakOrder};
 ghost use Rattle.std.specs.List.Sorted.{IsStableBy};
 ghost use Rattle.span_query.specs.Rows.{Row};
+ghost use Rattle.span_query.specs.Groups.{columns_at};
 ghost use Rattle.span_query.specs.Sorting as spec;
 ghost use Rattle.span_query.specs.Meaning as meaning;
 ghost use Rattle.span_query.specs.declared.query.SortKey.{SortKey};
@@ -11,6 +12,8 @@ ghost use Rattle.span_rows.specs.Answers.{Gives};
 ghost use Rattle.span_rows.specs.LentRows.{lent_rows};
 ghost use Rattle.span_rows.specs.Orders.{IsSorted};
 
+use super::coded::{CodedRows, code_rows, compare_coded, uncode_rows};
+use super::columns::copy_columns;
 use super::first_rows::first_rows;
 use super::row_list::{RowList, lent_rows};
 use span_expr::cell::Failure;
@@ -53,19 +56,23 @@ pub fn compare_rows(keys: &[SortKey], left: &[Value], right: &[Value]) -> Orderi
     Ordering::Equal
 }
 
-/// The rows in the order of the keys, lent. Rows with equal keys keep their order.
+/// The rows in the order of the keys. Rows with equal keys keep their order.
 fn sort_rows<'a>(
     alloc: Global,
     keys: &[SortKey],
-    rows: &'a RowList,
+    rows: Vec<&'a [Value]>,
 ) -> Result<Vec<&'a [Value]>, AllocError>
-    ensures { IfOk result (λ all. lent_rows all.items ≡ spec.sorted keys.now rows.now) }
+    ensures { IfOk result (λ all. lent_rows all.items ≡ spec.sorted keys.now (lent_rows rows.entry.items)) }
 {
-    let mut all = lent_rows(alloc, rows)?;
     if keys.is_empty() {
-        return Ok(all);
+        return Ok(rows);
     }
-    all.sort_by(|left, right| compare_rows(keys, *left, *right))?;
+    let CodedRows {
+        rows: mut coded,
+        are_exact,
+    } = code_rows(alloc, keys, rows.as_slice())?;
+    coded.sort_by(|left, right| compare_coded(keys, are_exact, left, right))?;
+    let all = uncode_rows(alloc, coded.as_slice())?;
     Ok(all)
 }
 
@@ -85,10 +92,26 @@ fn first_count(keys: &[SortKey], limit: Option<Limit>) -> Option<usize>
     }
 }
 
-/// The part that LIMIT leaves of the rows in the order of the keys; rows with equal keys keep their order. The only error is out of
-/// memory.
-///
-/// Where LIMIT needs few rows, the others are not put in order.
+/// Rows of which LIMIT leaves what it leaves of all in the order of the keys. Where it needs few, the others are not put in order.
+fn rows_in_order<'a>(
+    alloc: Global,
+    keys: &[SortKey],
+    limit: Option<Limit>,
+    rows: Vec<&'a [Value]>,
+) -> Result<Vec<&'a [Value]>, AllocError>
+    ensures { IfOk result
+        (λ ordered. meaning.limit_rows limit (lent_rows ordered.items)
+        ≡ meaning.limit_rows limit (spec.sorted keys.now (lent_rows rows.entry.items))) }
+{
+    if let Some(count) = first_count(keys, limit) {
+        let first = first_rows(alloc, keys, rows.as_slice(), count)?;
+        return Ok(first);
+    }
+    let all = sort_rows(alloc, keys, rows)?;
+    Ok(all)
+}
+
+/// The part that LIMIT leaves of the rows in the order of the keys. The only error is out of memory.
 pub fn order_rows(
     alloc: Global,
     keys: &[SortKey],
@@ -100,11 +123,25 @@ pub fn order_rows(
     if is_as_it_is(keys, limit) {
         return Ok(rows);
     }
-    let ordered = match first_count(keys, limit) {
-        Some(count) => first_rows(alloc, keys, &rows, count)?,
-        None => sort_rows(alloc, keys, &rows)?,
-    };
+    let all = lent_rows(alloc, &rows)?;
+    let ordered = rows_in_order(alloc, keys, limit, all)?;
     Ok(copy_rows(alloc, limit_rows(limit, ordered.as_slice()))?)
+}
+
+/// The columns of the part that LIMIT leaves of the rows in the order of the keys. No other row is copied.
+pub fn order_columns(
+    alloc: Global,
+    keys: &[SortKey],
+    limit: Option<Limit>,
+    columns: &[usize],
+    rows: Vec<&[Value]>,
+) -> Result<RowList, AllocError>
+    ensures { IfOk result
+        (λ part. part ≡ map (columns_at columns.now) (meaning.limit_rows limit (spec.sorted keys.now (lent_rows rows.entry.items)))) }
+{
+    let ordered = rows_in_order(alloc, keys, limit, rows)?;
+    let part = copy_columns(alloc, columns, limit_rows(limit, ordered.as_slice()))?;
+    Ok(part)
 }
 
 /// Whether there is neither an order nor a limit.

@@ -7,7 +7,7 @@ use Rattle.span_rows.proofs.first_rows.first_rows.Given as goal
 abbrev pub invariant-loop-at : goal.invariant-loop-at
 invariant-loop-at l = record {
   within : l.at ≤ length l.rows;
-  first : lent_rows l.first.items ≡ take l.count (sorted l.keys (drop l.at l.rows));
+  first : lent_rows l.first.items ≡ take l.count (sorted l.keys (lent_rows (drop l.at l.rows)));
 }
 
 abbrev pub decreases-loop-at : goal.decreases-loop-at
