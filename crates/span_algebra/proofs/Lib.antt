@@ -3,6 +3,7 @@ pub mod Taking
 pub mod Together
 pub mod Derived
 pub mod Blocks
+pub mod InOrder
 pub mod Absorbed
 pub mod Shown
 pub mod Passes

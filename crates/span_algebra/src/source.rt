@@ -5,6 +5,7 @@ ghost use Rattle.span_query.specs.Meaning as spec;
 ghost use Rattle.span_query.specs.Groups.{groups};
 ghost use Rattle.span_query.specs.Rows.{Row, unless_fault};
 ghost use Rattle.span_rows.specs.Answers.{Gives};
+ghost use Rattle.span_rows.specs.LentRows.{lent_rows};
 ghost use Rattle.span_algebra.specs.Parts.{all_rows};
 ghost use Rattle.span_algebra.specs.Sources.{GivesRows, IsGivenBy, source_rows, source_result};
 
@@ -14,6 +15,7 @@ use super::merge::merge_parts;
 use span_expr::cell::Failure;
 use span_query::query::Grouping;
 use span_rows::row_list::RowList;
+use span_value::value::Value;
 use std::alloc::{AllocError, Global};
 use std::marker::Model;
 
@@ -98,6 +100,19 @@ impl<'a> Tables<'a> {
         }
     }
 
+    /// The rows of the table with this number, each lent where it lies. `Fault` where the table is one, or out of memory.
+    pub(crate) fn lend_rows(&self, alloc: Global, number: usize) -> Result<Vec<&[Value]>, Failure>
+        ensures { MatchResult result
+            (λ rows. spec.given self.now number ≡ Some (lent_rows rows.items))
+            (λ why. Gives {A = List Row} (Err why) (spec.given self.now number)) }
+    {
+        match numbered_source(self.sources.as_slice(), number) {
+            None => Ok(Vec::new(alloc)),
+            Some(TableSource::Fault) => Err(Failure::Fault),
+            Some(TableSource::Parts(parts)) => Ok(lend_parts(alloc, parts.as_slice())?),
+        }
+    }
+
     /// The rows of the groups of the table with this number, where these were made with its rows. `Fault` where the table is one or an
     /// aggregate is an arithmetic error, or out of memory.
     pub(crate) fn groups(
@@ -152,6 +167,27 @@ fn add_copies(alloc: Global, rows: &mut RowList, more: &RowList) -> Result<(), A
 {
     for at in 0..more.len() {
         rows.push_copy(alloc, more.row(at))?;
+    }
+    Ok(())
+}
+
+/// The rows of parts, one after another, each lent.
+fn lend_parts<'a>(alloc: Global, parts: &[&'a GroupedRows]) -> Result<Vec<&'a [Value]>, AllocError>
+    ensures { IfOk result (λ rows. lent_rows rows.items ≡ all_rows parts.now) }
+{
+    let mut rows = Vec::new(alloc);
+    for part in parts {
+        add_lent(&mut rows, part.rows())?;
+    }
+    Ok(rows)
+}
+
+fn add_lent<'a>(rows: &mut Vec<&'a [Value]>, more: &'a RowList) -> Result<(), AllocError>
+    ensures { OnOk result (lent_rows rows.new.items ≡ lent_rows rows.old.items ++ more.now) }
+{
+    rows.reserve(more.len())?;
+    for at in 0..more.len() {
+        rows.push(more.row(at))?;
     }
     Ok(())
 }

@@ -1,0 +1,93 @@
+//! Queries whose rows are put in order where they are lent, before the columns of their select list are copied.
+ghost use Rattle.std.specs.Prelude.{◌≡◌, IfOk, IfSome, map, true};
+ghost use Rattle.span_query.specs.declared.query.BoundQuery.TheViews.{out-BoundQuery};
+ghost use Rattle.span_query.specs.Groups.{columns_at};
+ghost use Rattle.span_query.specs.Meaning.{limit_rows};
+ghost use Rattle.span_query.specs.Sorting.{sorted};
+ghost use Rattle.span_rows.specs.LentRows.{lent_rows};
+ghost use Rattle.span_algebra.specs.ColumnOrders.{IsColumnOrder, IsTable, TakesAllRows};
+
+use span_query::query::{Block, BoundQuery, Item, Limit, SortKey};
+use span_rows::columns::{columns_of, keys_over};
+use span_rows::row_list::{RowList, lent_rows};
+use span_rows::sort::order_columns;
+use span_value::value::Value;
+use std::alloc::{AllocError, Global};
+
+/// A select list of columns, and the keys of its rows as keys of the rows that it is taken at.
+#[derive(Drop)]
+pub(crate) struct ColumnOrder {
+    columns: Vec<usize>,
+    keys: Vec<SortKey>,
+}
+
+/// Whether a query is one SELECT whose select list is taken at each row of its FROM, and puts its rows in order.
+fn orders_all_rows(query: &BoundQuery) -> bool
+    ensures { result ≡ true → TakesAllRows (out-BoundQuery query.now) }
+{
+    match (&query.first.filter, &query.first.grouping) {
+        (None, None) => {
+            !query.first.is_distinct && query.others.is_empty() && !query.order.is_empty()
+        }
+        _ => false,
+    }
+}
+
+/// How the rows of a query's FROM are put in order, where its select list is columns alone and taken at each of them, and its keys
+/// are among these columns.
+pub(crate) fn column_order(
+    alloc: Global,
+    query: &BoundQuery,
+) -> Result<Option<ColumnOrder>, AllocError>
+    ensures { IfOk result (λ found. IfSome found (λ order. IsColumnOrder (out-BoundQuery query.now) order)) }
+{
+    if !orders_all_rows(query) {
+        return Ok(None);
+    }
+    let Some(columns) = columns_of(alloc, query.first.outputs.as_slice())? else {
+        return Ok(None);
+    };
+    let Some(keys) = keys_over(alloc, columns.as_slice(), query.order.as_slice())? else {
+        return Ok(None);
+    };
+    Ok(Some(ColumnOrder { columns, keys }))
+}
+
+/// The table that a FROM is, where it is one.
+pub(crate) fn only_table(block: &Block<BoundQuery>) -> Option<usize>
+    ensures { IfSome result (λ number. IsTable block.now number) }
+{
+    match &block.from {
+        Item::Table(number) if block.joins.is_empty() => Some(*number),
+        _ => None,
+    }
+}
+
+/// The columns of the part that LIMIT leaves of the rows in order.
+pub(crate) fn take_columns(
+    alloc: Global,
+    order: &ColumnOrder,
+    limit: Option<Limit>,
+    rows: Vec<&[Value]>,
+) -> Result<RowList, AllocError>
+    ensures { IfOk result
+        (λ part. part ≡ map (columns_at order.now.columns.items) (limit_rows limit (sorted order.now.keys.items (lent_rows rows.entry.items)))) }
+{
+    let (keys, columns) = (order.keys.as_slice(), order.columns.as_slice());
+    order_columns(alloc, keys, limit, columns, rows)
+}
+
+/// The same of rows in a list.
+pub(crate) fn take_columns_of(
+    alloc: Global,
+    order: &ColumnOrder,
+    limit: Option<Limit>,
+    rows: &RowList,
+) -> Result<RowList, AllocError>
+    ensures { IfOk result
+        (λ part. part ≡ map (columns_at order.now.columns.items) (limit_rows limit (sorted order.now.keys.items rows.now))) }
+{
+    let lent = lent_rows(alloc, rows)?;
+    let part = take_columns(alloc, order, limit, lent)?;
+    Ok(part)
+}
