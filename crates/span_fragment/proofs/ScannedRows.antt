@@ -7,7 +7,8 @@ use Rattle.std.proofs.lemmas.List.{append-nil}
 use Rattle.std.proofs.lemmas.List.FromFn.{length-map-range_with_len}
 use Rattle.span_value.specs.declared.truth.Outcome.{Outcome}
 use Rattle.span_schema.specs.declared.table.Table.{Table}
-use Rattle.span_rowcode.specs.Rows.{row_code}
+use Rattle.span_schema.specs.Numbers.{other_kinds}
+use Rattle.span_rowcode.specs.Rows.{IsRow, row_code}
 use Rattle.span_mutate.specs.declared.row.TableRow.{TableRow}
 use Rattle.span_mutate.specs.Database.{rows_of}
 use Rattle.span_mutate.specs.Typed.{IsTyped, AreTyped}
@@ -17,6 +18,7 @@ use Rattle.span_shard.specs.Reading.{has_short_key, IsNoTableRow}
 use Rattle.span_expr.specs.declared.cell.Failure.{Failure}
 use Rattle.span_expr.specs.declared.cell.Failure.TheVariants.{Fault, OutOfMemory}
 use Rattle.span_expr.specs.declared.expr.Expr.{Expr}
+use Rattle.span_expr.specs.Meaning.{val}
 use Rattle.span_expr.specs.Places.{is_in, reads_only, moved, rank}
 use Rattle.span_expr.proofs.Places.{reads_only-wider}
 use Rattle.span_query.specs.Rows.{Row, OrFault, Rows, ◌>>=◌, value_of, is_true, append_results, keep_if, holds, filter_rows, filter_where}
@@ -35,8 +37,10 @@ use Rattle.span_fragment.specs.Meaning.{declared_row, whole_table}
 use Rattle.span_fragment.specs.Entries.{key_row, AreNoRows, IsWhetherOf}
 use Rattle.span_fragment.specs.Given.{picked_given, IsGivenOn}
 use Rattle.span_fragment.specs.Longest.{IsLongest, AreLongest, HaveShortKeys}
+use Rattle.span_fragment.specs.declared.number_test.NumberTest.{NumberTest}
+use Rattle.span_fragment.specs.NumberTests.{meets, IsJudged, IsWhetherPass}
 use Rattle.span_fragment.specs.Readers.{ArePickedOf}
-use Rattle.span_fragment.specs.Scans.{passes, kept_row, IsMaskOf, IsConditionAt, IsAdded, IsAddedWhere, IsTaken}
+use Rattle.span_fragment.specs.Scans.{passes, kept_row, AreTestsWhere, IsMaskOf, IsConditionAt, IsAdded, IsAddedWhere, IsTaken}
 use Rattle.span_fragment.proofs.DeclaredRows.{row_width}
 use Rattle.span_fragment.proofs.ShortKeys.{given_on_all, refused_of_all}
 
@@ -140,6 +144,20 @@ condition_gives schema n ms w at key row values found of read gives t typed own 
     ∙ ap (λ (o : Outcome). value_of o >>= (λ v. Some (is_true v))) (val-picked ms ms (agrees_own ms) whole of.condition wide of.mask.reads)
     ∙ ap (λ (o : Option Expr). passes o whole) (sym of.is) in
     subst (λ (o : OrFault Bool). Gives found o) same gives
+
+-- whether a row passes, by its cells
+judged_passes : (o : Outcome) (b : Bool) → IsJudged o b → (value_of o >>= (λ v. Some (is_true v))) ≡ Some b
+judged_passes o b (inl is) = ap (λ (x : Outcome). value_of x >>= (λ v. Some (is_true v))) is
+judged_passes o b (inr null) = ap (λ (x : Outcome). value_of x >>= (λ v. Some (is_true v))) null.0 ∙ ap (λ (x : Bool). Some x) (sym null.1)
+
+pub tests_give : (schema : List Table) (n : ℕ) (w : Option Expr) (tests : List NumberTest) (row : List ℕ) (found : Bool) → AreTestsWhere schema n w tests
+    → IsWhetherPass (other_kinds schema n) row (λ cells. list_all (meets cells) tests) found
+    → (t : TableRow) → IsTyped schema t → t.table ≡ n → row ≡ row_code t.cells → passes w (declared_row schema t) ≡ Some found
+tests_give schema n w tests row found of whether t typed own cells =
+    let P : ℕ → Type 0 = λ m. IsRow (other_kinds schema m) t.cells in
+    ap (λ (o : Option Expr). passes o (declared_row schema t)) of.is
+    ∙ judged_passes (val (declared_row schema t) of.condition) (list_all (meets t.cells) tests) (of.of.judged t typed own)
+    ∙ ap (λ (b : Bool). Some b) (sym (whether.of t.cells (subst P own typed.1) cells))
 
 -- ---- the entries one after another
 

@@ -13,10 +13,12 @@ use Rattle.span_rows.specs.Answers.{Adds}
 use Rattle.span_planner.specs.Leaves.{width_of}
 use Rattle.span_planner.specs.Picks.{picked}
 use Rattle.span_planner.specs.Reads.{reads_within}
+use Rattle.span_fragment.specs.declared.number_test.NumberTest.{NumberTest}
 use Rattle.span_fragment.specs.declared.scan.Test.{Test}
-use Rattle.span_fragment.specs.declared.scan.Test.TheVariants.{Always, OnRow, OnColumns}
+use Rattle.span_fragment.specs.declared.scan.Test.TheVariants.{Always, OnNumbers, OnRow, OnColumns}
 use Rattle.span_fragment.specs.declared.scan.TableScan.{TableScan}
 use Rattle.span_fragment.specs.Meaning.{declared_row}
+use Rattle.span_fragment.specs.NumberTests.{AreTestsOf}
 use Rattle.span_fragment.specs.Readers.{IsReader}
 
 -- ---- what is kept
@@ -48,9 +50,16 @@ pub record IsConditionAt (schema : List Table) (n : ℕ) (ms : List Bool) (w : O
   pub mask : IsMaskOf (width_of schema n) condition ms
   pub moved : at ≡ moved (rank ms) condition
 
+-- the row passes the condition where its cells meet all of these
+pub record AreTestsWhere (schema : List Table) (n : ℕ) (w : Option Expr) (tests : List NumberTest) : Type 0 where
+  pub condition : Expr
+  pub is : w ≡ Some condition
+  pub of : AreTestsOf schema n condition tests
+
 -- the test is whether a row of table n passes the condition; the mask is that of the rows that are added
 abbrev pub IsTestOf : List Table → ℕ → List Bool → Option Expr → Test → Type 0
 IsTestOf schema n ms w Always = w ≡ None
+IsTestOf schema n ms w (OnNumbers tests) = AreTestsWhere schema n w tests
 IsTestOf schema n ms w (OnRow e) = IsConditionAt schema n ms w e
 IsTestOf schema n ms w (OnColumns columns e) = (columns.table ≡ n) × IsReader schema columns × IsConditionAt schema n columns.mask w e
 
