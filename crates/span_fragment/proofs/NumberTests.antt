@@ -1,11 +1,13 @@
 -- Comparisons of numbers with literals, at packed rows.
-use Rattle.std.proofs.Common.{◌≡◌, ◌⊎◌, inl, inr, ◌∙◌, ℕ, ℤ, zero, suc, ◌+◌, ◌<◌, ◌≤◌, ◌^◌, ◌==◌, Bool, true, false, not, List, [], ◌∷◌, ◌++◌, Option, Some, None, length, take, drop, get_or, refl, sym, ap, subst, arith, if◌then◌else◌}
+use Rattle.std.proofs.Common.{◌≡◌, ◌⊎◌, inl, inr, ◌∙◌, ℕ, ℤ, zero, suc, ◌+◌, ◌<◌, ◌≤◌, ◌^◌, ◌==◌, Bool, true, false, not, List, [], ◌∷◌, ◌++◌, Option, Some, None, length, map, take, drop, get_or, refl, sym, ap, subst, arith, if◌then◌else◌}
 use Rattle.std.specs.Prelude.{◌||◌, ◌&&◌}
 use Rattle.std.specs.Int.{to_be_bytes, cast_unsigned, w64}
-use Rattle.std.specs.List.{AllByRecursion, list_all}
+use Rattle.std.specs.List.{AllByRecursion, fold, list_all}
 use Rattle.std.specs.Option.{unwrap_or, option_or}
 use Rattle.std.proofs.lemmas.Bool.{and_parts, not-true}
-use Rattle.std.proofs.lemmas.List.{drop_more, drop-drop, take_all}
+use Rattle.std.proofs.Math.Seq.{take-suc}
+use Rattle.std.proofs.lemmas.List.{drop_more, drop-drop, map-append, take_all}
+use Rattle.std.proofs.lemmas.List.Sums.{fold-append}
 use Rattle.span_value.specs.declared.value.Value.{Value}
 use Rattle.span_value.specs.declared.value.Value.TheVariants as value
 use Rattle.span_value.specs.declared.value.Value.TheVariants.{Null, Int, Str, Bytes, Bool as Flag}
@@ -13,6 +15,7 @@ use Rattle.span_value.specs.declared.value.Kind.{Kind}
 use Rattle.span_value.specs.declared.value.Kind.TheVariants as kind
 use Rattle.span_value.specs.declared.truth.Outcome.{Outcome}
 use Rattle.span_value.specs.declared.truth.Outcome.TheVariants.{Val}
+use Rattle.span_value.specs.declared.truth.Truth.TheVariants.{Unknown}
 use Rattle.span_value.specs.Orders.{value_order}
 use Rattle.span_schema.specs.declared.table.Table.{Table}
 use Rattle.span_schema.specs.Fitting.{Fits}
@@ -24,18 +27,20 @@ use Rattle.span_rowcode.proofs.RowReads.{no_cell_nothing, one_cell}
 use Rattle.span_mutate.specs.declared.row.TableRow.{TableRow}
 use Rattle.span_mutate.specs.Typed.{IsTyped}
 use Rattle.span_expr.specs.declared.expr.Expr.{Expr}
-use Rattle.span_expr.specs.declared.expr.Expr.TheVariants.{Column, Compare, Literal, rolls-Column, rolls-Compare, rolls-Literal}
+use Rattle.span_expr.specs.declared.expr.Expr.TheVariants.{And, Column, Compare, Literal, rolls-And, rolls-Column, rolls-Compare, rolls-Literal}
 use Rattle.span_expr.specs.declared.expr.Expr.TheFolds.{fold-roll-Expr}
 use Rattle.span_expr.specs.declared.expr.Expr.TheOpen.{Expr-F}
 use Rattle.span_expr.specs.declared.expr.Comparison.{Comparison}
-use Rattle.span_expr.specs.Meaning.{at_operands, val}
+use Rattle.span_expr.specs.declared.condition.Condition.{Condition}
+use Rattle.span_expr.specs.declared.condition.Condition.TheVariants as condition
+use Rattle.span_expr.specs.Meaning.{all_of, and_also, at_operands, val}
 use Rattle.span_expr.specs.Operators as operators
-use Rattle.span_expr.specs.Outcomes.{strict}
+use Rattle.span_expr.specs.Outcomes.{both, condition_of, outcome_of, strict, truth_of}
 use Rattle.span_query.specs.Rows.{Row, value_of, is_true, ◌>>=◌}
 use Rattle.span_planner.specs.Leaves.{width_of}
 use Rattle.span_fragment.specs.declared.number_test.NumberTest.{NumberTest}
 use Rattle.span_fragment.specs.Meaning.{value_for, value_at, declared_row}
-use Rattle.span_fragment.specs.NumberTests.{meets_value, meets, IsNumberAt, IsJudged, AreTestsOf, IsNumberTest, IsNumberCell, IsRestOf, number_or_null, IsNumberFound, IsWhetherPass}
+use Rattle.span_fragment.specs.NumberTests.{meets_value, meets, IsNumberAt, IsJudged, AreMoreTests, AreTestsOf, AreTestsOfAll, IsKnown, IsNumberTest, IsNumberCell, IsRestOf, number_or_null, IsNumberFound, IsWhetherPass}
 use Rattle.span_fragment.proofs.KeyPlaces.{ArePlacesApart}
 use Rattle.span_fragment.proofs.DeclaredRows.{column_at}
 use Rattle.span_fragment.proofs.Placing.{heads}
@@ -277,3 +282,102 @@ one_test_of schema n e test tests is one = subst (AreTestsOf schema n e) (sym is
     alone : (b : Bool) → b ≡ (b && true)
     alone true = refl
     alone false = refl
+
+-- ---- the tests of an AND
+
+abbrev AreNumbers : List Table → ℕ → List NumberTest → Type 0
+AreNumbers schema n tests = AllByRecursion (λ test. IsNumberAt (other_kinds schema n) test.cell) tests
+
+judged_known : (o : Outcome) (b : Bool) → IsJudged o b → IsKnown (condition_of o) b
+judged_known o b (inl is) = inl (ap condition_of is)
+judged_known o b (inr null) = inr (ap condition_of null.0, null.1)
+
+known_judged : (c : Condition) (b : Bool) → IsKnown c b → IsJudged (outcome_of c) b
+known_judged c true (inl is) = inl (ap outcome_of is)
+known_judged c false (inl is) = inl (ap outcome_of is)
+known_judged c b (inr null) = inr (ap outcome_of null.0, null.1)
+
+known_and : (c d : Condition) (a b : Bool) → IsKnown c a → IsKnown d b → IsKnown (both c d) (a && b)
+known_and c d a b (inl first) (inl second) = by_values a b (ap (λ (x : Condition). both x d) first ∙ ap (both (condition.Known (truth_of (value.Bool a)))) second)
+  where
+    by_values : (a b : Bool) → both c d ≡ both (condition.Known (truth_of (value.Bool a))) (condition.Known (truth_of (value.Bool b))) → IsKnown (both c d) (a && b)
+    by_values true true is = inl is
+    by_values true false is = inl is
+    by_values false true is = inl is
+    by_values false false is = inl is
+known_and c d a b (inl first) (inr second) = by_values a (ap (λ (x : Condition). both x d) first ∙ ap (both (condition.Known (truth_of (value.Bool a)))) second.0)
+  where
+    by_values : (a : Bool) → both c d ≡ both (condition.Known (truth_of (value.Bool a))) (condition.Known Unknown) → IsKnown (both c d) (a && b)
+    by_values true is = inr (is, second.1)
+    by_values false is = inl is
+known_and c d a b (inr first) (inl second) = by_values b (ap (λ (x : Condition). both x d) first.0 ∙ ap (both (condition.Known Unknown)) second)
+  where
+    not_both : (y : Bool) → (a && y) ≡ false
+    not_both y = ap (λ (x : Bool). x && y) first.1
+
+    by_values : (b : Bool) → both c d ≡ both (condition.Known Unknown) (condition.Known (truth_of (value.Bool b))) → IsKnown (both c d) (a && b)
+    by_values true is = inr (is, not_both true)
+    by_values false is = subst (λ (x : Bool). IsKnown (both c d) x) (sym (not_both false)) (inl is)
+known_and c d a b (inr first) (inr second) = inr (ap (λ (x : Condition). both x d) first.0 ∙ ap (both (condition.Known Unknown)) second.0, ap (λ (x : Bool). x && b) first.1)
+
+all_and : {X : Type 0} (f : X → Bool) (xs : List X) (y : X) → list_all f (xs ++ y ∷ []) ≡ (list_all f xs && f y)
+all_and f [] y = by_test (f y)
+  where
+    by_test : (b : Bool) → (b && true) ≡ b
+    by_test true = refl
+    by_test false = refl
+all_and f (x ∷ xs) y = by_test (f x) (all_and f xs y)
+  where
+    by_test : (b : Bool) → list_all f (xs ++ y ∷ []) ≡ (list_all f xs && f y) → (b && list_all f (xs ++ y ∷ [])) ≡ ((b && list_all f xs) && f y)
+    by_test true so = so
+    by_test false so = refl
+
+all_added : {X : Type 0} (P : X → Type 0) (xs : List X) (y : X) → AllByRecursion P xs → P y → AllByRecursion P (xs ++ y ∷ [])
+all_added P [] y all one = (one, tt {0})
+all_added P (x ∷ xs) y all one = (all.0, all_added P xs y all.1 one)
+
+pub no_more_tests : (schema : List Table) (n : ℕ) (es : List Expr) (tests : List NumberTest) → AreMoreTests schema n (take 0 es) tests tests
+no_more_tests schema n es tests = record { numbers = λ numbers. numbers; judged = λ t typed own c known. known }
+
+pub one_more_test : (schema : List Table) (n : ℕ) (es : List Expr) (i : ℕ) (e : Expr) (test : NumberTest) (old now new : List NumberTest) → i < length es → e ≡ get_or es i e → new ≡ now ++ test ∷ []
+    → IsNumberTest schema n e test → AreMoreTests schema n (take i es) old now → AreMoreTests schema n (take (i + 1) es) old new
+one_more_test schema n es i e test old now new less is added one so = subst (AreMoreTests schema n (take (i + 1) es) old) (sym added) (record {
+  numbers = λ numbers. all_added (λ (x : NumberTest). IsNumberAt (other_kinds schema n) x.cell) now test (so.numbers numbers) one.number;
+  judged = λ t typed own c known.
+      let row : Row = declared_row schema t in
+      let place : i + 1 ≡ suc i = omega arith in
+      let front : take (i + 1) es ≡ take i es ++ e ∷ [] = ap (λ (k : ℕ). take k es) place ∙ take-suc es i e less ∙ ap (λ (y : Expr). take i es ++ y ∷ []) (sym is) in
+      let all : fold and_also c (map (val row) (take (i + 1) es)) ≡ both (fold and_also c (map (val row) (take i es))) (condition_of (val row e)) =
+      ap (λ (l : List Expr). fold and_also c (map (val row) l)) front
+      ∙ ap (fold and_also c) (map-append (val row) (take i es) (e ∷ []))
+      ∙ fold-append and_also c (map (val row) (take i es)) (val row e ∷ []) in
+      let both_known = known_and (fold and_also c (map (val row) (take i es))) (condition_of (val row e)) (list_all (meets t.cells) now) (meets t.cells test) (so.judged t typed own c known) (judged_known (val row e) (meets t.cells test) (one.judged t typed own)) in
+      let P : Bool → Type 0 = IsKnown (fold and_also c (map (val row) (take (i + 1) es))) in
+      let Q : Condition → Type 0 = λ k. IsKnown k (list_all (meets t.cells) now && meets t.cells test) in
+      subst P (sym (all_and (meets t.cells) now test)) (subst Q (sym all) both_known);
+})
+
+pub all_more_tests : (schema : List Table) (n : ℕ) (es : List Expr) (i : ℕ) (old new : List NumberTest) → length es ≤ i → AreMoreTests schema n (take i es) old new → AreMoreTests schema n es old new
+all_more_tests schema n es i old new over so = subst (λ (l : List Expr). AreMoreTests schema n l old new) (take_all i es over) so
+
+pub tests_of_all : (schema : List Table) (n : ℕ) (first : Expr) (more : List Expr) (test : NumberTest) (old new : List NumberTest) → old ≡ test ∷ [] → IsNumberTest schema n first test → AreMoreTests schema n more old new
+    → AreTestsOfAll schema n first more new
+tests_of_all schema n first more test old new is one so =
+    let begin = one_test_of schema n first test old is one in
+    record {
+      numbers = so.numbers begin.numbers;
+      judged = λ t typed own.
+          let row : Row = declared_row schema t in
+          known_judged (fold and_also (condition_of (val row first)) (map (val row) more)) (list_all (meets t.cells) new)
+          (so.judged t typed own (condition_of (val row first)) (judged_known (val row first) (list_all (meets t.cells) old) (begin.judged t typed own)));
+    }
+
+pub tests_of_and : (schema : List Table) (n : ℕ) (e first : Expr) (more : List Expr) (tests : List NumberTest) → e ≡ And first more → AreTestsOfAll schema n first more tests → AreTestsOf schema n e tests
+tests_of_and schema n e first more tests is all = record {
+  numbers = all.numbers;
+  judged = λ t typed own.
+      let row : Row = declared_row schema t in
+      let same : val row e ≡ all_of (val row first) (map (val row) more) =
+      ap (val row) is ∙ ap (val row) (sym (rolls-And first more)) ∙ fold-roll-Expr Outcome (at_operands row) (Expr-F.And first more) in
+      subst (λ (o : Outcome). IsJudged o (list_all (meets t.cells) tests)) (sym same) (all.judged t typed own);
+}

@@ -1,12 +1,13 @@
 -- Comparisons of numbers with literals, judged where a row is packed.
-use Rattle.std.specs.Prelude.{◌≡◌, ◌⊎◌, ℕ, ℤ, ◌<◌, ◌≤◌, ◌==◌, List, ◌++◌, Bool, true, false, not, Option, Some, None, length, get_or, drop}
-use Rattle.std.specs.List.{AllByRecursion, list_all}
+use Rattle.std.specs.Prelude.{◌≡◌, ◌⊎◌, ℕ, ℤ, ◌<◌, ◌≤◌, ◌==◌, List, ◌++◌, Bool, true, false, not, Option, Some, None, length, get_or, drop, map}
+use Rattle.std.specs.List.{AllByRecursion, fold, list_all}
 use Rattle.span_value.specs.declared.value.Value.{Value}
 use Rattle.span_value.specs.declared.value.Value.TheVariants as value
 use Rattle.span_value.specs.declared.value.Kind.{Kind}
 use Rattle.span_value.specs.declared.value.Kind.TheVariants as kind
 use Rattle.span_value.specs.declared.truth.Outcome.{Outcome}
 use Rattle.span_value.specs.declared.truth.Outcome.TheVariants.{Val}
+use Rattle.span_value.specs.declared.truth.Truth.TheVariants.{Unknown}
 use Rattle.span_value.specs.Orders.{value_order}
 use Rattle.span_schema.specs.declared.table.Table.{Table}
 use Rattle.span_schema.specs.Fitting.{Fits}
@@ -15,8 +16,11 @@ use Rattle.span_rowcode.specs.Rows.{AreCells, IsRow, cell_code, row_code}
 use Rattle.span_mutate.specs.declared.row.TableRow.{TableRow}
 use Rattle.span_mutate.specs.Typed.{IsTyped}
 use Rattle.span_expr.specs.declared.expr.Expr.{Expr}
-use Rattle.span_expr.specs.Meaning.{val}
+use Rattle.span_expr.specs.declared.condition.Condition.{Condition}
+use Rattle.span_expr.specs.declared.condition.Condition.TheVariants as condition
+use Rattle.span_expr.specs.Meaning.{all_of, and_also, val}
 use Rattle.span_expr.specs.Operators.{holds}
+use Rattle.span_expr.specs.Outcomes.{truth_of}
 use Rattle.span_planner.specs.Leaves.{width_of}
 use Rattle.span_fragment.specs.declared.number_test.NumberTest.{NumberTest}
 use Rattle.span_fragment.specs.Meaning.{declared_row}
@@ -50,6 +54,25 @@ pub record AreTestsOf (schema : List Table) (n : ℕ) (e : Expr) (tests : List N
 pub record IsNumberTest (schema : List Table) (n : ℕ) (e : Expr) (test : NumberTest) : Type 0 where
   pub number : IsNumberAt (other_kinds schema n) test.cell
   pub judged : (t : TableRow) → IsTyped schema t → t.table ≡ n → IsJudged (val (declared_row schema t) e) (meets t.cells test)
+
+-- ---- the tests of an AND
+
+-- the tests are what an AND of conditions comes to at the rows of table n
+pub record AreTestsOfAll (schema : List Table) (n : ℕ) (first : Expr) (more : List Expr) (tests : List NumberTest) : Type 0 where
+  pub numbers : AllByRecursion (λ test. IsNumberAt (other_kinds schema n) test.cell) tests
+  pub judged : (t : TableRow) → IsTyped schema t → t.table ≡ n
+      → IsJudged (all_of (val (declared_row schema t) first) (map (val (declared_row schema t)) more)) (list_all (meets t.cells) tests)
+
+-- it is known to be TRUE where the answer is true, and to be FALSE or NULL where it is not
+abbrev pub IsKnown : Condition → Bool → Type 0
+IsKnown c found = (c ≡ condition.Known (truth_of (value.Bool found))) ⊎ ((c ≡ condition.Known Unknown) × (found ≡ false))
+
+-- the tests of some conditions, and after them those of more, at the rows of table n
+pub record AreMoreTests (schema : List Table) (n : ℕ) (more : List Expr) (old new : List NumberTest) : Type 0 where
+  pub numbers : AllByRecursion (λ test. IsNumberAt (other_kinds schema n) test.cell) old
+      → AllByRecursion (λ test. IsNumberAt (other_kinds schema n) test.cell) new
+  pub judged : (t : TableRow) → IsTyped schema t → t.table ≡ n → (c : Condition) → IsKnown c (list_all (meets t.cells) old)
+      → IsKnown (fold and_also c (map (val (declared_row schema t)) more)) (list_all (meets t.cells) new)
 
 -- ---- where the cell of a column is
 

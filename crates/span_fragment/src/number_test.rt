@@ -1,5 +1,5 @@
 //! Comparisons of numbers with literals, judged where a row is packed: no value is made of a row that is not kept.
-ghost use Rattle.std.specs.Prelude.{◌≡◌, ◌<◌, ◌≤◌, ◌==◌, ◌∷◌, [], IfOk, IfSome, MatchOption, get_or, length, not};
+ghost use Rattle.std.specs.Prelude.{◌≡◌, ◌<◌, ◌≤◌, ◌==◌, ◌∷◌, [], IfOk, IfSome, MatchOption, get_or, length, not, true};
 ghost use Rattle.std.specs.List.{AllByRecursion, list_all};
 ghost use Rattle.span_value.specs.declared.value.Kind.TheVariants as kind;
 ghost use Rattle.span_value.specs.declared.value.Value.TheVariants.{Int};
@@ -9,7 +9,7 @@ ghost use Rattle.span_rowcode.specs.Cells.{IsNoBody, IsBody};
 ghost use Rattle.span_expr.specs.declared.expr.Expr.TheVariants.{Literal};
 ghost use Rattle.span_expr.specs.Operators.{holds};
 ghost use Rattle.span_fragment.specs.NumberTests as spec;
-ghost use Rattle.span_fragment.specs.NumberTests.{AreTestsOf, IsNumberAt, IsNumberCell, IsNumberFound, IsNumberTest, IsRestOf, IsWhetherPass};
+ghost use Rattle.span_fragment.specs.NumberTests.{AreMoreTests, AreTestsOf, AreTestsOfAll, IsNumberAt, IsNumberCell, IsNumberFound, IsNumberTest, IsRestOf, IsWhetherPass};
 
 use span_expr::expr::{Comparison, Expr};
 use span_planner::table::width_of;
@@ -111,8 +111,51 @@ fn one_test(alloc: Global, test: NumberTest) -> Result<Seq<NumberTest>, AllocErr
     Ok(Seq::from_vec(tests))
 }
 
+/// Adds the tests that conditions are. False where one is none.
+fn add_tests(
+    schema: &Schema,
+    table: usize,
+    conditions: &[Expr],
+    tests: &mut Vec<NumberTest>,
+) -> Result<bool, AllocError>
+    requires { IsTable schema.now table }
+    ensures { IfOk result
+        (λ all. all ≡ true → AreMoreTests schema.now table conditions.now tests.old.items tests.new.items) }
+{
+    for condition in conditions {
+        match number_test(schema, table, condition) {
+            None => return Ok(false),
+            Some(test) => tests.push(test)?,
+        }
+    }
+    Ok(true)
+}
+
+/// The tests that an AND of conditions is.
+fn tests_of_all(
+    alloc: Global,
+    schema: &Schema,
+    table: usize,
+    first: &Expr,
+    more: &[Expr],
+) -> Result<Option<Seq<NumberTest>>, AllocError>
+    requires { IsTable schema.now table }
+    ensures { IfOk result
+        (λ found. MatchOption found (Unit {0}) (λ tests. AreTestsOfAll schema.now table first.now more.now tests)) }
+{
+    let Some(test) = number_test(schema, table, first) else {
+        return Ok(None);
+    };
+    let mut tests = Vec::with_capacity(alloc, 1)?;
+    tests.push(test)?;
+    if !add_tests(schema, table, more, &mut tests)? {
+        return Ok(None);
+    }
+    Ok(Some(Seq::from_vec(tests)))
+}
+
 /// The tests that a condition is: it is TRUE where a row meets all of them. None where it is no comparison of a column of numbers outside
-/// the key with a number.
+/// the key with a number, and no AND of some.
 pub(crate) fn number_tests(
     alloc: Global,
     schema: &Schema,
@@ -123,9 +166,12 @@ pub(crate) fn number_tests(
     ensures { IfOk result
         (λ found. MatchOption found (Unit {0}) (λ tests. AreTestsOf schema.now table condition.now tests)) }
 {
-    match number_test(schema, table, condition) {
-        None => Ok(None),
-        Some(test) => Ok(Some(one_test(alloc, test)?)),
+    match condition {
+        Expr::And(first, more) => tests_of_all(alloc, schema, table, first.get(), more.as_slice()),
+        _ => match number_test(schema, table, condition) {
+            None => Ok(None),
+            Some(test) => Ok(Some(one_test(alloc, test)?)),
+        },
     }
 }
 

@@ -179,11 +179,10 @@ impl TableReader {
     {
         schema.meets_rules();
         let all = self.all.as_slice();
+        put_nulls(row, all.len())?;
         if all.is_empty() {
-            row.clear();
             return Ok(());
         }
-        put_nulls(row, all.len())?;
         let kinds = schema.other_kinds(self.table);
         let others = self.others.as_slice();
         if !put_cells(alloc, kinds, others, all, self.others_read, cells, row)? {

@@ -35,7 +35,7 @@ returns-then-is_empty c = record {
       let wanted : c.as_slice-all.result.now ≡ replicate (picked_width ms) true = c.as_slice-all.ensures ∙ c.requires.reader.all in
       let none : length c.as_slice-all.result.now ≡ 0 = eqb-true (length c.as_slice-all.result.now) 0 (sym c.is_empty.ensures ∙ c.if-is_empty.true) in
       let width : picked_width ms ≡ 0 = sym (ap (length {A = Bool}) wanted ∙ length-replicate (picked_width ms) true) ∙ none in
-      c.clear.ensures.items ∙ sym (none_picked ms (declared_row schema t) width);
+      c.in_ok-put_nulls.ensures ∙ ap (λ (w : ℕ). replicate w Null) none ∙ sym (none_picked ms (declared_row schema t) width);
 }
 
 pub returns : goal.returns
