@@ -1,6 +1,6 @@
 -- Comparisons of numbers with literals, at packed rows.
-use Rattle.std.proofs.Common.{◌≡◌, ◌⊎◌, inl, inr, ◌∙◌, ℕ, ℤ, zero, suc, ◌+◌, ◌<◌, ◌≤◌, ◌^◌, ◌==◌, Bool, true, false, not, List, [], ◌∷◌, ◌++◌, Option, Some, None, length, map, take, drop, get_or, refl, sym, ap, subst, arith, if◌then◌else◌}
-use Rattle.std.specs.Prelude.{◌||◌, ◌&&◌}
+use Rattle.std.proofs.Common.{◌≡◌, inl, inr, ◌∙◌, ℕ, ℤ, zero, suc, ◌+◌, ◌<◌, ◌≤◌, ◌^◌, ◌==◌, Bool, true, false, not, List, [], ◌∷◌, ◌++◌, Option, Some, None, length, map, take, drop, get_or, refl, sym, ap, subst, arith, if◌then◌else◌}
+use Rattle.std.specs.Prelude.{◌&&◌}
 use Rattle.std.specs.Int.{to_be_bytes, cast_unsigned, w64}
 use Rattle.std.specs.List.{AllByRecursion, fold, list_all}
 use Rattle.std.specs.Option.{unwrap_or, option_or}
@@ -16,11 +16,10 @@ use Rattle.span_value.specs.declared.value.Kind.TheVariants as kind
 use Rattle.span_value.specs.declared.truth.Outcome.{Outcome}
 use Rattle.span_value.specs.declared.truth.Outcome.TheVariants.{Val}
 use Rattle.span_value.specs.declared.truth.Truth.TheVariants.{Unknown}
-use Rattle.span_value.specs.Orders.{value_order}
 use Rattle.span_schema.specs.declared.table.Table.{Table}
 use Rattle.span_schema.specs.Fitting.{Fits}
 use Rattle.span_schema.specs.Numbers.{key_places, other_places, other_kinds}
-use Rattle.span_rowcode.specs.Rows.{AreCells, IsRow, IsCellSkip, cell_code, row_code}
+use Rattle.span_rowcode.specs.Rows.{AreCells, IsCellSkip, cell_code, row_code}
 use Rattle.span_rowcode.specs.Limits.{longest_row}
 use Rattle.span_rowcode.specs.Cells.{IsNoBody, IsBody}
 use Rattle.span_rowcode.proofs.RowReads.{no_cell_nothing, one_cell}
@@ -36,14 +35,12 @@ use Rattle.span_expr.specs.declared.condition.Condition.TheVariants as condition
 use Rattle.span_expr.specs.Meaning.{all_of, and_also, at_operands, val}
 use Rattle.span_expr.specs.Operators as operators
 use Rattle.span_expr.specs.Outcomes.{both, condition_of, outcome_of, strict, truth_of}
-use Rattle.span_query.specs.Rows.{Row, value_of, is_true, ◌>>=◌}
-use Rattle.span_planner.specs.Leaves.{width_of}
+use Rattle.span_query.specs.Rows.{Row}
 use Rattle.span_fragment.specs.declared.number_test.NumberTest.{NumberTest}
-use Rattle.span_fragment.specs.Meaning.{value_for, value_at, declared_row}
+use Rattle.span_fragment.specs.Meaning.{value_for, declared_row}
 use Rattle.span_fragment.specs.NumberTests.{meets_value, meets, IsNumberAt, IsJudged, AreMoreTests, AreTestsOf, AreTestsOfAll, IsKnown, IsNumberTest, IsNumberCell, IsRestOf, number_or_null, IsNumberFound, IsWhetherPass}
 use Rattle.span_fragment.proofs.KeyPlaces.{ArePlacesApart}
 use Rattle.span_fragment.proofs.DeclaredRows.{column_at}
-use Rattle.span_fragment.proofs.Placing.{heads}
 use Rattle.span_fragment.proofs.PlacedRows.{others_placed, others_apart}
 
 -- ---- the cells that are left
