@@ -43,6 +43,17 @@ impl RowList {
         }
     }
 
+    /// No rows, with reserved capacity for a number of rows of a number of values each. The only error is out of memory.
+    pub fn with_capacity(alloc: Global, rows: usize, width: usize) -> Result<RowList, AllocError>
+        ensures { IfOk result (λ list. list ≡ []) }
+    {
+        let count = rows.checked_mul(width).ok_or(AllocError)?;
+        Ok(RowList {
+            values: Vec::with_capacity(alloc, count)?,
+            ends: Vec::with_capacity(alloc, rows)?,
+        })
+    }
+
     /// The number of rows.
     #[tactic(auto, using(crate::proofs::Cutting::cut_count))]
     pub fn len(&self) -> usize
@@ -318,6 +329,7 @@ fn append_parts(
     ensures err { OnErr result (cut_at 0 ends.new.items values.new.items ≡ cut_at 0 ends.old.items values.old.items) }
 {
     values.reserve(more.len())?;
+    ends.reserve(more_ends.len())?;
     append_ends(ends, values.len(), more_ends)?;
     values.append(more).unwrap();
     Ok(())
