@@ -137,7 +137,8 @@ pub fn order_columns(
     rows: Vec<&[Value]>,
 ) -> Result<RowList, AllocError>
     ensures { IfOk result
-        (λ part. part ≡ map (columns_at columns.now) (meaning.limit_rows limit (spec.sorted keys.now (lent_rows rows.entry.items)))) }
+        (λ part. part
+        ≡ map (columns_at columns.now) (meaning.limit_rows limit (spec.sorted keys.now (lent_rows rows.entry.items)))) }
 {
     let ordered = rows_in_order(alloc, keys, limit, rows)?;
     let part = copy_columns(alloc, columns, limit_rows(limit, ordered.as_slice()))?;
