@@ -66,11 +66,11 @@ none_at test (y ∷ ys) zero x none here passes =
     let same : y ≡ x = cc in
     let first : test y ≡ true = ap test same ∙ passes in
     none-some y (sym (subst (λ (b : Bool). cond b (Some y) (find test ys) ≡ None) first none))
-none_at test (y ∷ ys) (suc i) x none here passes = by (test y) none
+none_at test (y ∷ ys) (suc i) x none here passes = by (test y) none (λ e. none_at test ys i x e here passes)
   where
-    by : (b : Bool) → cond b (Some y) (find test ys) ≡ None → ⊥
-    by true e = none-some y (sym e)
-    by false e = none_at test ys i x e here passes
+    by : (b : Bool) → cond b (Some y) (find test ys) ≡ None → (find test ys ≡ None → ⊥) → ⊥
+    by true e later = none-some y (sym e)
+    by false e later = later e
 
 -- the place of the first of this number is one where the session has begun a transaction under it; where there is none, it has begun none
 pub begun_there : (v : SessionHistory) (number : ℕ) (r : Option ℕ) → r ≡ position (λ (b : Begun). b.number == number) v.begun → MatchOption r (HasNotBegun v number) (IsBegunAt v number)

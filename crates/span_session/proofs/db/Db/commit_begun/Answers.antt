@@ -5,5 +5,5 @@ use Rattle.span_session.proofs.db.Db.commit_begun.Goals as goal
 pub publish_begun-requires : goal.publish_begun-requires
 publish_begun-requires g c = slice_get_within c.args.me.now.begun c.args.place c.requires.begun c.requires.there
 
-pub returns : goal.returns
-returns g c = decides_begun c.args.me.now c.publish_begun.new.me c.args.number c.args.place c.requires c.publish_begun.result c.publish_begun.ensures.ok c.publish_begun.ensures.err
+pub returns-clause-decided : goal.returns-clause-decided
+returns-clause-decided g c = decides_begun c.args.me.now c.publish_begun.new.me c.args.number c.args.place c.requires c.publish_begun.result c.publish_begun.ensures.ok c.publish_begun.ensures.err
