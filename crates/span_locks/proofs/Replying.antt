@@ -1,6 +1,6 @@
 -- The journal under its lock is a machine that goes with what the rule knows of it, and its reply is the answer.
 use Rattle.std.proofs.Common.{◌≡◌, ◌⊎◌, ◌≤◌, ◌<◌, ℕ, List, [], ◌∷◌, length, Option, Some, None, Result, Ok, Err, refl, sym, ap, ◌∙◌, subst, inl, inr, arith}
-use Rattle.std.specs.Prelude.{slice_get, slice_set, IfOk, IfErr, MatchOption}
+use Rattle.std.specs.Prelude.{slice_get, slice_set, IfOk, IfErr, IfSome, MatchOption}
 use Rattle.std.proofs.lemmas.Option.{slice_get_past, slice_get-get_or}
 use Rattle.atomic_table.specs.Seated.{TableId}
 use Rattle.span_value.specs.declared.refusal.Refusal.{Refusal}
@@ -25,11 +25,12 @@ use Rattle.span_parts.specs.Replies.{as_reply, decision_reply}
 use Rattle.span_parts.specs.Whole.{IsWhole, BelongsAt, GoesAt}
 use Rattle.span_parts.proofs.Applying.{live_here}
 use Rattle.span_parts.proofs.Changes.{set_there}
+use Rattle.span_locks.specs.declared.begun.Begun.{Begun}
 use Rattle.span_locks.specs.declared.board.Role.{Role}
 use Rattle.span_locks.specs.Held.{IsKeeper}
 use Rattle.span_locks.specs.Known.{Known}
-use Rattle.span_locks.specs.Rule.{SessionHistory, known_at}
-use Rattle.span_locks.specs.Replies.{IsMachineOf, Replies, MayReply, RepliesOnce, MayReplyOnce, RepliesAt, MayReplyAt, at_slot, LacksTransaction, RepliesToCommit, RepliesToCommitOnce, RepliesToVerdict, RepliesToDecision, IsBeginRefused, IsUndecided, IsUncommitted, IsAmong, IsPrepareRefusal, IsCommitRefusal, begin_refusals, apply_refusals, abort_refusals, decide_refusals, split_refusals, trim_refusals, IsErrAmong}
+use Rattle.span_locks.specs.Rule.{SessionHistory, IsBegunAt, known_at}
+use Rattle.span_locks.specs.Replies.{IsMachineOf, Replies, MayReply, RepliesOnce, MayReplyOnce, RepliesAt, MayReplyAt, at_slot, RepliesToCommit, RepliesToCommitOnce, RepliesToBegun, RepliesToVerdict, RepliesToDecision, IsBeginRefused, IsPrepareRefused, IsUndecided, IsUncommitted, IsAmong, IsPrepareRefusal, IsCommitRefusal, begin_refusals, apply_refusals, abort_refusals, decide_refusals, split_refusals, trim_refusals, IsErrAmong}
 use Rattle.span_locks.proofs.Refusals.{refused_same, at_slot_cause, advance_refused, advance_floor, trim_refused, split_refused, split_number, cut_within, apply_refused, begin_refused, commit_refused, abort_refused, abort_undecided, prepare_refused}
 
 -- ---- slots of a machine
@@ -185,8 +186,12 @@ module _ (schema : List Table) (owner : ℕ) (ms : List CheckedMutation) where
   uncommitted_is gives why (inl e) = inl (begin_why_is why e)
   uncommitted_is gives why (inr x) = by x.1
     where
+      at_a_slot : (slot : ℕ) → MayReplyOnce schema (at_slot slot (λ m. prepare schema m owner x.0 slot)) (reply.Refused why) → MayReplyAt schema slot (λ m. prepare schema m owner x.0 slot) (reply.Refused why)
+      at_a_slot slot (inl e) = inl e
+      at_a_slot slot (inr y) = inr (inr y)
+
       by : IsUndecided schema owner x.0 ms gives why → IsCommitRefusal why
-      by (inl e) = inr (inl (prepare_why_is schema e.0 owner x.0 why e.1))
+      by (inl e) = inr (inl (prepare_why_is schema e.0 owner x.0 why (at_a_slot e.0 e.1)))
       by (inr e) = inr (inr (commit_why_is x.0 e.0 why e.2))
 
 module _ (schema : List Table) (owner txn : ℕ) (interval : Interval) where
@@ -201,10 +206,28 @@ module _ (schema : List Table) (owner txn : ℕ) (interval : Interval) where
 
 -- ---- decisions
 
--- with the mutations that a session has begun, or without them
-pub begun_or_lacks : (schema : List Table) (known : Known) (owner txn : ℕ) (ms : List CheckedMutation) (interval : Interval) (m : Machine) → IsMachineOf schema known m → LacksTransaction m owner txn ms
-    → RepliesToCommit schema known owner txn ms interval (reply.Refused refusal.UnknownTransaction)
-begun_or_lacks schema known owner txn ms interval m goes lacks = inl (refl, (m, goes, lacks))
+-- what a session has begun at a place is decided as of the number under which it has begun it
+pub begun_replies : (schema : List Table) (known : Known) (session : SessionHistory) (number place : ℕ) (at : IsBegunAt session number place) (interval : Interval) (r : Reply)
+    → IfSome (slice_get session.begun place) (λ b. RepliesToCommit schema known session.owner b.number b.mutations interval r) → RepliesToBegun schema session number interval r
+begun_replies schema known session number place at interval r x =
+    let is = subst (λ (o : Option Begun). IfSome o (λ b. RepliesToCommit schema known session.owner b.number b.mutations interval r)) at.there x in
+    record {
+      place = place;
+      at = at;
+      replies = (known, subst (λ (n : ℕ). RepliesToCommit schema known session.owner n at.begun.mutations interval r) at.numbered is);
+    }
+
+-- a transaction is not prepared under the locks of a slot and of the journal
+pub prepare_is_refused : (schema : List Table) (known : Known) (owner txn slot : ℕ) (why : Refusal) → MayReply schema known (at_slot slot (λ m. prepare schema m owner txn slot)) (reply.Refused why)
+    → IsPrepareRefused schema owner txn why
+prepare_is_refused schema known owner txn slot why (inl e) = (slot, inl e)
+prepare_is_refused schema known owner txn slot why (inr x) = (slot, inr (known, x))
+
+-- a decision to commit is refused by a reading
+pub undecided_by : (schema : List Table) (known : Known) (owner txn : ℕ) (ms : List CheckedMutation) (gives : Interval → Type 0) (read : Interval) → gives read → (r : Result ℕ Refusal)
+    → RepliesToCommit schema known owner txn ms read (as_reply reply.Decided r) → IfErr r (IsUndecided schema owner txn ms gives)
+undecided_by schema known owner txn ms gives read given (Ok ts) x = tt
+undecided_by schema known owner txn ms gives read given (Err why) x = inr (read, given, (known, x))
 
 module _ (schema : List Table) (session : SessionHistory) (number : ℕ) where
   abort_widened : (why : Refusal) → IsAmong abort_refusals why → IsAmong decide_refusals why

@@ -108,10 +108,10 @@ RepliesToDecision schema session number v gives r =
 abbrev pub IsBeginRefused : List Table → ℕ → List CheckedMutation → Refusal → Type 0
 IsBeginRefused schema owner ms why = MayReplyOnce schema (λ m. begin m owner ms) (Refused why)
 
--- the machine refuses so to prepare the transaction at a slot, memory ran out, or there is no such slot
+-- the machine refuses so to prepare the transaction at a slot, which may not be in use, or memory ran out
 abbrev pub IsPrepareRefused : List Table → ℕ → ℕ → Refusal → Type 0
 IsPrepareRefused schema owner txn why =
-    (slot : ℕ) × MayReplyAt schema slot (λ m. prepare schema m owner txn slot) (Refused why)
+    (slot : ℕ) × MayReplyOnce schema (at_slot slot (λ m. prepare schema m owner txn slot)) (Refused why)
 
 -- What was begun under a number is not committed: it is not prepared at a slot, or a decision to commit it is refused by a reading that the
 -- clock may give.
