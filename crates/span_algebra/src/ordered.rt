@@ -71,7 +71,8 @@ pub(crate) fn take_columns(
     rows: Vec<&[Value]>,
 ) -> Result<RowList, AllocError>
     ensures { IfOk result
-        (λ part. part ≡ map (columns_at order.now.columns.items) (limit_rows limit (sorted order.now.keys.items (lent_rows rows.entry.items)))) }
+        (λ part. part
+        ≡ map (columns_at order.now.columns.items) (limit_rows limit (sorted order.now.keys.items (lent_rows rows.entry.items)))) }
 {
     let (keys, columns) = (order.keys.as_slice(), order.columns.as_slice());
     order_columns(alloc, keys, limit, columns, rows)

@@ -6,13 +6,14 @@ ghost use Rattle.span_command.specs.Record.{row_records};
 
 use csv::{StringRecord, WriterBuilder};
 use itoa::Buffer;
+use span_rows::row_list::RowList;
 use span_value::cell::cell_text;
 use span_value::refusal::Refusal;
-use span_value::value::{Row, Value};
+use span_value::value::Value;
 use std::alloc::Global;
 
 /// The rows, each as a record of its cells, as `csv` writes them. `OutOfMemory` is the only refusal.
-pub fn rows_text(alloc: Global, rows: &[Row]) -> Result<Vec<u8>, Refusal>
+pub fn rows_text(alloc: Global, rows: &RowList) -> Result<Vec<u8>, Refusal>
     ensures text { IfOk result (λ text. text.items ≡ row_records rows.now) }
     ensures memory { IsOkUnless result Refusal.OutOfMemory }
 {
@@ -20,8 +21,8 @@ pub fn rows_text(alloc: Global, rows: &[Row]) -> Result<Vec<u8>, Refusal>
     let mut records = WriterBuilder::new()
         .flexible(true)
         .from_writer(Vec::new(alloc));
-    for row in rows {
-        put_cells(alloc, row.as_slice(), &mut cells)?;
+    for at in 0..rows.len() {
+        put_cells(alloc, rows.row(at), &mut cells)?;
         // The text is in memory, so that only memory can run out.
         if records.write_byte_record(cells.as_byte_record()).is_err() {
             return Err(Refusal::OutOfMemory);

@@ -50,7 +50,7 @@ module _ (schema : List Table) where
   pub row_width : (r : TableRow) → length (declared_row schema r) ≡ width_of schema r.table
   row_width r = length-map-range_with_len (value_at schema r) 0 (length (columns_of schema r.table))
 
-  column_at : (r : TableRow) (place : ℕ) → place < width_of schema r.table → column_of (declared_row schema r) place ≡ value_at schema r place
+  pub column_at : (r : TableRow) (place : ℕ) → place < width_of schema r.table → column_of (declared_row schema r) place ≡ value_at schema r place
   column_at r place within =
       let long : place < length (declared_row schema r) = omega (arith, row_width r) in
       let found : slice_get (declared_row schema r) place ≡ Some (value_at schema r place) =

@@ -9,6 +9,7 @@ mod Fronts
 mod ScannedRows
 mod KeyLengths
 mod PlacedRows
+mod NumberTests
 mod Placing
 mod ShortKeys
 mod TargetRows

@@ -56,7 +56,7 @@ apart_from key i (c ∷ cs) = by_test (is_key_name key c.name) (apart_from key (
     by_test true rest = rest
     by_test false rest = (later key i (i + 1) cs (omega arith), rest)
 
-others_apart : (schema : List Table) (n : ℕ) → ArePlacesApart (other_places schema n)
+pub others_apart : (schema : List Table) (n : ℕ) → ArePlacesApart (other_places schema n)
 others_apart schema n = apart_from (key_in (table_at schema n)) 0 (columns_of schema n)
 
 -- ---- what is at a place

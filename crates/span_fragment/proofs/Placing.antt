@@ -327,5 +327,13 @@ cells_end ms ks ps bs old row i at h left = record {
       (refl, cells_done ms (drop i ps) (drop at bs) row all (subst P (drop_all i ks h) (left vs f e)));
 }
 
+-- no cell that is left is wanted
+pub cells_stop : (ms : List Bool) (ks : List Kind) (ps bs : List ℕ) (old row : List Value) (i at : ℕ) → wants_none ms (drop i ps) ≡ true → CellsLeftAt ms ks ps bs old i at row → AreCellsPut ks ps ms bs old row true
+cells_stop ms ks ps bs old row i at none left = record {
+  put = λ vs f e.
+      let here = left vs f e in
+      (refl, none_put ms (drop i ps) here.values row none ∙ sym here.put);
+}
+
 pub too_long : (ms : List Bool) (ks : List Kind) (ps bs : List ℕ) (old : List Value) → longest_row < length bs → AreCellsPut ks ps ms bs old old false
 too_long ms ks ps bs old long = record { put = λ vs f e. absurd (omega (arith, f.1, long, ap (length {A = ℕ}) e)) }

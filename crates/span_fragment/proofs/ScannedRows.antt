@@ -7,7 +7,8 @@ use Rattle.std.proofs.lemmas.List.{append-nil}
 use Rattle.std.proofs.lemmas.List.FromFn.{length-map-range_with_len}
 use Rattle.span_value.specs.declared.truth.Outcome.{Outcome}
 use Rattle.span_schema.specs.declared.table.Table.{Table}
-use Rattle.span_rowcode.specs.Rows.{row_code}
+use Rattle.span_schema.specs.Numbers.{other_kinds}
+use Rattle.span_rowcode.specs.Rows.{IsRow, row_code}
 use Rattle.span_mutate.specs.declared.row.TableRow.{TableRow}
 use Rattle.span_mutate.specs.Database.{rows_of}
 use Rattle.span_mutate.specs.Typed.{IsTyped, AreTyped}
@@ -17,6 +18,7 @@ use Rattle.span_shard.specs.Reading.{has_short_key, IsNoTableRow}
 use Rattle.span_expr.specs.declared.cell.Failure.{Failure}
 use Rattle.span_expr.specs.declared.cell.Failure.TheVariants.{Fault, OutOfMemory}
 use Rattle.span_expr.specs.declared.expr.Expr.{Expr}
+use Rattle.span_expr.specs.Meaning.{val}
 use Rattle.span_expr.specs.Places.{is_in, reads_only, moved, rank}
 use Rattle.span_expr.proofs.Places.{reads_only-wider}
 use Rattle.span_query.specs.Rows.{Row, OrFault, Rows, ◌>>=◌, value_of, is_true, append_results, keep_if, holds, filter_rows, filter_where}
@@ -35,8 +37,10 @@ use Rattle.span_fragment.specs.Meaning.{declared_row, whole_table}
 use Rattle.span_fragment.specs.Entries.{key_row, AreNoRows, IsWhetherOf}
 use Rattle.span_fragment.specs.Given.{picked_given, IsGivenOn}
 use Rattle.span_fragment.specs.Longest.{IsLongest, AreLongest, HaveShortKeys}
+use Rattle.span_fragment.specs.declared.number_test.NumberTest.{NumberTest}
+use Rattle.span_fragment.specs.NumberTests.{meets, AreTestsOf, IsJudged, IsWhetherPass}
 use Rattle.span_fragment.specs.Readers.{ArePickedOf}
-use Rattle.span_fragment.specs.Scans.{passes, kept_row, IsMaskOf, IsConditionAt, IsAdded, IsAddedWhere, IsTaken}
+use Rattle.span_fragment.specs.Scans.{passes, kept_row, AreNeeded, AreTestsWhere, IsMaskOf, IsConditionAt, IsAdded, IsAddedWhere, IsTaken}
 use Rattle.span_fragment.proofs.DeclaredRows.{row_width}
 use Rattle.span_fragment.proofs.ShortKeys.{given_on_all, refused_of_all}
 
@@ -140,6 +144,52 @@ condition_gives schema n ms w at key row values found of read gives t typed own 
     ∙ ap (λ (o : Outcome). value_of o >>= (λ v. Some (is_true v))) (val-picked ms ms (agrees_own ms) whole of.condition wide of.mask.reads)
     ∙ ap (λ (o : Option Expr). passes o whole) (sym of.is) in
     subst (λ (o : OrFault Bool). Gives found o) same gives
+
+-- whether a row passes, by its cells
+judged_passes : (o : Outcome) (b : Bool) → IsJudged o b → (value_of o >>= (λ v. Some (is_true v))) ≡ Some b
+judged_passes o b (inl is) = ap (λ (x : Outcome). value_of x >>= (λ v. Some (is_true v))) is
+judged_passes o b (inr null) = ap (λ (x : Outcome). value_of x >>= (λ v. Some (is_true v))) null.0 ∙ ap (λ (x : Bool). Some x) (sym null.1)
+
+-- the tests that a condition is tell whether a row passes it
+pub tests_where : (schema : List Table) (n : ℕ) (w : Option Expr) (e : Expr) (tests : List NumberTest) → w ≡ Some e → AreTestsOf schema n e tests → AreTestsWhere schema n w tests
+tests_where schema n w e tests is of = record {
+  numbers = of.numbers;
+  judged = λ t typed own.
+      ap (λ (o : Option Expr). passes o (declared_row schema t)) is ∙ judged_passes (val (declared_row schema t) e) (list_all (meets t.cells) tests) (of.judged t typed own);
+}
+
+-- each row passes where there is no condition
+pub no_condition : (schema : List Table) (n : ℕ) (w : Option Expr) → w ≡ None → AreTestsWhere schema n w []
+no_condition schema n w none = record { numbers = tt {0}; judged = λ t typed own. ap (λ (o : Option Expr). passes o (declared_row schema t)) none }
+
+pub needed_tests : (schema : List Table) (n : ℕ) (w : Option Expr) (tests : List NumberTest) → AreTestsWhere schema n w tests → AreNeeded schema n w tests
+needed_tests schema n w tests of = record { numbers = of.numbers; unmet = λ t typed own not_met. of.judged t typed own ∙ ap (λ (b : Bool). Some b) not_met }
+
+pub none_needed : (schema : List Table) (n : ℕ) (w : Option Expr) (tests : List NumberTest) → tests ≡ [] → AreNeeded schema n w tests
+none_needed schema n w tests is = subst (AreNeeded schema n w) (sym is) (record { numbers = tt {0}; unmet = λ t typed own not_met. absurd (let bad : true ≡ false = not_met in cc) })
+
+cells_fit : (schema : List Table) (n : ℕ) (t : TableRow) → IsTyped schema t → t.table ≡ n → IsRow (other_kinds schema n) t.cells
+cells_fit schema n t typed own = let P : ℕ → Type 0 = λ m. IsRow (other_kinds schema m) t.cells in subst P own typed.1
+
+-- a row that does not meet them is not kept, whatever table it is of
+pub unmet_taken : (schema : List Table) (n : ℕ) (ms : List Bool) (w : Option Expr) (key row : List ℕ) (tests : List NumberTest) (rows : List Row) → AreNeeded schema n w tests
+    → IsWhetherPass (other_kinds schema n) row (λ cells. list_all (meets cells) tests) false → IsTaken schema n ms w key row (Ok tt) rows rows
+unmet_taken schema n ms w key row tests rows needed whether = record { of = λ t typed is cells. by_test t typed is cells (t.table == n) refl }
+  where
+    by_test : (t : TableRow) → IsTyped schema t → key ≡ code_of schema t → row ≡ row_code t.cells → (b : Bool) → (t.table == n) ≡ b → Adds (Ok tt) (kept_row schema n ms w t) rows rows
+    by_test t typed is cells true test =
+        let own : t.table ≡ n = eqb-true t.table n test in
+        let none : passes w (declared_row schema t) ≡ Some false = needed.unmet t typed own (sym (whether.of t.cells (cells_fit schema n t typed own) cells)) in
+        let kept : kept_row schema n ms w t ≡ Some [] = kept_own schema n ms w t true test ∙ ap (λ (o : OrFault Bool). o >>= (λ b. Some (keep_if (picked ms (declared_row schema t)) b))) none in
+        subst (λ (o : Rows). Adds (Ok tt) o rows rows) (sym kept) (ap (λ (l : List Row). Some l) (append-nil rows))
+    by_test t typed is cells false test =
+        subst (λ (o : Rows). Adds (Ok tt) o rows rows) (sym (kept_own schema n ms w t false test)) (ap (λ (l : List Row). Some l) (append-nil rows))
+
+-- a row of the table that meets them is kept, where they tell whether it passes
+pub met_added : (schema : List Table) (n : ℕ) (ms : List Bool) (w : Option Expr) (key row : List ℕ) (tests : List NumberTest) (old new : List Row) → AreTestsWhere schema n w tests
+    → IsWhetherPass (other_kinds schema n) row (λ cells. list_all (meets cells) tests) true → IsAdded schema n ms key row old new → IsAddedWhere schema n ms w key row (Ok tt) old new
+met_added schema n ms w key row tests old new of whether added =
+    passed schema n ms w key row old new (λ t typed own is cells. of.judged t typed own ∙ ap (λ (b : Bool). Some b) (sym (whether.of t.cells (cells_fit schema n t typed own) cells))) added
 
 -- ---- the entries one after another
 

@@ -53,6 +53,13 @@ picked_set (false ∷ ms) zero v (x ∷ row) fits is = cc
 picked_set (true ∷ ms) (suc p) v (x ∷ row) fits is = ap (λ (l : List Value). x ∷ l) (picked_set ms p v row (omega arith) is)
 picked_set (false ∷ ms) (suc p) v (x ∷ row) fits is = picked_set ms p v row (omega arith) is
 
+-- nothing is picked where the mask has no place
+pub none_picked : (ms : List Bool) (row : List Value) → picked_width ms ≡ 0 → picked ms row ≡ []
+none_picked [] row none = refl
+none_picked (true ∷ ms) row none = absurd (omega (arith, none))
+none_picked (false ∷ ms) [] none = refl
+none_picked (false ∷ ms) (v ∷ row) none = none_picked ms row none
+
 picked_put : (ms : List Bool) (p : ℕ) (v : Value) (row : List Value) → length ms ≤ length row → picked ms (put ms p v row) ≡ put (all_of ms) (target ms p) v (picked ms row)
 picked_put ms p v row fits = by_test (is_wanted ms p) refl
   where

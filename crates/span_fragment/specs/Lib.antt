@@ -8,5 +8,6 @@ pub mod Longest
 pub mod Narrowed
 pub mod Readers
 pub mod LeafReaders
+pub mod NumberTests
 pub mod Scans
 pub mod Steps

@@ -1,5 +1,5 @@
 -- Reading of a table's rows, of the columns alone that a mask has.
-use Rattle.std.specs.Prelude.{◌≡◌, ℕ, ◌≤◌, List, Bool, true, length, map, replicate, if◌then◌else◌}
+use Rattle.std.specs.Prelude.{◌≡◌, ℕ, ◌≤◌, List, Bool, true, not, length, drop, map, replicate, if◌then◌else◌}
 use Rattle.span_value.specs.declared.value.Value.{Value}
 use Rattle.span_schema.specs.declared.table.Table.{Table}
 use Rattle.span_schema.specs.Numbers.{key_places, other_places}
@@ -13,7 +13,7 @@ use Rattle.span_planner.specs.Picks.{picked, picked_width}
 use Rattle.span_fragment.specs.declared.reader.TableReader.{TableReader}
 use Rattle.span_fragment.specs.Meaning.{declared_row}
 use Rattle.span_fragment.specs.Longest.{IsLongest}
-use Rattle.span_fragment.specs.Placed.{is_wanted}
+use Rattle.span_fragment.specs.Placed.{is_wanted, wants_none}
 use Rattle.span_fragment.specs.Steps.{key_steps}
 
 -- the place of a column among those that the mask has, or a place after all of them
@@ -27,7 +27,10 @@ pub record IsReader (schema : List Table) (r : TableReader) : Type 0 where
   pub steps : r.steps ≡ key_steps schema r.table
   pub all : r.all ≡ replicate (picked_width r.mask) true
   pub key : r.key ≡ map (target r.mask) (key_places schema r.table)
+  pub reads_key : r.reads_key ≡ not (wants_none r.all r.key)
   pub others : r.others ≡ map (target r.mask) (other_places schema r.table)
+  pub others_read : r.others_read ≤ length r.others
+  pub others_left : wants_none r.all (drop r.others_read r.others) ≡ true
 
 -- whatever row of table n has this coded key and these packed cells, these are its values in the columns that the mask has
 pub record ArePickedOf (schema : List Table) (n : ℕ) (ms : List Bool) (key row : List ℕ) (values : List Value) : Type 0 where

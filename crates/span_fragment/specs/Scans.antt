@@ -1,6 +1,8 @@
 -- The rows of a leaf of one table, entry by entry.
 use Rattle.std.specs.Prelude.{◌≡◌, ℕ, ◌==◌, ◌++◌, [], ◌∷◌, Bool, true, false, List, Option, Some, None, Result, length, if◌then◌else◌}
+use Rattle.std.specs.List.{AllByRecursion, list_all}
 use Rattle.span_schema.specs.declared.table.Table.{Table}
+use Rattle.span_schema.specs.Numbers.{other_kinds}
 use Rattle.span_rowcode.specs.Rows.{row_code}
 use Rattle.span_mutate.specs.declared.row.TableRow.{TableRow}
 use Rattle.span_mutate.specs.Typed.{IsTyped}
@@ -13,10 +15,12 @@ use Rattle.span_rows.specs.Answers.{Adds}
 use Rattle.span_planner.specs.Leaves.{width_of}
 use Rattle.span_planner.specs.Picks.{picked}
 use Rattle.span_planner.specs.Reads.{reads_within}
+use Rattle.span_fragment.specs.declared.number_test.NumberTest.{NumberTest}
 use Rattle.span_fragment.specs.declared.scan.Test.{Test}
 use Rattle.span_fragment.specs.declared.scan.Test.TheVariants.{Always, OnRow, OnColumns}
 use Rattle.span_fragment.specs.declared.scan.TableScan.{TableScan}
 use Rattle.span_fragment.specs.Meaning.{declared_row}
+use Rattle.span_fragment.specs.NumberTests.{meets, IsNumberAt}
 use Rattle.span_fragment.specs.Readers.{IsReader}
 
 -- ---- what is kept
@@ -48,11 +52,21 @@ pub record IsConditionAt (schema : List Table) (n : ℕ) (ms : List Bool) (w : O
   pub mask : IsMaskOf (width_of schema n) condition ms
   pub moved : at ≡ moved (rank ms) condition
 
--- the test is whether a row of table n passes the condition; the mask is that of the rows that are added
-abbrev pub IsTestOf : List Table → ℕ → List Bool → Option Expr → Test → Type 0
-IsTestOf schema n ms w Always = w ≡ None
-IsTestOf schema n ms w (OnRow e) = IsConditionAt schema n ms w e
-IsTestOf schema n ms w (OnColumns columns e) = (columns.table ≡ n) × IsReader schema columns × IsConditionAt schema n columns.mask w e
+-- a row of table n passes where its cells outside the key meet all of these, and only there
+pub record AreTestsWhere (schema : List Table) (n : ℕ) (w : Option Expr) (tests : List NumberTest) : Type 0 where
+  pub numbers : AllByRecursion (λ test. IsNumberAt (other_kinds schema n) test.cell) tests
+  pub judged : (t : TableRow) → IsTyped schema t → t.table ≡ n → passes w (declared_row schema t) ≡ Some (list_all (meets t.cells) tests)
+
+-- a row of table n does not pass where its cells outside the key do not meet all of these
+pub record AreNeeded (schema : List Table) (n : ℕ) (w : Option Expr) (tests : List NumberTest) : Type 0 where
+  pub numbers : AllByRecursion (λ test. IsNumberAt (other_kinds schema n) test.cell) tests
+  pub unmet : (t : TableRow) → IsTyped schema t → t.table ≡ n → list_all (meets t.cells) tests ≡ false → passes w (declared_row schema t) ≡ Some false
+
+-- the test is whether a row of table n that meets the needed tests passes the condition; the mask is that of the rows that are added
+abbrev pub IsTestOf : List Table → ℕ → List Bool → Option Expr → List NumberTest → Test → Type 0
+IsTestOf schema n ms w needed Always = AreTestsWhere schema n w needed
+IsTestOf schema n ms w needed (OnRow e) = IsConditionAt schema n ms w e
+IsTestOf schema n ms w needed (OnColumns columns e) = (columns.table ≡ n) × IsReader schema columns × IsConditionAt schema n columns.mask w e
 
 -- it reads what its leaf, which is of one table, gives
 pub record IsScan (schema : List Table) (scan : TableScan) : Type 0 where
@@ -60,7 +74,8 @@ pub record IsScan (schema : List Table) (scan : TableScan) : Type 0 where
   pub joins : scan.leaf.now.joins ≡ []
   pub mask : scan.reader.mask ≡ scan.leaf.now.reads
   pub reader : IsReader schema scan.reader
-  pub test : IsTestOf schema scan.reader.table scan.leaf.now.reads scan.leaf.now.filter scan.test
+  pub needed : AreNeeded schema scan.reader.table scan.leaf.now.filter scan.needed
+  pub test : IsTestOf schema scan.reader.table scan.leaf.now.reads scan.leaf.now.filter scan.needed scan.test
 
 -- ---- what was added
 

@@ -1,10 +1,10 @@
 //! Packed cells, read straight into their places in a row.
-ghost use Rattle.std.specs.Prelude.{◌≤◌, IfOk, MatchOption, length};
+ghost use Rattle.std.specs.Prelude.{◌≡◌, ◌≤◌, IfOk, MatchOption, drop, length, true};
 ghost use Rattle.span_rowcode.specs.declared.pack.TheConstants.{MOST_BYTES};
 ghost use Rattle.span_rowcode.specs.Rows.{IsNoCell};
-ghost use Rattle.span_fragment.specs.Placed.{IsCellPut, AreCellsPut};
+ghost use Rattle.span_fragment.specs.Placed.{IsCellPut, AreCellsPut, wants_none};
 
-use super::place::{is_wanted, put_value, wants_none};
+use super::place::{is_wanted, put_value};
 use span_rowcode::cell::{after, read_cell, skip_cell};
 use span_rowcode::pack::MOST_BYTES;
 use span_value::value::{Kind, Value};
@@ -38,28 +38,29 @@ fn put_cell(
     }
 }
 
-/// Puts the wanted cells of a packed row, one of each kind, at their places. False if the bytes are no packed row of the
-/// kinds; where it is true they may be none either.
+/// Puts the wanted cells of a packed row, one of each kind, at their places; `count` is how many cells there are up to the last that is
+/// wanted, and those after it are not looked at. False if the bytes are no packed row of the kinds; where it is true they may be none
+/// either.
 pub(crate) fn put_cells(
     alloc: Global,
     kinds: &[Kind],
     places: &[usize],
     wanted: &[bool],
+    count: usize,
     bytes: &[u8],
     row: &mut Vec<Value>,
 ) -> Result<bool, AllocError>
-    requires { length kinds.now ≤ length places.now }
+    requires kinds { count ≤ length kinds.now }
+    requires places { count ≤ length places.now }
+    requires rest { wants_none wanted.now (drop count places.now) ≡ true }
     ensures { IfOk result
         (λ found. AreCellsPut kinds.now places.now wanted.now bytes.now row.old.items row.new.items found) }
 {
     if bytes.len() > MOST_BYTES {
         return Ok(false);
     }
-    if wants_none(wanted, places) {
-        return Ok(true);
-    }
     let mut at = 0;
-    for i in 0..kinds.len() {
+    for i in 0..count {
         match put_cell(alloc, kinds[i], places[i], wanted, after(bytes, at), row)? {
             None => return Ok(false),
             Some(width) => at += width,

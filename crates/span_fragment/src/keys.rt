@@ -1,10 +1,10 @@
 //! The values of a coded key, read straight into their places in a row.
-ghost use Rattle.std.specs.Prelude.{◌≡◌, ◌≤◌, IfOk, MatchOption, drop, length};
+ghost use Rattle.std.specs.Prelude.{◌≡◌, ◌≤◌, IfOk, MatchOption, drop, length, not};
 ghost use Rattle.span_schema.specs.Numbers.{IsTable, key_places};
 ghost use Rattle.span_keycode.specs.Reads.{IsNoColumn, IsNoTuple};
-ghost use Rattle.span_fragment.specs.Placed.{IsColumnPut, AreColumnsPut, IsLevelPut, IsNoLevel, IsKeyPut};
+ghost use Rattle.span_fragment.specs.Placed.{IsColumnPut, AreColumnsPut, IsLevelPut, IsNoLevel, IsKeyPut, wants_none};
 
-use super::place::{is_wanted, put_value, wants_none};
+use super::place::{is_wanted, put_value};
 use span_keycode::root::skip_value;
 use span_keycode::value::{after, read_value};
 use span_schema::layout::KeyPart;
@@ -97,28 +97,30 @@ fn places_from(places: &[usize], first: usize) -> &[usize]
     &places[first..]
 }
 
-/// Puts the wanted values of a coded key of a table at these places, one for each. False if the bytes code no key of the table; where
-/// it is true they may code none either.
+/// Puts the wanted values of a coded key of a table at these places, one for each; `reads` is whether any is wanted, and where none is the
+/// key is not looked at. False if the bytes code no key of the table; where it is true they may code none either.
 pub(crate) fn put_key(
     alloc: Global,
     schema: &Schema,
     table: usize,
     places: &[usize],
     wanted: &[bool],
+    reads: bool,
     key: &[u8],
     row: &mut Vec<Value>,
 ) -> Result<bool, AllocError>
     requires table { IsTable schema.now table }
+    requires reads { reads ≡ not (wants_none wanted.now places.now) }
     requires places { length places.now ≡ length (key_places schema.now table) }
     ensures { IfOk result
         (λ found. IsKeyPut schema.now table places.now wanted.now key.now row.old.items row.new.items found) }
 {
+    if !reads {
+        return Ok(true);
+    }
     schema.meets_rules();
     let path = schema.path_of(table);
     let mut places = places;
-    if wants_none(wanted, places) {
-        return Ok(true);
-    }
     let mut at = 0;
     for i in 0..path.len() {
         let columns = schema.own_key_columns(path[i]);

@@ -9,6 +9,7 @@ mod keys;
 mod leaf_reader;
 mod longest;
 mod narrow;
+mod number_test;
 pub mod piece;
 mod place;
 mod reader;

@@ -1,18 +1,18 @@
 //! Reading of a table's rows, of the columns alone that a mask has: a value is put at its place among these, and no other is made.
-ghost use Rattle.std.specs.Prelude.{◌≡◌, ◌⊎◌, IfOk, OnOk, MatchResult, map, replicate, take, true};
+ghost use Rattle.std.specs.Prelude.{◌≡◌, ◌≤◌, ◌⊎◌, IfOk, OnOk, MatchResult, drop, length, map, replicate, take, true};
 ghost use Rattle.span_value.specs.declared.value.Value.TheVariants.{Null};
 ghost use Rattle.span_schema.specs.Numbers.{IsTable};
 ghost use Rattle.span_planner.specs.Leaves.{width_of};
 ghost use Rattle.span_planner.specs.Picks.{picked_width};
 ghost use Rattle.span_fragment.specs.Entries.{IsWhetherOf};
-ghost use Rattle.span_fragment.specs.Placed.{IsNoRowOf};
+ghost use Rattle.span_fragment.specs.Placed.{IsNoRowOf, wants_none};
 ghost use Rattle.span_fragment.specs.Readers as spec;
 ghost use Rattle.span_fragment.specs.Readers.{IsReader, ArePickedOf};
 
 use super::cells::put_cells;
 use super::keys::put_key;
 use super::longest::longest_key;
-use super::place::is_wanted;
+use super::place::{is_wanted, wants_none};
 use super::steps::{KeyStep, goes_along, key_steps};
 use span_expr::rank::rank;
 use span_planner::narrow::picked_width;
@@ -37,8 +37,12 @@ pub(crate) struct TableReader {
     all: Seq<bool>,
     /// The place of each column of the key among those that are read, or a place after all of them.
     key: Seq<usize>,
-    /// The same of the other columns.
+    /// Whether a column of the key is read.
+    reads_key: bool,
+    /// The place of each other column among those that are read, or a place after all of them.
     others: Seq<usize>,
+    /// How many of the other columns there are up to the last that is read.
+    others_read: usize,
 }
 
 fn target(mask: &[bool], place: usize) -> usize
@@ -78,6 +82,21 @@ fn copy_mask(alloc: Global, mask: &[bool]) -> Result<Seq<bool>, AllocError>
     Ok(Seq::from_vec(copy))
 }
 
+/// How many places there are up to the last that is wanted.
+fn count_to_last(wanted: &[bool], places: &[usize]) -> usize
+    ensures within { result ≤ length places.now }
+    ensures rest { wants_none wanted.now (drop result places.now) ≡ true }
+{
+    let mut count = places.len();
+    while count > 0 {
+        if is_wanted(wanted, places[count - 1]) {
+            return count;
+        }
+        count -= 1;
+    }
+    0
+}
+
 /// The first places of a mask, as many as there are of a number.
 fn mask_before(mask: &[bool], width: usize) -> &[bool]
     ensures { result.now ≡ take width mask.now }
@@ -98,14 +117,21 @@ pub(crate) fn table_reader(
     ensures mask { IfOk result (λ reader. reader.mask ≡ take (width_of schema.now table) mask.now) }
 {
     let front = mask_before(mask, width_of(schema, table));
+    let all = all_of(alloc, front)?;
+    let key = targets(alloc, front, schema.key_places(table))?;
+    let others = targets(alloc, front, schema.other_places(table))?;
+    let reads_key = !wants_none(all.as_slice(), key.as_slice());
+    let others_read = count_to_last(all.as_slice(), others.as_slice());
     Ok(TableReader {
         table,
         most: longest_key(schema, table),
         steps: key_steps(alloc, schema, table)?,
         mask: copy_mask(alloc, front)?,
-        all: all_of(alloc, front)?,
-        key: targets(alloc, front, schema.key_places(table))?,
-        others: targets(alloc, front, schema.other_places(table))?,
+        all,
+        key,
+        reads_key,
+        others,
+        others_read,
     })
 }
 
@@ -154,8 +180,12 @@ impl TableReader {
         schema.meets_rules();
         let all = self.all.as_slice();
         put_nulls(row, all.len())?;
+        if all.is_empty() {
+            return Ok(());
+        }
         let kinds = schema.other_kinds(self.table);
-        if !put_cells(alloc, kinds, self.others.as_slice(), all, cells, row)? {
+        let others = self.others.as_slice();
+        if !put_cells(alloc, kinds, others, all, self.others_read, cells, row)? {
             return Err(Refusal::BadRow);
         }
         if !put_key(
@@ -164,6 +194,7 @@ impl TableReader {
             self.table,
             self.key.as_slice(),
             all,
+            self.reads_key,
             key,
             row,
         )? {

@@ -65,7 +65,7 @@ pub fn finish(alloc: Global, top: &BoundQuery, leaves: &[Seq<Piece>]) -> Result<
 {
     let tables = tables_of(alloc, leaves)?;
     match eval_plain(alloc, top, &tables) {
-        Ok(rows) => Ok(Rows::new(rows.to_rows(alloc)?)),
+        Ok(rows) => Ok(Rows::new(rows)),
         Err(why) => Err(why),
     }
 }

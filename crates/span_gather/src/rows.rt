@@ -1,26 +1,48 @@
 //! The rows of a query.
-ghost use Rattle.std.specs.Prelude.{◌≡◌};
+ghost use Rattle.std.specs.Prelude.{◌≡◌, ◌==◌, ◌<◌, length, slice_index_or};
 
-use span_value::seq::Seq;
-use span_value::value::Row;
+use span_rows::row_list::RowList;
+use span_value::value::Value;
 
 /// The rows of a query, in order. Only `finish` makes them.
 #[derive(Debug, Drop, PartialEq, Eq)]
 pub struct Rows {
-    rows: Seq<Row>,
+    rows: RowList,
 }
 
 impl Rows {
-    pub(crate) fn new(rows: Seq<Row>) -> Rows
+    pub(crate) fn new(rows: RowList) -> Rows
         ensures { result.rows ≡ rows }
     {
         Rows { rows }
     }
 
-    /// The rows.
-    pub fn as_slice(&self) -> &[Row]
+    /// The number of rows.
+    pub fn len(&self) -> usize
+        ensures { result ≡ length self.now.rows }
+    {
+        self.rows.len()
+    }
+
+    /// Whether there are no rows.
+    pub fn is_empty(&self) -> bool
+        ensures { result ≡ (length self.now.rows == 0) }
+    {
+        self.rows.is_empty()
+    }
+
+    /// The row at a place.
+    pub fn row(&self, at: usize) -> &[Value]
+        requires { at < length self.now.rows }
+        ensures { result.now ≡ slice_index_or self.now.rows at result.now }
+    {
+        self.rows.row(at)
+    }
+
+    /// The rows, in the list that they are in.
+    pub fn as_list(&self) -> &RowList
         ensures { result.now ≡ self.now.rows }
     {
-        self.rows.as_slice()
+        &self.rows
     }
 }

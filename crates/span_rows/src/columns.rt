@@ -98,8 +98,8 @@ pub(crate) fn copy_columns(
 ) -> Result<RowList, AllocError>
     ensures { IfOk result (λ copies. copies ≡ map (columns_at columns.now) (lent_rows rows.now)) }
 {
-    let mut copies = RowList::new(alloc);
-    let mut values = Vec::new(alloc);
+    let mut copies = RowList::with_capacity(alloc, rows.len(), columns.len())?;
+    let mut values = Vec::with_capacity(alloc, columns.len())?;
     for row in rows {
         put_columns(alloc, columns, *row, &mut values)?;
         copies.push(&mut values)?;

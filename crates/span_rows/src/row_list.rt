@@ -1,10 +1,12 @@
 //! Rows in one buffer: no row has an allocation of its own.
 ghost use Rattle.std.specs.Prelude.{◌≡◌, ◌==◌, ◌<◌, ◌≤◌, ◌-◌, ◌++◌, ◌∷◌, [], IfOk, OnOk, OnErr, drop, length, slice_index_or, take};
+ghost use Rattle.std.specs.Cmp.Lexicographic.{pointwise};
+ghost use Rattle.span_query.specs.Groups.{are_equal};
 ghost use Rattle.span_rows.specs.Cuts.{AreEnds, cut_at, shift, start_at};
 ghost use Rattle.span_rows.specs.LentRows.{lent_rows};
 
-use super::row::{copy_row, extend_row};
-use span_value::seq::Seq;
+use super::distinct::are_equal;
+use super::row::extend_row;
 use span_value::value::{Row, Value};
 use std::alloc::{AllocError, Global};
 use std::marker::Model;
@@ -39,6 +41,17 @@ impl RowList {
             values: Vec::new(alloc),
             ends: Vec::new(alloc),
         }
+    }
+
+    /// No rows, with reserved capacity for a number of rows of a number of values each. The only error is out of memory.
+    pub fn with_capacity(alloc: Global, rows: usize, width: usize) -> Result<RowList, AllocError>
+        ensures { IfOk result (λ list. list ≡ []) }
+    {
+        let count = rows.checked_mul(width).ok_or(AllocError)?;
+        Ok(RowList {
+            values: Vec::with_capacity(alloc, count)?,
+            ends: Vec::with_capacity(alloc, rows)?,
+        })
     }
 
     /// The number of rows.
@@ -105,17 +118,6 @@ impl RowList {
         push_copies(alloc, &mut self.values, &mut self.ends, left, right)
     }
 
-    /// Copies of the rows, each in a vector of its own.
-    pub fn to_rows(&self, alloc: Global) -> Result<Seq<Row>, AllocError>
-        ensures { IfOk result (λ rows. rows ≡ self.now) }
-    {
-        let mut rows = Vec::with_capacity(alloc, self.len())?;
-        for at in 0..self.len() {
-            rows.push(copy_row(alloc, self.row(at))?)?;
-        }
-        Ok(Seq::from_vec(rows))
-    }
-
     /// Adds rows. An error leaves the rows as they were.
     pub fn append(&mut self, more: RowList) -> Result<(), AllocError>
         ensures ok { OnOk result (self.new ≡ self.old ++ more) }
@@ -129,6 +131,44 @@ impl RowList {
             ends.as_slice(),
         )
     }
+}
+
+/// Whether two lists have the same number of rows, each equal to the one at its place; NULL equals NULL.
+fn have_equal_rows(rows: &RowList, others: &RowList) -> bool
+    ensures { result ≡ pointwise are_equal rows.now others.now }
+{
+    if rows.len() != others.len() {
+        return false;
+    }
+    for at in 0..rows.len() {
+        if !are_equal(rows.row(at), others.row(at)) {
+            return false;
+        }
+    }
+    true
+}
+
+/// Lists are equal where their rows are, whatever their capacities.
+impl PartialEq for RowList {
+    ghost use Rattle.std.specs.Cmp.{partial_equiv_from_equiv};
+    ghost use Rattle.std.specs.Cmp.Lexicographic.{pointwise, lists_per};
+    ghost use Rattle.span_query.specs.Groups.{are_equal};
+    ghost use Rattle.span_rows.specs.EqualRows.{rows_are_equivalent};
+
+    ghost eq = { pointwise are_equal };
+
+    ghost laws = { lists_per (partial_equiv_from_equiv rows_are_equivalent) };
+
+    fn eq(&self, other: &RowList) -> bool {
+        have_equal_rows(self, other)
+    }
+}
+
+impl Eq for RowList {
+    ghost use Rattle.std.specs.Cmp.Lexicographic.{lists_equiv};
+    ghost use Rattle.span_rows.specs.EqualRows.{rows_are_equivalent};
+
+    ghost laws = { lists_equiv rows_are_equivalent };
 }
 
 /// The rows of a list, each lent, in their order. The only error is out of memory.
@@ -289,6 +329,7 @@ fn append_parts(
     ensures err { OnErr result (cut_at 0 ends.new.items values.new.items ≡ cut_at 0 ends.old.items values.old.items) }
 {
     values.reserve(more.len())?;
+    ends.reserve(more_ends.len())?;
     append_ends(ends, values.len(), more_ends)?;
     values.append(more).unwrap();
     Ok(())

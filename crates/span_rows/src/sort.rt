@@ -137,7 +137,8 @@ pub fn order_columns(
     rows: Vec<&[Value]>,
 ) -> Result<RowList, AllocError>
     ensures { IfOk result
-        (λ part. part ≡ map (columns_at columns.now) (meaning.limit_rows limit (spec.sorted keys.now (lent_rows rows.entry.items)))) }
+        (λ part. part
+        ≡ map (columns_at columns.now) (meaning.limit_rows limit (spec.sorted keys.now (lent_rows rows.entry.items)))) }
 {
     let ordered = rows_in_order(alloc, keys, limit, rows)?;
     let part = copy_columns(alloc, columns, limit_rows(limit, ordered.as_slice()))?;
@@ -169,7 +170,12 @@ fn limit_rows<'a, 'b>(limit: Option<Limit>, rows: &'a [&'b [Value]]) -> &'a [&'b
 fn copy_rows(alloc: Global, rows: &[&[Value]]) -> Result<RowList, AllocError>
     ensures { IfOk result (λ copies. copies ≡ lent_rows rows.now) }
 {
-    let mut copies = RowList::new(alloc);
+    // All rows have as many values as the first where they are those of one query.
+    let width = match rows.first() {
+        Some(row) => row.len(),
+        None => 0,
+    };
+    let mut copies = RowList::with_capacity(alloc, rows.len(), width)?;
     for row in rows {
         copies.push_copy(alloc, *row)?;
     }

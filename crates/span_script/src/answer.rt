@@ -13,8 +13,9 @@ use span_command::device::Output;
 use span_command::record_writer::rows_text;
 use span_core::database::Core;
 use span_core::slot::SlotView;
-use span_core::{Refusal, Reply, Row};
+use span_core::{Refusal, Reply};
 use span_keycode::key::Key;
+use span_rows::row_list::RowList;
 use std::alloc::Global;
 use std::marker::Model;
 
@@ -165,7 +166,7 @@ impl Answers {
             Reply::Opened { query, s, leaves } => self.opened_line(*query, *s, *leaves),
             Reply::Scanned => self.word_line("scanned"),
             Reply::Nothing => self.word_line("nothing"),
-            Reply::Rows { s, rows } => self.rows(alloc, *s, rows.as_slice()),
+            Reply::Rows { s, rows } => self.rows(alloc, *s, rows.as_list()),
             Reply::Closed => self.word_line("closed"),
             Reply::Split(slot) => self.number_line("split", *slot as u64),
             Reply::Refused(why) => self.refusal_line(*why),
@@ -185,7 +186,7 @@ impl Answers {
 
     /// How many rows there are, and each as a record of its cells.
     #[tactic(auto, using(crate::proofs::Begun::begins_on, crate::proofs::Begun::begins_either))]
-    fn rows(&mut self, alloc: Global, s: u64, rows: &[Row]) -> Result<(), Refusal>
+    fn rows(&mut self, alloc: Global, s: u64, rows: &RowList) -> Result<(), Refusal>
         ensures added { OnOk result (self.new ≡ self.old ++ rows_lines s rows.now) }
         ensures grows { Begins self.old self.new }
         ensures memory { IsOkUnless result Refusal.OutOfMemory }

@@ -49,12 +49,11 @@ pub(crate) fn insert(alloc: Global, schema: &Schema, uid: i64) -> Result<Transac
 
 // Whether the rows are these, of one column.
 pub(crate) fn are_uids(rows: &Rows, wanted: &[i64]) -> bool {
-    let rows = rows.as_slice();
     if rows.len() != wanted.len() {
         return false;
     }
     for (at, uid) in wanted.iter().enumerate() {
-        match rows[at].as_slice() {
+        match rows.row(at) {
             [Value::Int(found)] if *found == *uid => (),
             _ => return false,
         }

@@ -4,9 +4,9 @@ use Rattle.span_command.specs.Record.{row_records, settings}
 use Rattle.span_command.proofs.record_writer.rows_text.Given as goal
 
 -- the records of the rows so far were written
-abbrev pub invariant-loop-row : goal.invariant-loop-row
-invariant-loop-row l =
-    (text_written (λ w. Some w.items) l.records ≡ Some (row_records (take l.row-index l.rows)))
+abbrev pub invariant-loop-at : goal.invariant-loop-at
+invariant-loop-at l =
+    (text_written (λ w. Some w.items) l.records ≡ Some (row_records (take l.at l.rows)))
     × (writer_setup l.records ≡ settings)
     × (fields_written l.records ≡ 0)
     × (has_written l.records ≡ false)

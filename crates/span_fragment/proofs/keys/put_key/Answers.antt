@@ -1,14 +1,16 @@
-use Rattle.std.proofs.Common.{◌≡◌, ◌<◌, ◌≤◌, ◌+◌, ℕ, List, arith, refl, sym, ap, ◌∙◌, subst, length, length-drop, drop, get_or}
+use Rattle.std.proofs.Common.{◌≡◌, ◌<◌, ◌≤◌, ◌+◌, ℕ, List, true, arith, refl, sym, ap, ◌∙◌, subst, length, length-drop, drop, get_or}
+use Rattle.std.proofs.lemmas.Bool.{not-false}
 use Rattle.std.proofs.lemmas.Option.{MatchOption-at_some, MatchOption-at_none}
 use Rattle.span_schema.specs.declared.layout.KeyPart.{KeyPart}
 use Rattle.span_schema.specs.Numbers.{path_of, own_key_columns}
-use Rattle.span_fragment.specs.Placed.{IsLevelPut, IsNoLevel}
+use Rattle.span_fragment.specs.Placed.{wants_none, IsLevelPut, IsNoLevel}
 use Rattle.span_fragment.proofs.Placing.{none_put, LevelsLeftAt, all_levels_left, level_at, no_level_at, levels_end}
 use Rattle.span_fragment.proofs.keys.put_key.Goals as goal
 
-pub returns-then-wants_none : goal.returns-then-wants_none
-returns-then-wants_none c =
-    record { put = λ vs is code. (refl, none_put c.args.wanted.now c.args.places.now vs c.args.row.now.items (sym c.wants_none.ensures ∙ c.if-wants_none.true)) }
+pub returns-then-not-reads : goal.returns-then-not-reads
+returns-then-not-reads c =
+    let none : wants_none c.args.wanted.now c.args.places.now ≡ true = not-false _ (sym c.requires.reads ∙ c.if-not-reads.true) in
+    record { put = λ vs is code. (refl, none_put c.args.wanted.now c.args.places.now vs c.args.row.now.items none) }
 
 pub loop-i-init : goal.loop-i-init
 loop-i-init c =

@@ -24,7 +24,7 @@ returns-in-OnColumns-clause-ok c =
     let old : List Row = c.args.rows.now in
     let new : List Row = c.add_row_after.new.rows in
     let whether : IsWhetherOf schema n key true = subst (IsWhetherOf schema n key) c.if-not-is_own_key.false c.is_own_key.ensures in
-    let test = subst (IsTestOf schema n reads w) c.in-OnColumns.is c.requires.scan.test in
+    let test = subst (IsTestOf schema n reads w scan.needed) c.in-OnColumns.is c.requires.scan.test in
     if_ok _ _ c.add_row_after.result
     (λ found added. own_taken schema n reads w key cells found old new whether (subst (λ (ms : List Bool). IsAddedWhere schema n ms w key cells found old new) c.requires.scan.mask (added w test.2)))
     c.add_row_after.ensures.ok

@@ -1,4 +1,5 @@
 use Rattle.std.proofs.Common.{◌≡◌, ℕ, List, Bool, true, map, replicate, arith, sym, ap, ◌∙◌, subst, length}
+use Rattle.std.proofs.lemmas.Bool.{eqb-true}
 use Rattle.std.proofs.lemmas.List.{length-map, length-replicate}
 use Rattle.span_value.specs.declared.value.Kind.{Kind}
 use Rattle.span_value.specs.declared.value.Value.{Value}
@@ -7,23 +8,35 @@ use Rattle.span_schema.specs.Numbers.{other_kinds, other_places, key_places}
 use Rattle.span_keycode.specs.Keys.{IsKey, key_code}
 use Rattle.span_rowcode.specs.Rows.{IsRow}
 use Rattle.span_planner.specs.Picks.{picked_width}
+use Rattle.span_fragment.specs.Meaning.{declared_row}
 use Rattle.span_fragment.specs.Placed.{placed}
 use Rattle.span_fragment.specs.Readers.{target}
 use Rattle.span_fragment.proofs.PlacedRows.{others_placed}
-use Rattle.span_fragment.proofs.TargetRows.{row_picked}
+use Rattle.span_fragment.proofs.TargetRows.{none_picked, row_picked}
 use Rattle.span_fragment.proofs.reader.TableReader.read.Goals as goal
 
-pub put_cells-requires : goal.put_cells-requires
-put_cells-requires c =
+pub put_cells-requires-clause-kinds : goal.put_cells-requires-clause-kinds
+put_cells-requires-clause-kinds c =
     let schema = c.args.schema.now in
     let reader = c.args.self.now in
-    omega (arith, ap (length {A = Kind}) c.other_kinds-kinds.ensures, ap (length {A = ℕ}) c.as_slice.ensures, ap (length {A = ℕ}) c.requires.reader.others, length-map (other_places schema reader.table) (target reader.mask), others_placed schema reader.table)
+    omega (arith, c.requires.reader.others_read, ap (length {A = Kind}) c.other_kinds-kinds.ensures, ap (length {A = ℕ}) c.requires.reader.others, length-map (other_places schema reader.table) (target reader.mask), others_placed schema reader.table)
 
 pub put_key-requires-clause-places : goal.put_key-requires-clause-places
 put_key-requires-clause-places c =
     let schema = c.args.schema.now in
     let reader = c.args.self.now in
-    ap (length {A = ℕ}) c.as_slice-2.ensures ∙ ap (length {A = ℕ}) c.requires.reader.key ∙ length-map (key_places schema reader.table) (target reader.mask)
+    ap (length {A = ℕ}) c.as_slice.ensures ∙ ap (length {A = ℕ}) c.requires.reader.key ∙ length-map (key_places schema reader.table) (target reader.mask)
+
+pub returns-then-is_empty : goal.returns-then-is_empty
+returns-then-is_empty c = record {
+  are = λ t typed is key cells.
+      let schema = c.args.schema.now in
+      let ms : List Bool = c.args.self.now.mask in
+      let wanted : c.as_slice-all.result.now ≡ replicate (picked_width ms) true = c.as_slice-all.ensures ∙ c.requires.reader.all in
+      let none : length c.as_slice-all.result.now ≡ 0 = eqb-true (length c.as_slice-all.result.now) 0 (sym c.is_empty.ensures ∙ c.if-is_empty.true) in
+      let width : picked_width ms ≡ 0 = sym (ap (length {A = Bool}) wanted ∙ length-replicate (picked_width ms) true) ∙ none in
+      c.in_ok-put_nulls.ensures ∙ ap (λ (w : ℕ). replicate w Null) none ∙ sym (none_picked ms (declared_row schema t) width);
+}
 
 pub returns : goal.returns
 returns c = record {
@@ -39,8 +52,8 @@ returns c = record {
       let R : ℕ → Type 0 = λ m. IsKey schema m t.key in
       let coded = c.in_ok-put_key.ensures.put t.key (subst R is typed.0.0) (key ∙ ap (λ (m : ℕ). key_code schema m t.key) is) in
       let wanted : c.as_slice-all.result.now ≡ all = c.as_slice-all.ensures ∙ c.requires.reader.all in
-      let others : c.as_slice.result.now ≡ map (target ms) (other_places schema n) = c.as_slice.ensures ∙ c.requires.reader.others in
-      let places : c.as_slice-2.result.now ≡ map (target ms) (key_places schema n) = c.as_slice-2.ensures ∙ c.requires.reader.key in
+      let others : c.as_slice-others.result.now ≡ map (target ms) (other_places schema n) = c.as_slice-others.ensures ∙ c.requires.reader.others in
+      let places : c.as_slice.result.now ≡ map (target ms) (key_places schema n) = c.as_slice.ensures ∙ c.requires.reader.key in
       let width : length c.as_slice-all.result.now ≡ picked_width ms = ap (length {A = Bool}) wanted ∙ length-replicate (picked_width ms) true in
       let blank : c.put_nulls.new.row.items ≡ replicate (picked_width ms) Null = c.in_ok-put_nulls.ensures ∙ ap (λ (w : ℕ). replicate w Null) width in
       let first : c.put_cells.new.row.items ≡ placed all (map (target ms) (other_places schema n)) t.cells (replicate (picked_width ms) Null) =

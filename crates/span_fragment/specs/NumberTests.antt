@@ -1,0 +1,104 @@
+-- Comparisons of numbers with literals, judged where a row is packed.
+use Rattle.std.specs.Prelude.{◌≡◌, ◌⊎◌, ℕ, ℤ, ◌<◌, ◌≤◌, ◌==◌, List, ◌++◌, Bool, true, false, not, Option, Some, None, length, get_or, drop, map}
+use Rattle.std.specs.List.{AllByRecursion, fold, list_all}
+use Rattle.span_value.specs.declared.value.Value.{Value}
+use Rattle.span_value.specs.declared.value.Value.TheVariants as value
+use Rattle.span_value.specs.declared.value.Kind.{Kind}
+use Rattle.span_value.specs.declared.value.Kind.TheVariants as kind
+use Rattle.span_value.specs.declared.truth.Outcome.{Outcome}
+use Rattle.span_value.specs.declared.truth.Outcome.TheVariants.{Val}
+use Rattle.span_value.specs.declared.truth.Truth.TheVariants.{Unknown}
+use Rattle.span_value.specs.Orders.{value_order}
+use Rattle.span_schema.specs.declared.table.Table.{Table}
+use Rattle.span_schema.specs.Fitting.{Fits}
+use Rattle.span_schema.specs.Numbers.{key_places, other_places, other_kinds}
+use Rattle.span_rowcode.specs.Rows.{AreCells, IsRow, cell_code, row_code}
+use Rattle.span_mutate.specs.declared.row.TableRow.{TableRow}
+use Rattle.span_mutate.specs.Typed.{IsTyped}
+use Rattle.span_expr.specs.declared.expr.Expr.{Expr}
+use Rattle.span_expr.specs.declared.condition.Condition.{Condition}
+use Rattle.span_expr.specs.declared.condition.Condition.TheVariants as condition
+use Rattle.span_expr.specs.Meaning.{all_of, and_also, val}
+use Rattle.span_expr.specs.Operators.{holds}
+use Rattle.span_expr.specs.Outcomes.{truth_of}
+use Rattle.span_planner.specs.Leaves.{width_of}
+use Rattle.span_fragment.specs.declared.number_test.NumberTest.{NumberTest}
+use Rattle.span_fragment.specs.Meaning.{declared_row}
+
+-- ---- what a test is
+
+-- whether a value is a number of which the comparison holds; it does not of NULL
+abbrev pub meets_value : NumberTest → Value → Bool
+meets_value test (value.Int i) = holds test.comparison (value_order (value.Int i) (value.Int test.number))
+meets_value test v = false
+
+-- the same of that one of the cells outside the key that the test is about
+abbrev pub meets : List Value → NumberTest → Bool
+meets cells test = meets_value test (get_or cells test.cell value.Null)
+
+-- the cells outside the key have a number, or NULL, at a place
+pub record IsNumberAt (ks : List Kind) (cell : ℕ) : Type 0 where
+  pub within : cell < length ks
+  pub kind : get_or ks cell kind.Int ≡ kind.Int
+
+-- an outcome is TRUE where the answer is true, and FALSE or NULL where it is not
+abbrev pub IsJudged : Outcome → Bool → Type 0
+IsJudged o found = (o ≡ Val (value.Bool found)) ⊎ ((o ≡ Val value.Null) × (found ≡ false))
+
+-- the tests are what a condition comes to at the rows of table n
+pub record AreTestsOf (schema : List Table) (n : ℕ) (e : Expr) (tests : List NumberTest) : Type 0 where
+  pub numbers : AllByRecursion (λ test. IsNumberAt (other_kinds schema n) test.cell) tests
+  pub judged : (t : TableRow) → IsTyped schema t → t.table ≡ n → IsJudged (val (declared_row schema t) e) (list_all (meets t.cells) tests)
+
+-- the same of one test
+pub record IsNumberTest (schema : List Table) (n : ℕ) (e : Expr) (test : NumberTest) : Type 0 where
+  pub number : IsNumberAt (other_kinds schema n) test.cell
+  pub judged : (t : TableRow) → IsTyped schema t → t.table ≡ n → IsJudged (val (declared_row schema t) e) (meets t.cells test)
+
+-- ---- the tests of an AND
+
+-- the tests are what an AND of conditions comes to at the rows of table n
+pub record AreTestsOfAll (schema : List Table) (n : ℕ) (first : Expr) (more : List Expr) (tests : List NumberTest) : Type 0 where
+  pub numbers : AllByRecursion (λ test. IsNumberAt (other_kinds schema n) test.cell) tests
+  pub judged : (t : TableRow) → IsTyped schema t → t.table ≡ n
+      → IsJudged (all_of (val (declared_row schema t) first) (map (val (declared_row schema t)) more)) (list_all (meets t.cells) tests)
+
+-- it is known to be TRUE where the answer is true, and to be FALSE or NULL where it is not
+abbrev pub IsKnown : Condition → Bool → Type 0
+IsKnown c found = (c ≡ condition.Known (truth_of (value.Bool found))) ⊎ ((c ≡ condition.Known Unknown) × (found ≡ false))
+
+-- the tests of some conditions, and after them those of more, at the rows of table n
+pub record AreMoreTests (schema : List Table) (n : ℕ) (more : List Expr) (old new : List NumberTest) : Type 0 where
+  pub numbers : AllByRecursion (λ test. IsNumberAt (other_kinds schema n) test.cell) old
+      → AllByRecursion (λ test. IsNumberAt (other_kinds schema n) test.cell) new
+  pub judged : (t : TableRow) → IsTyped schema t → t.table ≡ n → (c : Condition) → IsKnown c (list_all (meets t.cells) old)
+      → IsKnown (fold and_also c (map (val (declared_row schema t)) more)) (list_all (meets t.cells) new)
+
+-- ---- where the cell of a column is
+
+-- a column of numbers outside the key of table n, whose place among all columns this is
+pub record IsNumberCell (schema : List Table) (n place cell : ℕ) : Type 0 where
+  pub within : place < width_of schema n
+  pub apart : list_all (λ q. not (q == place)) (key_places schema n) ≡ true
+  pub placed : cell < length (other_places schema n)
+  pub at : get_or (other_places schema n) cell 0 ≡ place
+  pub number : IsNumberAt (other_kinds schema n) cell
+
+-- ---- what is read of a packed row
+
+-- whatever cells the bytes code, what is left is the code of those from a place on
+pub record IsRestOf (ks : List Kind) (cell : ℕ) (bytes rest : List ℕ) : Type 0 where
+  pub within : length rest ≤ length bytes
+  pub of : (vs : List Value) → AreCells ks vs → bytes ≡ row_code vs → rest ≡ row_code (drop cell vs)
+
+abbrev pub number_or_null : Option ℤ → Value
+number_or_null None = value.Null
+number_or_null (Some i) = value.Int i
+
+-- whatever number or NULL is coded at the front, it was found
+pub record IsNumberFound (bytes : List ℕ) (found : Option ℤ) : Type 0 where
+  pub of : (v : Value) (more : List ℕ) → Fits kind.Int v → bytes ≡ cell_code v ++ more → v ≡ number_or_null found
+
+-- whatever cells the bytes code, the answer is whether they pass
+pub record IsWhetherPass (ks : List Kind) (bytes : List ℕ) (passes : List Value → Bool) (found : Bool) : Type 0 where
+  pub of : (vs : List Value) → IsRow ks vs → bytes ≡ row_code vs → found ≡ passes vs

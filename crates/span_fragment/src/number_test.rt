@@ -1,0 +1,263 @@
+//! Comparisons of numbers with literals, judged where a row is packed: no value is made of a row that is not kept.
+ghost use Rattle.std.specs.Prelude.{◌≡◌, ◌<◌, ◌≤◌, ◌==◌, ◌∷◌, [], IfOk, IfSome, MatchOption, get_or, length, not, true};
+ghost use Rattle.std.specs.List.{AllByRecursion, list_all};
+ghost use Rattle.span_value.specs.declared.value.Kind.TheVariants as kind;
+ghost use Rattle.span_value.specs.declared.value.Value.TheVariants.{Int};
+ghost use Rattle.span_schema.specs.Numbers.{IsTable};
+ghost use Rattle.span_rowcode.specs.declared.pack.TheConstants.{MOST_BYTES};
+ghost use Rattle.span_rowcode.specs.Cells.{IsNoBody, IsBody};
+ghost use Rattle.span_expr.specs.declared.expr.Expr.TheVariants.{Literal};
+ghost use Rattle.span_expr.specs.Operators.{holds};
+ghost use Rattle.span_fragment.specs.NumberTests as spec;
+ghost use Rattle.span_fragment.specs.NumberTests.{AreMoreTests, AreTestsOf, AreTestsOfAll, IsNumberAt, IsNumberCell, IsNumberFound, IsNumberTest, IsRestOf, IsWhetherPass};
+
+use span_expr::expr::{Comparison, Expr};
+use span_planner::table::width_of;
+use span_rowcode::cell::{after, skip_cell};
+use span_rowcode::pack::MOST_BYTES;
+use span_schema::schema::Schema;
+use span_value::seq::Seq;
+use span_value::value::{Kind, Value};
+use std::alloc::{AllocError, Global};
+use std::cmp::Ordering;
+
+/// A comparison of a column of numbers outside the key with a number.
+#[derive(Clone, Copy, Debug)]
+pub(crate) struct NumberTest {
+    /// The place of the column among those outside the key.
+    pub cell: usize,
+    pub comparison: Comparison,
+    pub number: i64,
+}
+
+// ---- what the test of a condition is
+
+/// The first place of a number in a list.
+fn position(places: &[usize], place: usize) -> Option<usize>
+    ensures { IfSome result (λ i. (i < length places.now) × (get_or places.now i 0 ≡ place)) }
+{
+    for i in 0..places.len() {
+        if places[i] == place {
+            return Some(i);
+        }
+    }
+    None
+}
+
+/// Whether a list has no such number.
+fn has_none(places: &[usize], place: usize) -> bool
+    ensures { result ≡ list_all (λ q. not (q == place)) places.now }
+{
+    places.iter().all(|other| *other != place)
+}
+
+/// The place of a column of numbers among those outside the key. None for another column.
+fn number_cell(schema: &Schema, table: usize, place: usize) -> Option<usize>
+    requires { IsTable schema.now table }
+    ensures { IfSome result (λ cell. IsNumberCell schema.now table place cell) }
+{
+    if place >= width_of(schema, table) {
+        return None;
+    }
+    if !has_none(schema.key_places(table), place) {
+        return None;
+    }
+    let cell = position(schema.other_places(table), place)?;
+    let kinds = schema.other_kinds(table);
+    if cell >= kinds.len() {
+        return None;
+    }
+    match kinds[cell] {
+        Kind::Int => Some(cell),
+        _ => None,
+    }
+}
+
+/// A number that an expression is.
+fn literal_number(expr: &Expr) -> Option<i64>
+    ensures { IfSome result (λ number. expr.now ≡ Literal (Int number)) }
+{
+    match expr {
+        Expr::Literal(Value::Int(number)) => Some(*number),
+        _ => None,
+    }
+}
+
+/// The test that a condition is. None where it is no comparison of a column of numbers outside the key with a number.
+pub(crate) fn number_test(schema: &Schema, table: usize, condition: &Expr) -> Option<NumberTest>
+    requires { IsTable schema.now table }
+    ensures { IfSome result (λ test. IsNumberTest schema.now table condition.now test) }
+{
+    let Expr::Compare(left, comparison, right) = condition else {
+        return None;
+    };
+    let Expr::Column(place) = left.get() else {
+        return None;
+    };
+    let number = literal_number(right.get())?;
+    let cell = number_cell(schema, table, *place)?;
+    Some(NumberTest {
+        cell,
+        comparison: *comparison,
+        number,
+    })
+}
+
+fn one_test(alloc: Global, test: NumberTest) -> Result<Seq<NumberTest>, AllocError>
+    ensures { IfOk result (λ tests. tests ≡ test ∷ []) }
+{
+    let mut tests = Vec::with_capacity(alloc, 1)?;
+    tests.push(test)?;
+    Ok(Seq::from_vec(tests))
+}
+
+/// Adds the tests that conditions are. False where one is none.
+fn add_tests(
+    schema: &Schema,
+    table: usize,
+    conditions: &[Expr],
+    tests: &mut Vec<NumberTest>,
+) -> Result<bool, AllocError>
+    requires { IsTable schema.now table }
+    ensures { IfOk result
+        (λ all. all ≡ true → AreMoreTests schema.now table conditions.now tests.old.items tests.new.items) }
+{
+    for condition in conditions {
+        match number_test(schema, table, condition) {
+            None => return Ok(false),
+            Some(test) => tests.push(test)?,
+        }
+    }
+    Ok(true)
+}
+
+/// The tests that an AND of conditions is.
+fn tests_of_all(
+    alloc: Global,
+    schema: &Schema,
+    table: usize,
+    first: &Expr,
+    more: &[Expr],
+) -> Result<Option<Seq<NumberTest>>, AllocError>
+    requires { IsTable schema.now table }
+    ensures { IfOk result
+        (λ found. MatchOption found (Unit {0}) (λ tests. AreTestsOfAll schema.now table first.now more.now tests)) }
+{
+    let Some(test) = number_test(schema, table, first) else {
+        return Ok(None);
+    };
+    let mut tests = Vec::with_capacity(alloc, 1)?;
+    tests.push(test)?;
+    if !add_tests(schema, table, more, &mut tests)? {
+        return Ok(None);
+    }
+    Ok(Some(Seq::from_vec(tests)))
+}
+
+/// The tests that a condition is: it is TRUE where a row meets all of them. None where it is no comparison of a column of numbers outside
+/// the key with a number, and no AND of some.
+pub(crate) fn number_tests(
+    alloc: Global,
+    schema: &Schema,
+    table: usize,
+    condition: &Expr,
+) -> Result<Option<Seq<NumberTest>>, AllocError>
+    requires { IsTable schema.now table }
+    ensures { IfOk result
+        (λ found. MatchOption found (Unit {0}) (λ tests. AreTestsOf schema.now table condition.now tests)) }
+{
+    match condition {
+        Expr::And(first, more) => tests_of_all(alloc, schema, table, first.get(), more.as_slice()),
+        _ => match number_test(schema, table, condition) {
+            None => Ok(None),
+            Some(test) => Ok(Some(one_test(alloc, test)?)),
+        },
+    }
+}
+
+// ---- a test at a packed row
+
+/// The bytes of a packed row from one of its cells on.
+fn cells_from<'a>(kinds: &[Kind], cell: usize, bytes: &'a [u8]) -> &'a [u8]
+    requires cell { cell ≤ length kinds.now }
+    requires len { length bytes.now ≤ MOST_BYTES }
+    ensures { IsRestOf kinds.now cell bytes.now result.now }
+{
+    let mut at = 0;
+    for i in 0..cell {
+        at += skip_cell(kinds[i], after(bytes, at));
+    }
+    after(bytes, at)
+}
+
+/// The number in the first eight bytes.
+fn eight_at(rest: &[u8]) -> Option<i64>
+    ensures { MatchOption result (IsNoBody kind.Int rest.now) (λ i. IsBody kind.Int rest.now (Int i) 8) }
+{
+    match rest.split_first_chunk::<8>() {
+        None => None,
+        Some((eight, _)) => Some(u64::from_be_bytes(*eight).cast_signed()),
+    }
+}
+
+/// The number that is coded at the front of bytes. None where it is NULL, or none is coded there.
+fn number_at(bytes: &[u8]) -> Option<i64>
+    requires { length bytes.now ≤ MOST_BYTES }
+    ensures { IsNumberFound bytes.now result }
+{
+    if bytes.len() == 0 {
+        return None;
+    }
+    if bytes[0] == 0 {
+        return None;
+    }
+    eight_at(after(bytes, 1))
+}
+
+fn is_order_met(comparison: Comparison, order: Ordering) -> bool
+    ensures { result ≡ holds comparison order }
+{
+    match comparison {
+        Comparison::Equal => order.is_eq(),
+        Comparison::NotEqual => !order.is_eq(),
+        Comparison::Less => order.is_lt(),
+        Comparison::AtMost => !order.is_gt(),
+        Comparison::Greater => order.is_gt(),
+        Comparison::AtLeast => !order.is_lt(),
+    }
+}
+
+/// Whether a number meets a test.
+fn meets_number(test: &NumberTest, number: i64) -> bool
+    ensures { result ≡ spec.meets_value test.now (Int number) }
+{
+    is_order_met(test.comparison, number.cmp(&test.number))
+}
+
+/// Whether the cells of a packed row meet a test.
+fn meets_test(test: &NumberTest, kinds: &[Kind], bytes: &[u8]) -> bool
+    requires number { IsNumberAt kinds.now test.now.cell }
+    requires len { length bytes.now ≤ MOST_BYTES }
+    ensures { IsWhetherPass kinds.now bytes.now (λ cells. spec.meets cells test.now) result }
+{
+    match number_at(cells_from(kinds, test.cell, bytes)) {
+        None => false,
+        Some(number) => meets_number(test, number),
+    }
+}
+
+/// Whether the cells of a packed row meet all of some tests.
+pub(crate) fn meets_all(tests: &[NumberTest], kinds: &[Kind], bytes: &[u8]) -> bool
+    requires { AllByRecursion (λ test. IsNumberAt kinds.now test.cell) tests.now }
+    ensures { IsWhetherPass kinds.now bytes.now (λ cells. list_all (spec.meets cells) tests.now) result }
+{
+    if bytes.len() > MOST_BYTES {
+        return false;
+    }
+    for test in tests {
+        if !meets_test(test, kinds, bytes) {
+            return false;
+        }
+    }
+    true
+}
