@@ -1,4 +1,5 @@
 pub mod Order
+pub mod Hashes
 pub mod Coding
 pub mod Texts
 pub mod Keys
