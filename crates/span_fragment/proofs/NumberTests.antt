@@ -15,7 +15,7 @@ use Rattle.span_value.specs.declared.value.Kind.{Kind}
 use Rattle.span_value.specs.declared.value.Kind.TheVariants as kind
 use Rattle.span_value.specs.declared.truth.Outcome.{Outcome}
 use Rattle.span_value.specs.declared.truth.Outcome.TheVariants.{Val}
-use Rattle.span_value.specs.declared.truth.Truth.TheVariants.{Unknown}
+use Rattle.span_value.specs.declared.truth.Truth.TheVariants.{False, True, Unknown}
 use Rattle.span_schema.specs.declared.table.Table.{Table}
 use Rattle.span_schema.specs.Fitting.{Fits}
 use Rattle.span_schema.specs.Numbers.{key_places, other_places, other_kinds}
@@ -38,7 +38,7 @@ use Rattle.span_expr.specs.Outcomes.{both, condition_of, outcome_of, strict, tru
 use Rattle.span_query.specs.Rows.{Row}
 use Rattle.span_fragment.specs.declared.number_test.NumberTest.{NumberTest}
 use Rattle.span_fragment.specs.Meaning.{value_for, declared_row}
-use Rattle.span_fragment.specs.NumberTests.{meets_value, meets, IsNumberAt, IsJudged, AreMoreTests, AreTestsOf, AreTestsOfAll, IsKnown, IsNumberTest, IsNumberCell, IsRestOf, number_or_null, IsNumberFound, IsWhetherPass}
+use Rattle.span_fragment.specs.NumberTests.{meets_value, meets, IsNumberAt, IsJudged, AreMoreTests, AreNeededFor, AreNeededForAll, AreSomeTests, AreTestsOf, AreTestsOfAll, IsKnown, IsNumberTest, IsNumberCell, IsRestOf, number_or_null, IsNumberFound, IsWhetherPass}
 use Rattle.span_fragment.proofs.KeyPlaces.{ArePlacesApart}
 use Rattle.span_fragment.proofs.DeclaredRows.{column_at}
 use Rattle.span_fragment.proofs.PlacedRows.{others_placed, others_apart}
@@ -333,6 +333,16 @@ all_added : {X : Type 0} (P : X → Type 0) (xs : List X) (y : X) → AllByRecur
 all_added P [] y all one = (one, tt {0})
 all_added P (x ∷ xs) y all one = (all.0, all_added P xs y all.1 one)
 
+-- the fold over one condition more
+fold_more : (row : Row) (c : Condition) (es : List Expr) (i : ℕ) (e : Expr) → i < length es → e ≡ get_or es i e
+    → fold and_also c (map (val row) (take (i + 1) es)) ≡ both (fold and_also c (map (val row) (take i es))) (condition_of (val row e))
+fold_more row c es i e less is =
+    let place : i + 1 ≡ suc i = omega arith in
+    let front : take (i + 1) es ≡ take i es ++ e ∷ [] = ap (λ (k : ℕ). take k es) place ∙ take-suc es i e less ∙ ap (λ (y : Expr). take i es ++ y ∷ []) (sym is) in
+    ap (λ (l : List Expr). fold and_also c (map (val row) l)) front
+    ∙ ap (fold and_also c) (map-append (val row) (take i es) (e ∷ []))
+    ∙ fold-append and_also c (map (val row) (take i es)) (val row e ∷ [])
+
 pub no_more_tests : (schema : List Table) (n : ℕ) (es : List Expr) (tests : List NumberTest) → AreMoreTests schema n (take 0 es) tests tests
 no_more_tests schema n es tests = record { numbers = λ numbers. numbers; judged = λ t typed own c known. known }
 
@@ -342,12 +352,7 @@ one_more_test schema n es i e test old now new less is added one so = subst (Are
   numbers = λ numbers. all_added (λ (x : NumberTest). IsNumberAt (other_kinds schema n) x.cell) now test (so.numbers numbers) one.number;
   judged = λ t typed own c known.
       let row : Row = declared_row schema t in
-      let place : i + 1 ≡ suc i = omega arith in
-      let front : take (i + 1) es ≡ take i es ++ e ∷ [] = ap (λ (k : ℕ). take k es) place ∙ take-suc es i e less ∙ ap (λ (y : Expr). take i es ++ y ∷ []) (sym is) in
-      let all : fold and_also c (map (val row) (take (i + 1) es)) ≡ both (fold and_also c (map (val row) (take i es))) (condition_of (val row e)) =
-      ap (λ (l : List Expr). fold and_also c (map (val row) l)) front
-      ∙ ap (fold and_also c) (map-append (val row) (take i es) (e ∷ []))
-      ∙ fold-append and_also c (map (val row) (take i es)) (val row e ∷ []) in
+      let all = fold_more row c es i e less is in
       let both_known = known_and (fold and_also c (map (val row) (take i es))) (condition_of (val row e)) (list_all (meets t.cells) now) (meets t.cells test) (so.judged t typed own c known) (judged_known (val row e) (meets t.cells test) (one.judged t typed own)) in
       let P : Bool → Type 0 = IsKnown (fold and_also c (map (val row) (take (i + 1) es))) in
       let Q : Condition → Type 0 = λ k. IsKnown k (list_all (meets t.cells) now && meets t.cells test) in
@@ -357,24 +362,122 @@ one_more_test schema n es i e test old now new less is added one so = subst (Are
 pub all_more_tests : (schema : List Table) (n : ℕ) (es : List Expr) (i : ℕ) (old new : List NumberTest) → length es ≤ i → AreMoreTests schema n (take i es) old new → AreMoreTests schema n es old new
 all_more_tests schema n es i old new over so = subst (λ (l : List Expr). AreMoreTests schema n l old new) (take_all i es over) so
 
-pub tests_of_all : (schema : List Table) (n : ℕ) (first : Expr) (more : List Expr) (test : NumberTest) (old new : List NumberTest) → old ≡ test ∷ [] → IsNumberTest schema n first test → AreMoreTests schema n more old new
+pub tests_of_all : (schema : List Table) (n : ℕ) (first : Expr) (more : List Expr) (old new : List NumberTest) → AreTestsOf schema n first old → AreMoreTests schema n more old new
     → AreTestsOfAll schema n first more new
-tests_of_all schema n first more test old new is one so =
-    let begin = one_test_of schema n first test old is one in
-    record {
-      numbers = so.numbers begin.numbers;
-      judged = λ t typed own.
-          let row : Row = declared_row schema t in
-          known_judged (fold and_also (condition_of (val row first)) (map (val row) more)) (list_all (meets t.cells) new)
-          (so.judged t typed own (condition_of (val row first)) (judged_known (val row first) (list_all (meets t.cells) old) (begin.judged t typed own)));
-    }
+tests_of_all schema n first more old new begin so = record {
+  numbers = so.numbers begin.numbers;
+  judged = λ t typed own.
+      let row : Row = declared_row schema t in
+      known_judged (fold and_also (condition_of (val row first)) (map (val row) more)) (list_all (meets t.cells) new)
+      (so.judged t typed own (condition_of (val row first)) (judged_known (val row first) (list_all (meets t.cells) old) (begin.judged t typed own)));
+}
+
+val_and : (row : Row) (first : Expr) (more : List Expr) → val row (And first more) ≡ all_of (val row first) (map (val row) more)
+val_and row first more = ap (val row) (sym (rolls-And first more)) ∙ fold-roll-Expr Outcome (at_operands row) (Expr-F.And first more)
 
 pub tests_of_and : (schema : List Table) (n : ℕ) (e first : Expr) (more : List Expr) (tests : List NumberTest) → e ≡ And first more → AreTestsOfAll schema n first more tests → AreTestsOf schema n e tests
 tests_of_and schema n e first more tests is all = record {
   numbers = all.numbers;
   judged = λ t typed own.
       let row : Row = declared_row schema t in
-      let same : val row e ≡ all_of (val row first) (map (val row) more) =
-      ap (val row) is ∙ ap (val row) (sym (rolls-And first more)) ∙ fold-roll-Expr Outcome (at_operands row) (Expr-F.And first more) in
-      subst (λ (o : Outcome). IsJudged o (list_all (meets t.cells) tests)) (sym same) (all.judged t typed own);
+      subst (λ (o : Outcome). IsJudged o (list_all (meets t.cells) tests)) (sym (ap (val row) is ∙ val_and row first more)) (all.judged t typed own);
+}
+
+-- ---- the tests of some conditions of an AND
+
+-- what is FALSE or NULL stays so beside any other condition
+not_met_first : (c d : Condition) → IsKnown c false → IsKnown (both c d) false
+not_met_first c d (inl is) = by_other d (ap (λ (x : Condition). both x d) is)
+  where
+    by_other : (d : Condition) → both c d ≡ both (condition.Known False) d → IsKnown (both c d) false
+    by_other (condition.Known False) so = inl so
+    by_other (condition.Known True) so = inl so
+    by_other (condition.Known Unknown) so = inl so
+    by_other condition.Faulted so = inl so
+not_met_first c d (inr null) = by_other d (ap (λ (x : Condition). both x d) null.0)
+  where
+    by_other : (d : Condition) → both c d ≡ both (condition.Known Unknown) d → IsKnown (both c d) false
+    by_other (condition.Known False) so = inl so
+    by_other (condition.Known True) so = inr (so, refl)
+    by_other (condition.Known Unknown) so = inr (so, refl)
+    by_other condition.Faulted so = inr (so, refl)
+
+not_met_second : (c d : Condition) → IsKnown d false → IsKnown (both c d) false
+not_met_second c d (inl is) = by_other c (ap (both c) is)
+  where
+    by_other : (c : Condition) → both c d ≡ both c (condition.Known False) → IsKnown (both c d) false
+    by_other (condition.Known False) so = inl so
+    by_other (condition.Known True) so = inl so
+    by_other (condition.Known Unknown) so = inl so
+    by_other condition.Faulted so = inl so
+not_met_second c d (inr null) = by_other c (ap (both c) null.0)
+  where
+    by_other : (c : Condition) → both c d ≡ both c (condition.Known Unknown) → IsKnown (both c d) false
+    by_other (condition.Known False) so = inl so
+    by_other (condition.Known True) so = inr (so, refl)
+    by_other (condition.Known Unknown) so = inr (so, refl)
+    by_other condition.Faulted so = inr (so, refl)
+
+pub no_tests_yet : (schema : List Table) (n : ℕ) (es : List Expr) (tests : List NumberTest) → AreSomeTests schema n (take 0 es) tests tests
+no_tests_yet schema n es tests = record { numbers = λ numbers. numbers; unmet = λ t typed own c known not_met. known not_met }
+
+-- a condition that is no test
+pub no_test : (schema : List Table) (n : ℕ) (es : List Expr) (i : ℕ) (e : Expr) (old now : List NumberTest) → i < length es → e ≡ get_or es i e → AreSomeTests schema n (take i es) old now
+    → AreSomeTests schema n (take (i + 1) es) old now
+no_test schema n es i e old now less is so = record {
+  numbers = so.numbers;
+  unmet = λ t typed own c known not_met.
+      let row : Row = declared_row schema t in
+      let begin : Condition = fold and_also c (map (val row) (take i es)) in
+      subst (λ (k : Condition). IsKnown k false) (sym (fold_more row c es i e less is)) (not_met_first begin (condition_of (val row e)) (so.unmet t typed own c known not_met));
+}
+
+pub one_test_more : (schema : List Table) (n : ℕ) (es : List Expr) (i : ℕ) (e : Expr) (test : NumberTest) (old now new : List NumberTest) → i < length es → e ≡ get_or es i e → new ≡ now ++ test ∷ []
+    → IsNumberTest schema n e test → AreSomeTests schema n (take i es) old now → AreSomeTests schema n (take (i + 1) es) old new
+one_test_more schema n es i e test old now new less is added one so = subst (AreSomeTests schema n (take (i + 1) es) old) (sym added) (record {
+  numbers = λ numbers. all_added (λ (x : NumberTest). IsNumberAt (other_kinds schema n) x.cell) now test (so.numbers numbers) one.number;
+  unmet = λ t typed own c known not_met.
+      let row : Row = declared_row schema t in
+      let begin : Condition = fold and_also c (map (val row) (take i es)) in
+      let judged = judged_known (val row e) (meets t.cells test) (one.judged t typed own) in
+      subst (λ (k : Condition). IsKnown k false) (sym (fold_more row c es i e less is))
+      (by_test begin (condition_of (val row e)) (list_all (meets t.cells) now) (meets t.cells test) (sym (all_and (meets t.cells) now test) ∙ not_met) (so.unmet t typed own c known) judged);
+})
+  where
+    by_test : (c d : Condition) (a b : Bool) → (a && b) ≡ false → (a ≡ false → IsKnown c false) → IsKnown d b → IsKnown (both c d) false
+    by_test c d false b not_met first second = not_met_first c d (first refl)
+    by_test c d true b not_met first second = not_met_second c d (subst (λ (x : Bool). IsKnown d x) not_met second)
+
+pub some_tests_of : (schema : List Table) (n : ℕ) (es : List Expr) (i : ℕ) (old new : List NumberTest) → length es ≤ i → AreSomeTests schema n (take i es) old new → AreSomeTests schema n es old new
+some_tests_of schema n es i old new over so = subst (λ (l : List Expr). AreSomeTests schema n l old new) (take_all i es over) so
+
+-- no test is needed
+pub no_test_needed : (schema : List Table) (n : ℕ) (e : Expr) (tests : List NumberTest) → tests ≡ [] → AreNeededFor schema n e tests
+no_test_needed schema n e tests none = subst (AreNeededFor schema n e) (sym none) (record {
+  numbers = tt {0};
+  unmet = λ t typed own not_met. absurd (let bad : true ≡ false = not_met in cc);
+})
+
+pub tests_needed : (schema : List Table) (n : ℕ) (e : Expr) (tests : List NumberTest) → AreTestsOf schema n e tests → AreNeededFor schema n e tests
+tests_needed schema n e tests of = record {
+  numbers = of.numbers;
+  unmet = λ t typed own not_met. subst (λ (b : Bool). IsJudged (val (declared_row schema t) e) b) not_met (of.judged t typed own);
+}
+
+pub needed_for_all : (schema : List Table) (n : ℕ) (first : Expr) (more : List Expr) (old new : List NumberTest) → AreNeededFor schema n first old → AreSomeTests schema n more old new
+    → AreNeededForAll schema n first more new
+needed_for_all schema n first more old new begin so = record {
+  numbers = so.numbers begin.numbers;
+  unmet = λ t typed own not_met.
+      let row : Row = declared_row schema t in
+      known_judged (fold and_also (condition_of (val row first)) (map (val row) more)) false
+      (so.unmet t typed own (condition_of (val row first)) (λ unmet. judged_known (val row first) false (begin.unmet t typed own unmet)) not_met);
+}
+
+pub needed_for_and : (schema : List Table) (n : ℕ) (e first : Expr) (more : List Expr) (tests : List NumberTest) → e ≡ And first more → AreNeededForAll schema n first more tests → AreNeededFor schema n e tests
+needed_for_and schema n e first more tests is all = record {
+  numbers = all.numbers;
+  unmet = λ t typed own not_met.
+      let row : Row = declared_row schema t in
+      subst (λ (o : Outcome). IsJudged o false) (sym (ap (val row) is ∙ val_and row first more)) (all.unmet t typed own not_met);
 }

@@ -38,7 +38,7 @@ use Rattle.span_fragment.specs.Entries.{key_row, AreNoRows, IsWhetherOf}
 use Rattle.span_fragment.specs.Given.{picked_given, IsGivenOn}
 use Rattle.span_fragment.specs.Longest.{IsLongest, AreLongest, HaveShortKeys}
 use Rattle.span_fragment.specs.declared.number_test.NumberTest.{NumberTest}
-use Rattle.span_fragment.specs.NumberTests.{meets, AreTestsOf, IsJudged, IsWhetherPass}
+use Rattle.span_fragment.specs.NumberTests.{meets, AreNeededFor, AreTestsOf, IsJudged, IsWhetherPass}
 use Rattle.span_fragment.specs.Readers.{ArePickedOf}
 use Rattle.span_fragment.specs.Scans.{passes, kept_row, AreNeeded, AreTestsWhere, IsMaskOf, IsConditionAt, IsAdded, IsAddedWhere, IsTaken}
 use Rattle.span_fragment.proofs.DeclaredRows.{row_width}
@@ -162,8 +162,13 @@ tests_where schema n w e tests is of = record {
 pub no_condition : (schema : List Table) (n : ℕ) (w : Option Expr) → w ≡ None → AreTestsWhere schema n w []
 no_condition schema n w none = record { numbers = tt {0}; judged = λ t typed own. ap (λ (o : Option Expr). passes o (declared_row schema t)) none }
 
-pub needed_tests : (schema : List Table) (n : ℕ) (w : Option Expr) (tests : List NumberTest) → AreTestsWhere schema n w tests → AreNeeded schema n w tests
-needed_tests schema n w tests of = record { numbers = of.numbers; unmet = λ t typed own not_met. of.judged t typed own ∙ ap (λ (b : Bool). Some b) not_met }
+-- where it is FALSE or NULL at rows that do not meet the tests, these are needed
+pub needed_where : (schema : List Table) (n : ℕ) (w : Option Expr) (e : Expr) (tests : List NumberTest) → w ≡ Some e → AreNeededFor schema n e tests → AreNeeded schema n w tests
+needed_where schema n w e tests is of = record {
+  numbers = of.numbers;
+  unmet = λ t typed own not_met.
+      ap (λ (o : Option Expr). passes o (declared_row schema t)) is ∙ judged_passes (val (declared_row schema t) e) false (of.unmet t typed own not_met);
+}
 
 pub none_needed : (schema : List Table) (n : ℕ) (w : Option Expr) (tests : List NumberTest) → tests ≡ [] → AreNeeded schema n w tests
 none_needed schema n w tests is = subst (AreNeeded schema n w) (sym is) (record { numbers = tt {0}; unmet = λ t typed own not_met. absurd (let bad : true ≡ false = not_met in cc) })

@@ -50,6 +50,12 @@ pub record AreTestsOf (schema : List Table) (n : ℕ) (e : Expr) (tests : List N
   pub numbers : AllByRecursion (λ test. IsNumberAt (other_kinds schema n) test.cell) tests
   pub judged : (t : TableRow) → IsTyped schema t → t.table ≡ n → IsJudged (val (declared_row schema t) e) (list_all (meets t.cells) tests)
 
+-- the condition is FALSE or NULL at the rows of table n that do not meet all of the tests
+pub record AreNeededFor (schema : List Table) (n : ℕ) (e : Expr) (tests : List NumberTest) : Type 0 where
+  pub numbers : AllByRecursion (λ test. IsNumberAt (other_kinds schema n) test.cell) tests
+  pub unmet : (t : TableRow) → IsTyped schema t → t.table ≡ n → list_all (meets t.cells) tests ≡ false
+      → IsJudged (val (declared_row schema t) e) false
+
 -- the same of one test
 pub record IsNumberTest (schema : List Table) (n : ℕ) (e : Expr) (test : NumberTest) : Type 0 where
   pub number : IsNumberAt (other_kinds schema n) test.cell
@@ -73,6 +79,20 @@ pub record AreMoreTests (schema : List Table) (n : ℕ) (more : List Expr) (old 
       → AllByRecursion (λ test. IsNumberAt (other_kinds schema n) test.cell) new
   pub judged : (t : TableRow) → IsTyped schema t → t.table ≡ n → (c : Condition) → IsKnown c (list_all (meets t.cells) old)
       → IsKnown (fold and_also c (map (val (declared_row schema t)) more)) (list_all (meets t.cells) new)
+
+-- an AND of conditions is FALSE or NULL at the rows of table n that do not meet all of the tests
+pub record AreNeededForAll (schema : List Table) (n : ℕ) (first : Expr) (more : List Expr) (tests : List NumberTest) : Type 0 where
+  pub numbers : AllByRecursion (λ test. IsNumberAt (other_kinds schema n) test.cell) tests
+  pub unmet : (t : TableRow) → IsTyped schema t → t.table ≡ n → list_all (meets t.cells) tests ≡ false
+      → IsJudged (all_of (val (declared_row schema t) first) (map (val (declared_row schema t)) more)) false
+
+-- the tests of some conditions, and after them those of some of more: where not all are met, the AND of them is FALSE or NULL
+pub record AreSomeTests (schema : List Table) (n : ℕ) (more : List Expr) (old new : List NumberTest) : Type 0 where
+  pub numbers : AllByRecursion (λ test. IsNumberAt (other_kinds schema n) test.cell) old
+      → AllByRecursion (λ test. IsNumberAt (other_kinds schema n) test.cell) new
+  pub unmet : (t : TableRow) → IsTyped schema t → t.table ≡ n → (c : Condition)
+      → (list_all (meets t.cells) old ≡ false → IsKnown c false) → list_all (meets t.cells) new ≡ false
+      → IsKnown (fold and_also c (map (val (declared_row schema t)) more)) false
 
 -- ---- where the cell of a column is
 

@@ -1,5 +1,5 @@
 //! Comparisons of numbers with literals, judged where a row is packed: no value is made of a row that is not kept.
-ghost use Rattle.std.specs.Prelude.{◌≡◌, ◌<◌, ◌≤◌, ◌==◌, ◌∷◌, [], IfOk, IfSome, MatchOption, get_or, length, not, true};
+ghost use Rattle.std.specs.Prelude.{◌≡◌, ◌<◌, ◌≤◌, ◌==◌, [], IfOk, IfSome, MatchOption, OnOk, get_or, length, not, true};
 ghost use Rattle.std.specs.List.{AllByRecursion, list_all};
 ghost use Rattle.span_value.specs.declared.value.Kind.TheVariants as kind;
 ghost use Rattle.span_value.specs.declared.value.Value.TheVariants.{Int};
@@ -9,7 +9,7 @@ ghost use Rattle.span_rowcode.specs.Cells.{IsNoBody, IsBody};
 ghost use Rattle.span_expr.specs.declared.expr.Expr.TheVariants.{Literal};
 ghost use Rattle.span_expr.specs.Operators.{holds};
 ghost use Rattle.span_fragment.specs.NumberTests as spec;
-ghost use Rattle.span_fragment.specs.NumberTests.{AreMoreTests, AreTestsOf, AreTestsOfAll, IsNumberAt, IsNumberCell, IsNumberFound, IsNumberTest, IsRestOf, IsWhetherPass};
+ghost use Rattle.span_fragment.specs.NumberTests.{AreMoreTests, AreNeededFor, AreNeededForAll, AreSomeTests, AreTestsOf, AreTestsOfAll, IsNumberAt, IsNumberCell, IsNumberFound, IsNumberTest, IsRestOf, IsWhetherPass};
 
 use span_expr::expr::{Comparison, Expr};
 use span_planner::table::width_of;
@@ -103,15 +103,16 @@ pub(crate) fn number_test(schema: &Schema, table: usize, condition: &Expr) -> Op
     })
 }
 
-fn one_test(alloc: Global, test: NumberTest) -> Result<Seq<NumberTest>, AllocError>
-    ensures { IfOk result (λ tests. tests ≡ test ∷ []) }
-{
-    let mut tests = Vec::with_capacity(alloc, 1)?;
-    tests.push(test)?;
-    Ok(Seq::from_vec(tests))
+/// The tests of packed cells that a condition has.
+#[derive(Debug, Drop)]
+pub(crate) struct NumberTests {
+    /// A row at which the condition is TRUE meets all of these.
+    pub tests: Seq<NumberTest>,
+    /// Whether the condition is TRUE at each row that meets them.
+    pub are_all: bool,
 }
 
-/// Adds the tests that conditions are. False where one is none.
+/// Adds the tests that some of the conditions are; whether all of them are tests.
 fn add_tests(
     schema: &Schema,
     table: usize,
@@ -119,60 +120,84 @@ fn add_tests(
     tests: &mut Vec<NumberTest>,
 ) -> Result<bool, AllocError>
     requires { IsTable schema.now table }
-    ensures { IfOk result
+    ensures all { IfOk result
         (λ all. all ≡ true → AreMoreTests schema.now table conditions.now tests.old.items tests.new.items) }
+    ensures some { OnOk result (AreSomeTests schema.now table conditions.now tests.old.items tests.new.items) }
 {
+    let mut all = true;
     for condition in conditions {
         match number_test(schema, table, condition) {
-            None => return Ok(false),
+            None => all = false,
             Some(test) => tests.push(test)?,
         }
     }
-    Ok(true)
+    Ok(all)
 }
 
-/// The tests that an AND of conditions is.
-fn tests_of_all(
-    alloc: Global,
+/// Adds the test that a condition is; whether it is one.
+fn add_test(
+    schema: &Schema,
+    table: usize,
+    condition: &Expr,
+    tests: &mut Vec<NumberTest>,
+) -> Result<bool, AllocError>
+    requires table { IsTable schema.now table }
+    requires first { tests.old.items ≡ [] }
+    ensures all { IfOk result (λ all. all ≡ true → AreTestsOf schema.now table condition.now tests.new.items) }
+    ensures some { OnOk result (AreNeededFor schema.now table condition.now tests.new.items) }
+{
+    match number_test(schema, table, condition) {
+        None => Ok(false),
+        Some(test) => {
+            tests.push(test)?;
+            Ok(true)
+        }
+    }
+}
+
+/// Adds the tests of an AND of conditions; whether all of these are tests.
+fn add_tests_of_all(
     schema: &Schema,
     table: usize,
     first: &Expr,
     more: &[Expr],
-) -> Result<Option<Seq<NumberTest>>, AllocError>
-    requires { IsTable schema.now table }
-    ensures { IfOk result
-        (λ found. MatchOption found (Unit {0}) (λ tests. AreTestsOfAll schema.now table first.now more.now tests)) }
+    tests: &mut Vec<NumberTest>,
+) -> Result<bool, AllocError>
+    requires table { IsTable schema.now table }
+    requires first { tests.old.items ≡ [] }
+    ensures all { IfOk result
+        (λ all. all ≡ true → AreTestsOfAll schema.now table first.now more.now tests.new.items) }
+    ensures some { OnOk result (AreNeededForAll schema.now table first.now more.now tests.new.items) }
 {
-    let Some(test) = number_test(schema, table, first) else {
-        return Ok(None);
-    };
-    let mut tests = Vec::with_capacity(alloc, 1)?;
-    tests.push(test)?;
-    if !add_tests(schema, table, more, &mut tests)? {
-        return Ok(None);
-    }
-    Ok(Some(Seq::from_vec(tests)))
+    let is_first_one = add_test(schema, table, first, tests)?;
+    let are_more = add_tests(schema, table, more, tests)?;
+    Ok(is_first_one && are_more)
 }
 
-/// The tests that a condition is: it is TRUE where a row meets all of them. None where it is no comparison of a column of numbers outside
-/// the key with a number, and no AND of some.
+/// The tests that a condition has: those that it is, where it is a comparison of a column of numbers outside the key with a number, and
+/// those of an AND of conditions.
 pub(crate) fn number_tests(
     alloc: Global,
     schema: &Schema,
     table: usize,
     condition: &Expr,
-) -> Result<Option<Seq<NumberTest>>, AllocError>
+) -> Result<NumberTests, AllocError>
     requires { IsTable schema.now table }
-    ensures { IfOk result
-        (λ found. MatchOption found (Unit {0}) (λ tests. AreTestsOf schema.now table condition.now tests)) }
+    ensures needed { IfOk result (λ found. AreNeededFor schema.now table condition.now found.tests) }
+    ensures all { IfOk result
+        (λ found. found.are_all ≡ true → AreTestsOf schema.now table condition.now found.tests) }
 {
-    match condition {
-        Expr::And(first, more) => tests_of_all(alloc, schema, table, first.get(), more.as_slice()),
-        _ => match number_test(schema, table, condition) {
-            None => Ok(None),
-            Some(test) => Ok(Some(one_test(alloc, test)?)),
-        },
-    }
+    let mut tests = Vec::new(alloc);
+    let are_all = match condition {
+        Expr::And(first, more) => {
+            add_tests_of_all(schema, table, first.get(), more.as_slice(), &mut tests)?
+        }
+        _ => add_test(schema, table, condition, &mut tests)?,
+    };
+    Ok(NumberTests {
+        tests: Seq::from_vec(tests),
+        are_all,
+    })
 }
 
 // ---- a test at a packed row
