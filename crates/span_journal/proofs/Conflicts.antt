@@ -12,7 +12,7 @@ use Rattle.span_value.specs.declared.value.Value.{Value}
 use Rattle.span_schema.specs.declared.table.Table.{Table}
 use Rattle.span_schema.specs.Lineages.{MeetsRules}
 use Rattle.span_schema.specs.Numbers.{key_columns, root_of}
-use Rattle.span_keycode.specs.Order.{byte_order}
+use Rattle.span_keycode.specs.Order.{byte_order, is_same}
 use Rattle.span_keycode.specs.Keys.{IsKey, key_code}
 use Rattle.span_keycode.proofs.KeyLaws.{one_key}
 use Rattle.span_keycode.proofs.LevelLaws.{fit_length}
@@ -23,7 +23,7 @@ use Rattle.span_mutate.proofs.Begins.{equal_from, same_number, number_itself, sa
 use Rattle.span_machine.specs.declared.slot.SlotState.{SlotState}
 use Rattle.span_machine.specs.Slots.{holds, is_at, root_at, root_code}
 use Rattle.span_journal.specs.Places.{share_directory_in}
-use Rattle.span_journal.specs.Conflicts.{is_same, HasRootKey, IsRootKey, is_in_held_directory, has_directory, AddsDirectory}
+use Rattle.span_journal.specs.Conflicts.{HasRootKey, IsRootKey, is_in_held_directory, has_directory, AddsDirectory}
 
 same_bytes : (a b : List ℕ) → is_same a b ≡ true → a ≡ b
 same_bytes a b e = exact_bytes a b (equal_from (byte_order a b) e)

@@ -1,9 +1,8 @@
 -- The directories of mutations by the coded keys of their root rows.
 use Rattle.std.specs.Prelude.{◌≡◌, ℕ, Bool, ◌&&◌, ◌||◌, List, length, if◌then◌else◌}
 use Rattle.std.specs.List.{list_any}
-use Rattle.std.specs.Ordering.{eq_by_cmp}
 use Rattle.span_schema.specs.declared.table.Table.{Table}
-use Rattle.span_keycode.specs.Order.{byte_order}
+use Rattle.span_keycode.specs.Order.{is_same}
 use Rattle.span_keycode.specs.Keys.{IsKey}
 use Rattle.span_mutate.specs.declared.mutation.CheckedMutation.{CheckedMutation}
 use Rattle.span_machine.specs.declared.slot.SlotState.{SlotState}
@@ -14,10 +13,6 @@ use Rattle.span_machine.specs.Slots.{holds, is_at, root_at, root_code}
 -- how many mutations the transaction has, if it is prepared at the slot
 abbrev pub count_mutations_at : ℕ → OpenTransaction → ℕ
 count_mutations_at slot t = if is_prepared_at slot t then length t.mutations else 0
-
--- two coded keys are the same
-abbrev pub is_same : List ℕ → List ℕ → Bool
-is_same k l = eq_by_cmp byte_order k l
 
 -- the root row of the mutation's directory has a key that can be coded
 abbrev pub HasRootKey : List Table → CheckedMutation → Type 0

@@ -3,7 +3,7 @@
 //! Where the mutations of one side are few, each is held against all of the other. Else the coded keys of one side's
 //! directories are put into a set once, and each mutation of the other side is looked up there, so that the time does
 //! not grow with the product of both.
-ghost use Rattle.std.specs.Prelude.{◌≡◌, ◌&&◌, take, nat_le, IfSome};
+ghost use Rattle.std.specs.Prelude.{◌≡◌, ◌&&◌, nat_le, IfSome};
 ghost use Rattle.std.specs.List.{list_any, sum_by};
 ghost use Rattle.span_machine.specs.Machine.{is_at, root_at, holds, is_prepared_at};
 ghost use Rattle.span_journal.specs.declared.conflict.TheConstants.{FEW_MUTATIONS};
@@ -18,8 +18,8 @@ use span_keycode::key::Key;
 use span_machine::slot::SlotState;
 use span_mutate::directory::is_in_directory_of;
 use span_mutate::mutation::CheckedMutation;
+use span_mutate::row::first_values;
 use span_schema::schema::Schema;
-use span_value::value::Value;
 use std::alloc::Global;
 use std::collections::BTreeSet;
 
@@ -337,11 +337,4 @@ fn encode_root(alloc: Global, schema: &Schema, mutation: &CheckedMutation) -> Op
         Ok(key) => Some(key),
         Err(_) => None,
     }
-}
-
-/// The first `len` values, or all where there are fewer.
-fn first_values(values: &[Value], len: usize) -> &[Value]
-    ensures { result.now ≡ take len values.now }
-{
-    &values[..len.min(values.len())]
 }

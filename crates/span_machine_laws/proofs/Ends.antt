@@ -20,8 +20,9 @@ use Rattle.span_keycode.specs.Ranges.{range_start, range_end}
 use Rattle.span_mutate.specs.Directories.{Root, key_len, root_row}
 use Rattle.span_mutate.specs.declared.row.TableRow.{TableRow}
 use Rattle.span_mutate.specs.Typed.{IsTyped}
-use Rattle.span_shard.specs.Rows.{begins_with, code_of}
-use Rattle.span_shard.proofs.Bytes.{begins_front, front_begins}
+use Rattle.span_maderows.specs.Made.{begins_with}
+use Rattle.span_maderows.proofs.Bytes.{begins_front, front_begins}
+use Rattle.span_shard.specs.Rows.{code_of}
 use Rattle.span_planner.proofs.Bounding.{fits_type}
 use Rattle.span_machine.specs.Slots.{IsCodedRoot, root_code}
 use Rattle.span_machine_laws.proofs.BoundEnds.{below_start, below_end}

@@ -15,8 +15,9 @@ use Rattle.span_mutate.specs.Typed.{IsTyped, AreTyped}
 use Rattle.span_mutate.proofs.Apart.{one_database}
 use Rattle.span_mutate.proofs.Filters.{filter_within, filters_turned}
 use Rattle.span_mutate.proofs.Placing.{all_filter, rising_filter}
-use Rattle.span_shard.specs.Rows.{begins_with, code_of}
-use Rattle.span_shard.proofs.Bytes.{front_begins}
+use Rattle.span_maderows.specs.Made.{begins_with}
+use Rattle.span_maderows.proofs.Bytes.{front_begins}
+use Rattle.span_shard.specs.Rows.{code_of}
 use Rattle.span_machine.specs.Machine.{is_at}
 use Rattle.span_machine.specs.Meaning.{row_within}
 use Rattle.span_machine.specs.Slots.{root_code}

@@ -1,12 +1,11 @@
 //! Which mutations are of one directory.
-ghost use Rattle.std.specs.Prelude.{◌≡◌, take};
+ghost use Rattle.std.specs.Prelude.{◌≡◌};
 ghost use Rattle.span_schema.specs.Numbers.{root_of};
 ghost use Rattle.span_mutate.specs.Directories.{is_in_directory, key_len, root_row};
 
 use super::mutation::CheckedMutation;
-use super::row::begins;
+use super::row::{begins, first_values};
 use span_schema::schema::Schema;
-use span_value::value::Value;
 
 /// Whether a mutation is in the directory of another one's root row: their tables have one root table, and their keys begin with the
 /// same key of it.
@@ -46,11 +45,4 @@ fn key_length(schema: &Schema, table: usize) -> usize
         return schema.key_columns(place + 1).len();
     }
     0
-}
-
-// The first `len` values, or all where there are fewer.
-fn first_values(values: &[Value], len: usize) -> &[Value]
-    ensures { result.now ≡ take len values.now }
-{
-    &values[..len.min(values.len())]
 }

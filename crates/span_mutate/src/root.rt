@@ -1,7 +1,7 @@
 //! Mutations on the rows of one directory: a root row, and all rows below it.
 //!
 //! What a mutation does is decided by the rows of its directory alone, so it is worked out here, whatever other rows there are.
-ghost use Rattle.std.specs.Prelude.{◌≡◌, ◌⊎◌, ◌==◌, true, false, not, nat_lt, IfOk, MatchResult, Ok, Err, Some, is_some, length, take, map, All};
+ghost use Rattle.std.specs.Prelude.{◌≡◌, ◌⊎◌, ◌==◌, true, false, not, nat_lt, IfOk, MatchResult, Ok, Err, Some, is_some, length, map, All};
 ghost use Rattle.std.specs.List.{list_any, filter};
 ghost use Rattle.std.specs.Option.{option_copied, unwrap_or};
 ghost use Rattle.span_schema.specs.Numbers.{IsTable, parent_of};
@@ -13,7 +13,7 @@ ghost use Rattle.span_mutate.specs.Database.{is_at_or_below, tables_under, casca
 
 use super::copy::copy_of_values;
 use super::mutation::{CheckedMutation, MutationKind, is_delete};
-use super::row::{TableRow, begins, row_at, with_row};
+use super::row::{TableRow, begins, first_values, row_at, with_row};
 use span_rowcode::pack::pack;
 use span_schema::schema::Schema;
 use span_schema::table::Table;
@@ -128,13 +128,6 @@ fn lacks_parent(schema: &Schema, table: usize, key: &[Value], rows: &[TableRow])
             row_at(parent, first_values(key, len), rows).is_none()
         }
     }
-}
-
-// The first `len` values, or all where there are fewer.
-fn first_values(values: &[Value], len: usize) -> &[Value]
-    ensures { result.now ≡ take len values.now }
-{
-    &values[..len.min(values.len())]
 }
 
 fn merge_cell(alloc: Global, named: &Option<Value>, old: Option<&Value>) -> Result<Value, Refusal>

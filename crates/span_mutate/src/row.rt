@@ -1,5 +1,5 @@
 //! Rows of tables, and their order.
-ghost use Rattle.std.specs.Prelude.{◌≡◌, IfOk, slice_get};
+ghost use Rattle.std.specs.Prelude.{◌≡◌, IfOk, slice_get, take};
 ghost use Rattle.std.specs.Option.{option_copied};
 ghost use Rattle.span_keycode.specs.Coding.{apply_direction};
 ghost use Rattle.span_mutate.specs.Rows.{begins, is_same_key, is_at, row_at, is_descending, key_order, row_order, with_row};
@@ -20,6 +20,13 @@ pub struct TableRow {
     pub key: Seq<Value>,
     /// The values of its other columns, in the order of declaration.
     pub cells: Seq<Value>,
+}
+
+/// The first `len` values, or all where there are fewer: of the key of a row, that of the row of an upper table above it.
+pub fn first_values(values: &[Value], len: usize) -> &[Value]
+    ensures { result.now ≡ take len values.now }
+{
+    &values[..len.min(values.len())]
 }
 
 /// Whether the other values begin with these.

@@ -11,6 +11,7 @@ use Rattle.span_arena.proofs.Keeping.{chain_in_range}
 use Rattle.span_keyindex.specs.Arenas.{HasSameChains}
 use Rattle.span_keyindex.specs.Entries.{Entry}
 use Rattle.span_keyindex.proofs.Keeping.{own_stays, chain_same, same_after, same-kept}
+use Rattle.span_maderows.proofs.Lists.{all_map, all_append}
 use Rattle.span_shard.specs.declared.chain.Version.{Version}
 use Rattle.span_shard.specs.declared.node.PreparedNode.{PreparedNode}
 use Rattle.span_shard.specs.KeyVersions.{KeyVersions}
@@ -18,7 +19,7 @@ use Rattle.span_shard.specs.Versions.{kept_version}
 use Rattle.span_shard.specs.Versions as seen
 use Rattle.span_shard.specs.Shard.{trimmed_key}
 use Rattle.span_shard.specs.Stored.{version_of, chain_versions, write_for, kept_entry, all_kept, IsNodeOf, IsStored, HasTrimmed, IsTrimmed, AreTrimmed}
-use Rattle.span_shard.proofs.Lists.{all_map, all_append, all_whole}
+use Rattle.span_shard.proofs.Lists.{all_whole}
 use Rattle.span_shard.proofs.Owned.{write-same, kept_equal}
 use Rattle.span_shard.proofs.Seeing.{chains_left, first_chain}
 

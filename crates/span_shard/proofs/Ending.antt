@@ -15,13 +15,13 @@ use Rattle.span_keyindex.specs.Arenas.{HasSameChains}
 use Rattle.span_keyindex.specs.Entries.{Entry}
 use Rattle.span_keyindex.proofs.Keeping.{same-equal, same-linked, same_after}
 use Rattle.span_mutate.proofs.Runs.{item_first}
+use Rattle.span_maderows.proofs.Lists.{all_filter_itself}
 use Rattle.span_shard.specs.declared.chain.Version.{Version}
 use Rattle.span_shard.specs.declared.chain.PreparedWrite.{PreparedWrite}
 use Rattle.span_shard.specs.declared.node.PreparedNode.{PreparedNode}
 use Rattle.span_shard.specs.KeyVersions.{KeyVersions}
 use Rattle.span_shard.specs.Versions.{timestamps, with_version, applied_write, applied_to_key}
 use Rattle.span_shard.specs.Stored.{version_of, chain_versions, is_for, write_of, write_for, kept, kept_entry, all_kept, IsNodeOf, AreOwned, AreLaterEnds, HasEnded, IsEndable, IsLaterEnd, ended, is_other, remaining_nodes}
-use Rattle.span_shard.proofs.Lists.{all_filter_itself}
 use Rattle.span_shard.proofs.Owned.{all_back_of, kept_equal, owned_without, write_elsewhere, write_gone, write_was}
 
 ended-prepared : (a : Content) (c n : ℕ) (image : Option (List ℕ)) (committed : Option ℕ) → prepared_at a n ≡ Some (record { chain = c; image = image }) → (ended a n committed).prepared ≡ set a.prepared n None

@@ -1,5 +1,4 @@
 pub mod Alone
-pub mod Bytes
 pub mod Codes
 pub mod Databases
 pub mod InOrder
@@ -27,5 +26,3 @@ pub mod RunAll
 pub mod Moving
 pub mod Parting
 pub mod NoRows
-pub mod MadeRows
-pub mod Hashing

@@ -1,16 +1,12 @@
 -- Lists whose items all pass, lists in order, and the parts of them.
-use Rattle.std.proofs.Common.{◌≡◌, ℕ, zero, suc, ◌<◌, ◌≤◌, Bool, true, false, ◌||◌, cond, List, [], ◌∷◌, ◌++◌, Some, None, length, take, drop, get_or, refl, sym, ap, subst, ◌∙◌, arith}
-use Rattle.std.specs.List.{filter, find, list_any, AllByRecursion, AllWithin}
+use Rattle.std.proofs.Common.{◌≡◌, ℕ, zero, suc, ◌<◌, Bool, true, false, ◌||◌, cond, List, [], ◌∷◌, ◌++◌, Some, None, length, take, drop, get_or, refl, sym, ap, subst, ◌∙◌, arith}
+use Rattle.std.specs.List.{filter, find, list_any, AllByRecursion}
 use Rattle.std.specs.declared.cmp.Ordering.{Ordering}
 use Rattle.std.specs.declared.cmp.Ordering.TheVariants.{Less}
 use Rattle.std.proofs.lemmas.List.{take-append-drop}
 use Rattle.std.proofs.lemmas.List.Elements.{filter-append}
 use Rattle.span_mutate.specs.Directories.{IsRising}
-use Rattle.span_mutate.proofs.Filters.{filter_yes, filter_no}
-
-pub all_map : {X : Type 0} (P Q : X → Type 0) → ((x : X) → P x → Q x) → (xs : List X) → AllByRecursion P xs → AllByRecursion Q xs
-all_map P Q f [] h = tt
-all_map P Q f (x ∷ xs) h = (f x h.0, all_map P Q f xs h.1)
+use Rattle.span_maderows.proofs.Lists.{filter_all, filter_none}
 
 pub all_both : {X : Type 0} (P Q : X → Type 0) (xs : List X) → AllByRecursion P xs → AllByRecursion Q xs → AllByRecursion (λ x. P x × Q x) xs
 all_both P Q [] h g = tt
@@ -26,10 +22,6 @@ all_drop P xs zero h = h
 all_drop P [] (suc n) h = tt
 all_drop P (x ∷ xs) (suc n) h = all_drop P xs n h.1
 
-pub all_append : {X : Type 0} (P : X → Type 0) (xs ys : List X) → AllByRecursion P xs → AllByRecursion P ys → AllByRecursion P (xs ++ ys)
-all_append P [] ys h g = g
-all_append P (x ∷ xs) ys h g = (h.0, all_append P xs ys h.1 g)
-
 pub all_at : {X : Type 0} (P : X → Type 0) (xs : List X) (k : ℕ) (d : X) → k < length xs → AllByRecursion P xs → P (get_or xs k d)
 all_at P [] k d less h = absurd (let l : k < 0 = less in omega arith)
 all_at P (x ∷ xs) zero d less h = h.0
@@ -38,36 +30,6 @@ all_at P (x ∷ xs) (suc k) d less h = all_at P xs k d (omega arith) h.1
 pub all_whole : {X : Type 0} (P : X → Type 0) → ((x : X) → P x) → (xs : List X) → AllByRecursion P xs
 all_whole P f [] = tt
 all_whole P f (x ∷ xs) = (f x, all_whole P f xs)
-
-pub all_filter_itself : {X : Type 0} (p : X → Bool) (xs : List X) → AllByRecursion (λ x. p x ≡ true) (filter p xs)
-all_filter_itself p [] = tt
-all_filter_itself {X} p (x ∷ xs) = cases (p x) refl (all_filter_itself p xs)
-  where
-    cases : (b : Bool) → p x ≡ b → AllByRecursion (λ x. p x ≡ true) (filter p xs) → AllByRecursion (λ x. p x ≡ true) (cond b (x ∷ filter p xs) (filter p xs))
-    cases true e again = (e, again)
-    cases false e again = again
-
--- what is known by index from the front
-pub all_front : {X : Type 0} (P : X → Type 0) (xs : List X) (n : ℕ) → n ≤ length xs → AllWithin P xs 0 n → AllByRecursion P (take n xs)
-all_front P xs zero le h = tt
-all_front P [] (suc n) le h = absurd (let l : suc n ≤ 0 = le in omega arith)
-all_front P (x ∷ xs) (suc n) le h = (h 0 x (omega arith) (omega arith), all_front P xs n (omega arith) (λ k d low high. h (suc k) d (omega arith) (omega arith)))
-
--- and up to the end
-pub all_rest : {X : Type 0} (P : X → Type 0) (xs : List X) (n : ℕ) → AllWithin P xs n (length xs) → AllByRecursion P (drop n xs)
-all_rest P [] zero h = tt
-all_rest P [] (suc n) h = tt
-all_rest P (x ∷ xs) zero h = (h 0 x (omega arith) (omega arith), all_rest P xs zero (λ k d low high. h (suc k) d (omega arith) (omega arith)))
-all_rest P (x ∷ xs) (suc n) h = all_rest P xs n (λ k d low high. h (suc k) d (omega arith) (omega arith))
-
--- what is kept where all pass, or none
-pub filter_all : {X : Type 0} (p : X → Bool) (xs : List X) → AllByRecursion (λ x. p x ≡ true) xs → filter p xs ≡ xs
-filter_all p [] h = refl
-filter_all {X} p (x ∷ xs) h = filter_yes p x xs h.0 ∙ ap (λ (l : List X). x ∷ l) (filter_all p xs h.1)
-
-pub filter_none : {X : Type 0} (p : X → Bool) (xs : List X) → AllByRecursion (λ x. p x ≡ false) xs → filter p xs ≡ []
-filter_none p [] h = refl
-filter_none p (x ∷ xs) h = filter_no p x xs h.0 ∙ filter_none p xs h.1
 
 pub append_none : {X : Type 0} (xs : List X) → xs ++ [] ≡ xs
 append_none [] = refl

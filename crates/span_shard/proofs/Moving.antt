@@ -14,8 +14,8 @@ use Rattle.span_keyindex.specs.Items.{holders}
 use Rattle.span_keyindex.proofs.Counting.{one_same}
 use Rattle.span_keyindex.proofs.Keeping.{chain_same, same_after, same-kept}
 use Rattle.span_keyindex.proofs.Linking.{held_append}
+use Rattle.span_maderows.proofs.Lists.{all_map, all_append}
 use Rattle.span_shard.specs.Stored.{versions_count, HasRoom, HaveVersions, HasSameKeys, AreMoved}
-use Rattle.span_shard.proofs.Lists.{all_map, all_append}
 use Rattle.span_shard.proofs.Seeing.{chains_left, first_chain}
 use Rattle.span_shard.proofs.Cutting.{IsNextKey, next_key}
 

@@ -11,6 +11,8 @@ use Rattle.std.proofs.lemmas.Map.Lookups.{exact_bytes}
 use Rattle.span_keycode.specs.Order.{byte_order}
 use Rattle.span_arena.specs.Content.{Content}
 use Rattle.span_keyindex.specs.Entries.{Entry, IsRising, entries_from}
+use Rattle.span_maderows.proofs.Bytes.{bytes_total}
+use Rattle.span_maderows.proofs.Lists.{all_map}
 use Rattle.span_shard.specs.declared.node.PreparedNode.{PreparedNode}
 use Rattle.span_shard.specs.declared.lookups.EmptyRange.{EmptyRange}
 use Rattle.span_shard.specs.KeyVersions.{KeyVersions}
@@ -18,8 +20,6 @@ use Rattle.span_shard.specs.EmptyRanges.{is_before_end, is_from_to, is_in_empty,
 use Rattle.span_shard.specs.Shard.{is_key, row_now, versions_of, end_of_time}
 use Rattle.span_shard.specs.Stored.{kept_entry, all_kept}
 use Rattle.span_shard.specs.Versions.{row_at}
-use Rattle.span_shard.proofs.Bytes.{bytes_total}
-use Rattle.span_shard.proofs.Lists.{all_map}
 
 -- keys of which one passes a test and the other does not are not the same
 apart : (t : List ℕ → Bool) (k l : List ℕ) → t k ≡ true → t l ≡ false → is_eq (byte_order k l) ≡ false

@@ -31,9 +31,11 @@ use Rattle.span_mutate.proofs.Families.{number_here, parent_family}
 use Rattle.span_mutate.proofs.Filters.{filter_yes, filter_no}
 use Rattle.span_mutate.proofs.Orders.{rows_equal, rows_total}
 use Rattle.span_mutate.proofs.Placing.{put, put_kept, put_lost}
-use Rattle.span_shard.specs.Rows.{begins_with, code_of, is_coded, row_coded}
-use Rattle.span_shard.proofs.Lists.{all_map, all_both, any_none}
-use Rattle.span_shard.proofs.Bytes.{same_bytes, bytes_same}
+use Rattle.span_maderows.specs.Made.{begins_with}
+use Rattle.span_maderows.proofs.Lists.{all_map}
+use Rattle.span_maderows.proofs.Bytes.{same_bytes, bytes_same}
+use Rattle.span_shard.specs.Rows.{code_of, is_coded, row_coded}
+use Rattle.span_shard.proofs.Lists.{all_both, any_none}
 use Rattle.span_shard.proofs.Touching.{same_truth}
 use Rattle.span_shard.proofs.Databases.{one_code, keyed_equal, own_row, row_there, find_kept, find_lost}
 use Rattle.span_shard.proofs.Under.{begins_under, under_code, blocks_code}

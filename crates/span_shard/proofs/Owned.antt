@@ -11,12 +11,13 @@ use Rattle.span_keyindex.specs.Arenas.{HasSameChains}
 use Rattle.span_keyindex.specs.Indexes.{entries_of}
 use Rattle.span_keyindex.specs.declared.index.KeyIndex.{KeyIndex}
 use Rattle.span_keyindex.proofs.Keeping.{chain_same}
+use Rattle.span_maderows.proofs.Lists.{all_map, all_append}
 use Rattle.span_shard.specs.declared.chain.Version.{Version}
 use Rattle.span_shard.specs.declared.chain.PreparedWrite.{PreparedWrite}
 use Rattle.span_shard.specs.declared.node.PreparedNode.{PreparedNode}
 use Rattle.span_shard.specs.KeyVersions.{KeyVersions}
 use Rattle.span_shard.specs.Stored.{is_for, image_of, write_of, write_for, count_for, IsNodeOf, AreOwned, IsStored, IsKept}
-use Rattle.span_shard.proofs.Lists.{all_map, all_append, all_both}
+use Rattle.span_shard.proofs.Lists.{all_both}
 
 pub all_front_of : {X : Type 0} (P : X → Type 0) (xs ys : List X) → AllByRecursion P (xs ++ ys) → AllByRecursion P xs
 all_front_of P [] ys h = tt

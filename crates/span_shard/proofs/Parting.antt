@@ -20,6 +20,7 @@ use Rattle.span_keyindex.proofs.Keeping.{chain_same, same-equal}
 use Rattle.span_keyindex.proofs.Linking.{held_append}
 use Rattle.span_keyindex.proofs.Owning.{index_stays}
 use Rattle.span_keyindex.proofs.Rising.{cut_from}
+use Rattle.span_maderows.proofs.Lists.{all_map, all_append, all_filter_itself, filter-map}
 use Rattle.span_shard.specs.declared.chain.Version.{Version}
 use Rattle.span_shard.specs.declared.chain.PreparedWrite.{PreparedWrite}
 use Rattle.span_shard.specs.declared.node.PreparedNode.{PreparedNode}
@@ -28,9 +29,8 @@ use Rattle.span_shard.specs.Versions.{is_empty, is_used}
 use Rattle.span_mutate.proofs.Placing.{all_filter, rising_filter}
 use Rattle.span_shard.specs.Shard.{keys_cmp, AreInOrder, IsIdle, IsInUse, keys_before, keys_from}
 use Rattle.span_shard.specs.Stored.{version_of, chain_versions, write_for, kept_entry, all_kept, IsNodeOf, AreOwned, IsKept, HasRoom, HaveVersions, HasSameKeys, AreMoved}
-use Rattle.span_shard.proofs.Lists.{all_map, all_append, all_whole, all_filter_itself}
+use Rattle.span_shard.proofs.Lists.{all_whole}
 use Rattle.span_shard.proofs.Owned.{write-same}
-use Rattle.span_shard.proofs.Unused.{filter-map}
 
 abbrev key_with : List ℕ → List Version → Option PreparedWrite → KeyVersions
 key_with key vs p = record { key = key; versions = vs; prepared = p }

@@ -11,10 +11,10 @@ use Rattle.span_arena.proofs.Counts.{sum-set, sum-push}
 use Rattle.span_arena.proofs.Keeping.{with_at-other, chain_stays, prepared_now}
 use Rattle.span_keyindex.proofs.Keeping.{same-equal, chain_same}
 use Rattle.span_mutate.proofs.Runs.{item_first}
+use Rattle.span_maderows.proofs.Lists.{all_map, all_append}
 use Rattle.span_shard.specs.declared.chain.PreparedWrite.{PreparedWrite}
 use Rattle.span_shard.specs.declared.node.PreparedNode.{PreparedNode}
 use Rattle.span_shard.specs.Stored.{is_for, image_of, write_for, count_for, IsNodeOf, AreOwned, HasPrepared, IsPlaceFor}
-use Rattle.span_shard.proofs.Lists.{all_map, all_append}
 use Rattle.span_shard.proofs.Owned.{all_front_of, all_back_of, count-append, one_of, count-middle, in_range-some, write-skip, write-here, write-same, owned_without, write_elsewhere}
 
 -- a sum with a node where nothing was prepared

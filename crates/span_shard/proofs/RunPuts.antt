@@ -9,7 +9,7 @@ use Rattle.span_value.specs.declared.refusal.Refusal.TheVariants.{OutOfMemory, E
 use Rattle.span_value.specs.Results.{first_cause}
 use Rattle.span_schema.specs.declared.table.Table.{Table}
 use Rattle.span_schema.specs.Lineages.{MeetsRules}
-use Rattle.span_schema.specs.Numbers.{key_columns, other_kinds, parent_of}
+use Rattle.span_schema.specs.Numbers.{key_columns, other_kinds, parent_of, root_of}
 use Rattle.span_keycode.specs.Keys.{key_code, IsKey}
 use Rattle.span_rowcode.specs.Rows.{AreCells, IsRow, row_code}
 use Rattle.span_rowcode.specs.Limits.{longest_row}
@@ -22,23 +22,23 @@ use Rattle.span_mutate.specs.Columns.{is_delete}
 use Rattle.span_mutate.specs.Checking.{unless}
 use Rattle.span_mutate.specs.Rows.{row_at, with_row}
 use Rattle.span_mutate.specs.Database.{is_insert, is_update, lacks_parent, is_delete_blocked, merge_cells, cells_of, cells_after, row_after, changed, without_rows, apply_one}
-use Rattle.span_mutate.specs.Directories.{IsDatabase}
+use Rattle.span_mutate.specs.Directories.{IsDatabase, key_len}
 use Rattle.span_mutate.specs.Faults.{is_mutation_fault}
 use Rattle.span_mutate.specs.Typed.{IsTyped, AreTyped, IsTypedMutation}
 use Rattle.span_mutate.proofs.TypedRows.{IsTypedOf, found_typed, over_none, over_typed}
+use Rattle.span_maderows.specs.Made.{begins_with}
+use Rattle.span_maderows.proofs.Bytes.{same_bytes, bytes_same, begins_front, front_begins}
 use Rattle.span_shard.specs.KeyVersions.{KeyVersions}
-use Rattle.span_shard.specs.Rows.{begins_with, row_coded, root_code}
+use Rattle.span_shard.specs.Rows.{row_coded, root_code}
 use Rattle.span_shard.specs.Shard.{row_now}
-use Rattle.span_shard.specs.Overlay.{Changes, changed_at, row_over, is_same, own_code, row_before, lacks_parent_over, put_cause, cause_over, AreCellsOf, IsUnpacked, IsPutRow, IsPutFault, IsNoPut, IsOver, HasDirectory, IsTableRow, AreTableRows, IsRunOf}
-use Rattle.span_schema.specs.Numbers.{root_of}
-use Rattle.span_mutate.specs.Directories.{key_len}
+use Rattle.span_keycode.specs.Order.{is_same}
+use Rattle.span_shard.specs.Overlay.{Changes, changed_at, row_over, own_code, row_before, lacks_parent_over, put_cause, cause_over, AreCellsOf, IsUnpacked, IsPutRow, IsPutFault, IsNoPut, IsOver, HasDirectory, IsTableRow, AreTableRows, IsRunOf}
 use Rattle.span_mutate.proofs.Begins.{number_itself, front_of_taken, taken_begins}
 use Rattle.std.proofs.lemmas.Bool.{and_from}
 use Rattle.span_mutate.proofs.ByRoots.{in_own}
 use Rattle.span_mutate.proofs.Families.{parent_family, root_short}
 use Rattle.span_mutate.proofs.NamedKinds.{rest_none}
 use Rattle.span_mutate.proofs.Keyed.{first_none}
-use Rattle.span_shard.proofs.Bytes.{same_bytes, bytes_same, begins_front, front_begins}
 use Rattle.span_shard.proofs.Touching.{touched_by}
 use Rattle.span_shard.proofs.OverRows.{cells, row_at_code, put_there, put_elsewhere, parent_key}
 

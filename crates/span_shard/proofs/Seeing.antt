@@ -7,15 +7,15 @@ use Rattle.span_arena.specs.declared.version.Version as arena
 use Rattle.span_arena.specs.Content.{Content, newest_upto, IsChain}
 use Rattle.span_keyindex.specs.Entries.{entries_in, entries_under, Entry}
 use Rattle.span_keyindex.specs.Walks.{without_long}
+use Rattle.span_maderows.specs.Made.{begins_with}
+use Rattle.span_maderows.proofs.Lists.{filter-map}
 use Rattle.span_shard.specs.declared.chain.Version.{Version}
 use Rattle.span_shard.specs.declared.node.PreparedNode.{PreparedNode}
 use Rattle.span_shard.specs.KeyVersions.{KeyVersions}
 use Rattle.span_shard.specs.Versions.{newest_at, row_at}
-use Rattle.span_shard.specs.Rows.{begins_with}
 use Rattle.span_shard.specs.Shard.{KeyRow, is_within, seen_at, snapshot}
 use Rattle.span_shard.specs.Stored.{version_of, chain_versions, kept_entry, all_kept}
 use Rattle.span_shard.specs.Reading.{versions_alone, versions_alone_at, seen_entry, has_short_key, short_rows}
-use Rattle.span_shard.proofs.Unused.{filter-map}
 
 pub row_found : (vs : List arena.Version) (s : ℕ) (v : arena.Version) → newest_upto s vs ≡ Some v → row_at (map version_of vs) s ≡ v.image
 row_found [] s v e = absurd (let f : None ≡ Some v = e in cc)

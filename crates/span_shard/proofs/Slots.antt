@@ -24,14 +24,15 @@ use Rattle.span_keyindex.proofs.Holders.{holders-append, one_here, one_of, chain
 use Rattle.span_keyindex.proofs.Rising.{turned}
 use Rattle.span_mutate.specs.Directories.{IsRising}
 use Rattle.span_mutate.proofs.Placing.{greater_is}
+use Rattle.span_maderows.proofs.Bytes.{bytes_total}
+use Rattle.span_maderows.proofs.Lists.{all_map, all_filter_itself, filter_all}
 use Rattle.span_shard.specs.declared.node.PreparedNode.{PreparedNode}
 use Rattle.span_shard.specs.declared.write.Write.{Write}
 use Rattle.span_shard.specs.KeyVersions.{KeyVersions}
 use Rattle.span_shard.specs.Versions.{is_used, with_prepared}
 use Rattle.span_shard.specs.Shard.{keys_cmp, AreInOrder, IsInUse, is_key, prepared_of, prepared_at, by_order, new_key, prepared_write, with_write}
 use Rattle.span_shard.specs.Stored.{version_of, chain_versions, write_for, kept, kept_entry, all_kept, IsNodeOf, AreOwned, HasPrepared, count_for}
-use Rattle.span_shard.proofs.Bytes.{bytes_total}
-use Rattle.span_shard.proofs.Lists.{all_map, all_filter_itself, all_whole, filter_all}
+use Rattle.span_shard.proofs.Lists.{all_whole}
 use Rattle.span_shard.proofs.Owned.{all_back_of, write-none, write-same, made, kept_equal, zero_for}
 use Rattle.span_shard.proofs.Unused.{map_alike, keys_used, owned_used}
 

@@ -24,8 +24,9 @@ use Rattle.span_mutate.specs.Typed.{AreTypedMutations}
 use Rattle.span_mutate.proofs.Begins.{same_number, number_itself, same_key, front_of_taken, front_within, taken_begins}
 use Rattle.std.proofs.lemmas.Bool.{and_from, and_parts}
 use Rattle.span_mutate.proofs.ByRoots.{root_keyed}
-use Rattle.span_shard.specs.Rows.{begins_with, root_code, is_touched}
-use Rattle.span_shard.proofs.Bytes.{begins_front, front_begins}
+use Rattle.span_maderows.specs.Made.{begins_with}
+use Rattle.span_maderows.proofs.Bytes.{begins_front, front_begins}
+use Rattle.span_shard.specs.Rows.{root_code, is_touched}
 
 -- the key of the root row of a key, and its table
 pub record RootOf (tables : List Table) (n : ℕ) (vs : List Value) : Type 0 where

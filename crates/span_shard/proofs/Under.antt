@@ -21,8 +21,9 @@ use Rattle.span_mutate.proofs.Begins.{same_number, number_itself, taken_begins}
 use Rattle.std.proofs.lemmas.Bool.{and_from, or_left, or_right, and_parts}
 use Rattle.span_mutate.proofs.Parents.{in_range}
 use Rattle.span_mutate.proofs.Filters.{filter_yes, filter_no}
-use Rattle.span_shard.specs.Rows.{begins_with, code_of}
-use Rattle.span_shard.proofs.Bytes.{begins_front, front_begins}
+use Rattle.span_maderows.specs.Made.{begins_with}
+use Rattle.span_maderows.proofs.Bytes.{begins_front, front_begins}
+use Rattle.span_shard.specs.Rows.{code_of}
 use Rattle.span_shard.proofs.Touching.{same_truth, front_taken}
 
 or_cases : {A : Type 0} (a b : Bool) → (a || b) ≡ true → (a ≡ true → A) → (b ≡ true → A) → A

@@ -6,6 +6,7 @@ use Rattle.std.specs.declared.cmp.Ordering.TheVariants.{Less, Equal, Greater}
 use Rattle.std.proofs.lemmas.Bool.Decides.{nat_tests}
 use Rattle.std.proofs.lemmas.Map.Lookups.{exact_bytes}
 use Rattle.span_schema.specs.declared.table.Table.{Table}
+use Rattle.span_maderows.proofs.Lists.{all_map}
 use Rattle.span_shard.specs.declared.chain.PreparedWrite.{PreparedWrite}
 use Rattle.span_mutate.specs.declared.mutation.CheckedMutation.{CheckedMutation}
 use Rattle.span_shard.specs.declared.write.Write.{Write}
@@ -13,7 +14,6 @@ use Rattle.span_shard.specs.Rows.{is_touched}
 use Rattle.span_shard.specs.KeyVersions.{KeyVersions}
 use Rattle.span_shard.specs.Versions.{is_empty, is_used, with_prepared, with_version, applied_write, applied_to_key}
 use Rattle.span_shard.specs.Shard.{by_order, with_write, with_writes, new_key, prepared_write, applied, IsInUse, IsNotOf, HasNoneOf, HasSomeOf, IsFree}
-use Rattle.span_shard.proofs.Lists.{all_map}
 use Rattle.span_shard.proofs.Owned.{all_back_of}
 
 same_number : (n : ℕ) → (n == n) ≡ true

@@ -8,10 +8,11 @@ use Rattle.span_arena.specs.Content.{Content, Prepared, versions, versions_in, p
 use Rattle.span_arena.proofs.Counts.{one_for-at, one_for-same}
 use Rattle.span_keyindex.specs.Arenas.{in_use, IsWithoutUnused}
 use Rattle.span_keyindex.specs.Entries.{Entry}
+use Rattle.span_maderows.proofs.Lists.{all_map, all_filter_itself}
 use Rattle.span_shard.specs.declared.node.PreparedNode.{PreparedNode}
 use Rattle.span_shard.specs.Versions.{is_empty, is_used}
 use Rattle.span_shard.specs.Stored.{version_of, chain_versions, is_for, write_of, write_for, kept, kept_entry, all_kept, count_for, IsNodeOf, AreOwned}
-use Rattle.span_shard.proofs.Lists.{all_map, all_filter_itself, all_whole}
+use Rattle.span_shard.proofs.Lists.{all_whole}
 use Rattle.span_shard.proofs.Owned.{write-same, kept_equal}
 
 -- lists with equal results of a function
@@ -22,14 +23,6 @@ map_alike {X} {Y} f g (x ∷ xs) h = ap (λ (y : Y). y ∷ map f xs) h.0 ∙ ap 
 pub filter_alike : {X : Type 0} (p q : X → Bool) (xs : List X) → ((x : X) → p x ≡ q x) → filter p xs ≡ filter q xs
 filter_alike p q [] h = refl
 filter_alike {X} p q (x ∷ xs) h = ap (λ b. cond b (x ∷ filter p xs) (filter p xs)) (h x) ∙ ap (λ (l : List X). cond (q x) (x ∷ l) l) (filter_alike p q xs h)
-
-pub filter-map : {X Y : Type 0} (q : Y → Bool) (f : X → Y) (xs : List X) → filter q (map f xs) ≡ map f (filter (λ x. q (f x)) xs)
-filter-map q f [] = refl
-filter-map {X} {Y} q f (x ∷ xs) = ap (λ (l : List Y). cond (q (f x)) (f x ∷ l) l) (filter-map q f xs) ∙ out (q (f x))
-  where
-    out : (b : Bool) → cond b (f x ∷ map f (filter (λ x. q (f x)) xs)) (map f (filter (λ x. q (f x)) xs)) ≡ map f (cond b (x ∷ filter (λ x. q (f x)) xs) (filter (λ x. q (f x)) xs))
-    out true = refl
-    out false = refl
 
 nothing_for : (a : Content) (c : ℕ) (ps : List PreparedNode) → nat_eq (count_for c ps) 0 ≡ not (is_some (write_for a ps c))
 nothing_for a c [] = refl

@@ -6,7 +6,5 @@ pub mod Rows
 pub mod Shard
 pub mod Reading
 pub mod Overlay
-pub mod Made
-pub mod Hashes
 pub mod EmptyRanges
 pub mod Ledgers

@@ -1,17 +1,14 @@
 -- The rows at keys as mutations leave them, over those that are there now.
-use Rattle.std.specs.Prelude.{◌≡◌, ◌⊎◌, ℕ, ◌≤◌, Bool, true, false, if◌then◌else◌, ◌&&◌, ◌||◌, List, [], ◌∷◌, ◌++◌, length, find, take, is_some, is_none, not, nat_lt, Option, Some, None, Ok, Err}
+use Rattle.std.specs.Prelude.{◌≡◌, ◌⊎◌, ℕ, ◌≤◌, Bool, true, false, if◌then◌else◌, ◌&&◌, ◌||◌, List, [], ◌∷◌, length, find, take, is_some, is_none, not, nat_lt, Option, Some, None, Ok, Err}
 use Rattle.std.specs.List.{list_any, AllByRecursion}
 use Rattle.std.specs.Option.{unwrap_or}
-use Rattle.std.specs.Ordering.{eq_by_cmp}
-use Rattle.std.specs.BTreeMap.{is_at}
-use Rattle.std.specs.Map.{lookup}
 use Rattle.span_value.specs.declared.value.Value.{Value}
 use Rattle.span_value.specs.declared.refusal.Refusal.{Refusal}
 use Rattle.span_value.specs.declared.refusal.Refusal.TheVariants.{OutOfMemory, Exists, Missing, ParentMissing, HasChildren, RowTooLong, BadKey, BadRow}
 use Rattle.span_value.specs.Results.{first_cause}
 use Rattle.span_schema.specs.declared.table.Table.{Table}
 use Rattle.span_schema.specs.Numbers.{key_columns, other_kinds, parent_of}
-use Rattle.span_keycode.specs.Order.{byte_order}
+use Rattle.span_keycode.specs.Order.{is_same}
 use Rattle.span_keycode.specs.Keys.{key_code, IsCodedKey}
 use Rattle.span_keycode.specs.Reads.{IsNoKey}
 use Rattle.span_rowcode.specs.Rows.{IsRow, IsNoRow, row_code}
@@ -22,9 +19,10 @@ use Rattle.span_mutate.specs.Database.{is_insert, is_update, merge_cells, blocks
 use Rattle.span_mutate.specs.Directories.{IsDatabase}
 use Rattle.span_mutate.specs.Faults.{is_mutation_fault}
 use Rattle.span_mutate.specs.Typed.{IsTyped, AreTyped}
+use Rattle.span_maderows.specs.Made.{begins_with, made_at}
 use Rattle.span_shard.specs.declared.write.Write.{Write}
 use Rattle.span_shard.specs.KeyVersions.{KeyVersions}
-use Rattle.span_shard.specs.Rows.{begins_with, code_of, row_coded, root_code, is_touched}
+use Rattle.span_shard.specs.Rows.{code_of, row_coded, root_code, is_touched}
 use Rattle.span_shard.specs.Shard.{row_now, IsNow}
 use Rattle.span_shard.specs.Writes.{is_of}
 use Rattle.span_shard.specs.Reading.{row_of, is_same_row, is_prepare_refusal, AreUnreadable}
@@ -38,13 +36,6 @@ pub record Changes : Type 0 where
 
 abbrev pub no_change : Changes
 no_change = record { made = []; removed = []; cleared = [] }
-
-abbrev pub is_same : List ℕ → List ℕ → Bool
-is_same k l = eq_by_cmp byte_order k l
-
--- the row that mutations made at a key
-abbrev pub made_at : List (List ℕ × List ℕ) → List ℕ → Option (List ℕ)
-made_at made k = lookup (is_at (byte_order k)) made
 
 -- what is left at a key by the row that was made there, and whether one was removed
 abbrev pub change_of : Option (List ℕ) → Bool → Option (Option (List ℕ))
@@ -99,19 +90,6 @@ pub record AreUnchangedUnder (cs : List KeyVersions) (es : Changes) (front : Lis
   pub sound : AllByRecursion (λ (k : List ℕ). (begins_with k front ≡ true) × (is_some (row_over cs es k) ≡ true)) ks
   pub complete : (k : List ℕ) → begins_with k front ≡ true → changed_at es k ≡ None → is_some (row_now cs k) ≡ true
       → list_any (is_same k) ks ≡ true
-
--- keys that begin with these bytes, at which mutations made a row
-pub record AreMadeUnder (made : List (List ℕ × List ℕ)) (front : List ℕ) (ks : List (List ℕ)) : Type 0 where
-  pub sound : AllByRecursion
-      (λ (k : List ℕ). (begins_with k front ≡ true) × ((row : List ℕ) × (made_at made k ≡ Some row))) ks
-  pub complete : (k row : List ℕ) → begins_with k front ≡ true → made_at made k ≡ Some row
-      → list_any (is_same k) ks ≡ true
-
--- ... added to these keys
-pub record AddsMade (made : List (List ℕ × List ℕ)) (front : List ℕ) (old new : List (List ℕ)) : Type 0 where
-  pub added : List (List ℕ)
-  pub whole : new ≡ old ++ added
-  pub are : AreMadeUnder made front added
 
 -- it is a key of a table whose rows stay where a row of table n above them is to be deleted
 abbrev pub BlocksDelete : List Table → ℕ → Bool → List ℕ → Type 0

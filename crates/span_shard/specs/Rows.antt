@@ -1,6 +1,6 @@
 -- How the rows of a database are kept in a shard: packed, under their coded keys.
-use Rattle.std.specs.Prelude.{ℕ, Bool, List, find, Option, nat_eq}
-use Rattle.std.specs.List.{list_any, starts_with}
+use Rattle.std.specs.Prelude.{ℕ, Bool, List, find, Option}
+use Rattle.std.specs.List.{list_any}
 use Rattle.std.specs.Option.{option_map}
 use Rattle.std.specs.Ordering.{eq_by_cmp}
 use Rattle.span_schema.specs.declared.table.Table.{Table}
@@ -10,12 +10,9 @@ use Rattle.span_rowcode.specs.Rows.{row_code}
 use Rattle.span_mutate.specs.declared.mutation.CheckedMutation.{CheckedMutation}
 use Rattle.span_mutate.specs.declared.row.TableRow.{TableRow}
 use Rattle.span_mutate.specs.Directories.{root_row}
+use Rattle.span_maderows.specs.Made.{begins_with}
 use Rattle.span_shard.specs.declared.write.Write.{Write}
 use Rattle.span_shard.specs.Writes.{IsWrite, is_of}
-
--- bytes begin with others
-abbrev pub begins_with : List ℕ → List ℕ → Bool
-begins_with bytes front = starts_with nat_eq bytes front
 
 -- the coding of a row's key
 abbrev pub code_of : List Table → TableRow → List ℕ

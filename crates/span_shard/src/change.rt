@@ -3,9 +3,10 @@ ghost use Rattle.std.specs.Prelude.{◌≡◌, ◌&&◌, [], not, is_some, IfOk,
 ghost use Rattle.std.specs.List.{find};
 ghost use Rattle.std.specs.Option.{option_copied};
 ghost use Rattle.span_mutate.specs.Typed.{AreTypedMutations};
+ghost use Rattle.span_maderows.specs.Made.{made_at};
 ghost use Rattle.span_shard.specs.Shard.{AreInOrder, row_now};
 ghost use Rattle.span_shard.specs.Reading.{is_same_row, AreWrites, IsFault, IsPrepareRefusal};
-ghost use Rattle.span_shard.specs.Overlay.{made_at, changes_of, AreWrittenFrom, AreWritesAt};
+ghost use Rattle.span_shard.specs.Overlay.{changes_of, AreWrittenFrom, AreWritesAt};
 
 use super::lookups::Lookups;
 use super::made::MadeRows;

@@ -2,9 +2,9 @@
 ghost use Rattle.std.specs.Prelude.{◌≡◌, ◌++◌, IfOk, OnOk, map, filter};
 ghost use Rattle.std.specs.Option.{option_copied};
 ghost use Rattle.span_mutate.specs.Typed.{AreTypedMutations, IsTypedMutation};
+ghost use Rattle.span_maderows.specs.Made.{begins_with};
 ghost use Rattle.span_shard.specs.EmptyRanges.{HasNoRowFrom, is_before_end, is_from_to, is_in_empty, is_in_range};
 ghost use Rattle.span_shard.specs.Reading.{versions_alone};
-ghost use Rattle.span_shard.specs.Rows.{begins_with};
 ghost use Rattle.span_shard.specs.Shard.{AreInOrder, row_now};
 
 use super::place::{StoredKey, near_keys, push_beginning, row_near, row_now};

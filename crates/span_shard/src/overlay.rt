@@ -1,8 +1,9 @@
 //! The rows at keys as mutations leave them, over those that are there now.
 ghost use Rattle.std.specs.Prelude.{◌≡◌, map, filter, is_none, is_some, IfOk, OnOk};
 ghost use Rattle.std.specs.Option.{option_copied};
+ghost use Rattle.span_maderows.specs.Made.{made_at};
 ghost use Rattle.span_shard.specs.Shard.{AreInOrder};
-ghost use Rattle.span_shard.specs.Overlay.{no_change, changed_at, made_at, row_over, row_under, is_unchanged, AreCleared, HasSameCleared, AddsCleared, AreUnder, AreUnchangedUnder, IsPutAt, AreRemoved};
+ghost use Rattle.span_shard.specs.Overlay.{no_change, changed_at, row_over, row_under, is_unchanged, AreCleared, HasSameCleared, AddsCleared, AreUnder, AreUnchangedUnder, IsPutAt, AreRemoved};
 
 use super::lookups::Lookups;
 use super::made::MadeRows;

@@ -2,7 +2,7 @@
 ghost use Rattle.std.specs.Prelude.{◌≡◌, ◌++◌, All, OnOk, map, filter};
 ghost use Rattle.std.specs.Option.{option_copied};
 ghost use Rattle.span_arena.specs.Content.{IsChain};
-ghost use Rattle.span_shard.specs.Rows.{begins_with};
+ghost use Rattle.span_maderows.specs.Made.{begins_with};
 ghost use Rattle.span_shard.specs.Shard.{AreInOrder, row_now};
 ghost use Rattle.span_shard.specs.Versions.{row_at};
 ghost use Rattle.span_shard.specs.Stored.{chain_versions};

@@ -1,5 +1,5 @@
 //! Mutations one after another, on the rows at the keys that they touch.
-ghost use Rattle.std.specs.Prelude.{◌≡◌, ◌⊎◌, ◌≤◌, ◌<◌, ◌&&◌, not, take, length, is_some, true, false, IfOk, IfErr, IfSome, IsTrue, OnOk, MatchResult};
+ghost use Rattle.std.specs.Prelude.{◌≡◌, ◌⊎◌, ◌≤◌, ◌<◌, ◌&&◌, not, length, is_some, true, false, IfOk, IfErr, IfSome, IsTrue, OnOk, MatchResult};
 ghost use Rattle.std.specs.Option.{option_copied};
 ghost use Rattle.span_schema.specs.Numbers.{IsTable, parent_of};
 ghost use Rattle.span_rowcode.specs.Rows.{row_code};
@@ -7,8 +7,9 @@ ghost use Rattle.span_rowcode.specs.Limits.{longest_row};
 ghost use Rattle.span_mutate.specs.Columns.{is_delete};
 ghost use Rattle.span_mutate.specs.Database.{is_insert, is_update, merge_cells};
 ghost use Rattle.span_mutate.specs.Typed.{IsTypedMutation, AreTypedMutations};
+ghost use Rattle.span_maderows.specs.Made.{made_at};
 ghost use Rattle.span_shard.specs.Shard.{AreInOrder};
-ghost use Rattle.span_shard.specs.Overlay.{lacks_parent_over, made_at, own_code, HasFront, HasParent, HasPutRow, HasSameCleared, IsAddedAt, IsRowAlone, AreCellsOf, IsUnpacked, IsBlocked, HasNoKey, IsPutRow, IsNoPut, row_over, AreCleared, AreUnder, HasDeleted, IsNoDelete, AreTableRows, IsRunOf, IsRunFault, AreRunsOf};
+ghost use Rattle.span_shard.specs.Overlay.{lacks_parent_over, own_code, HasFront, HasParent, HasPutRow, HasSameCleared, IsAddedAt, IsRowAlone, AreCellsOf, IsUnpacked, IsBlocked, HasNoKey, IsPutRow, IsNoPut, row_over, AreCleared, AreUnder, HasDeleted, IsNoDelete, AreTableRows, IsRunOf, IsRunFault, AreRunsOf};
 ghost use Rattle.span_shard.specs.Reading.{IsFault, IsPrepareRefusal};
 
 use super::ahead::Ahead;
@@ -20,19 +21,13 @@ use span_keycode::encode::encode_key;
 use span_keycode::key::Key;
 use span_mutate::mutation::{CheckedMutation, MutationKind, is_delete};
 use span_mutate::root::blocks_delete;
+use span_mutate::row::first_values;
 use span_rowcode::unpack::unpack;
 use span_schema::schema::Schema;
 use span_value::refusal::Refusal;
 use span_value::seq::Seq;
 use span_value::value::Value;
 use std::alloc::Global;
-
-// The first `len` values, or all where there are fewer.
-fn first_values(values: &[Value], len: usize) -> &[Value]
-    ensures { result.now ≡ take len values.now }
-{
-    &values[..len.min(values.len())]
-}
 
 // Whether two lists have the same values.
 fn are_same(left: &[Value], right: &[Value]) -> bool

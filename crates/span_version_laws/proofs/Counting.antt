@@ -12,12 +12,13 @@ use Rattle.std.proofs.lemmas.List.Folds.{list_any-append}
 use Rattle.std.proofs.lemmas.List.Sums.{sum_by-cons}
 use Rattle.std.proofs.lemmas.Slice.Eq.{bytes_eq-Decides}
 use Rattle.span_keycode.specs.Order.{byte_order}
+use Rattle.span_maderows.proofs.Bytes.{same_bytes, bytes_same}
+use Rattle.span_maderows.proofs.Lists.{all_map, all_filter_itself}
 use Rattle.span_shard.specs.declared.chain.Version.{Version}
 use Rattle.span_shard.specs.KeyVersions.{KeyVersions}
 use Rattle.span_shard.specs.Versions.{kept_version, kept_upto}
 use Rattle.span_shard.specs.Shard.{AreInOrder, is_key}
-use Rattle.span_shard.proofs.Bytes.{same_bytes, bytes_same}
-use Rattle.span_shard.proofs.Lists.{all_map, all_whole, all_filter_itself}
+use Rattle.span_shard.proofs.Lists.{all_whole}
 use Rattle.span_machine_laws.proofs.Lists.{filter_swap}
 use Rattle.span_machine_laws.proofs.Tests.{first_true}
 use Rattle.span_machine.specs.Kept.{Change, hides, is_kept, kept}

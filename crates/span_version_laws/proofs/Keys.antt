@@ -3,6 +3,7 @@ use Rattle.std.specs.Prelude.{find, filter, map, option_map}
 use Rattle.std.specs.List.{AllByRecursion}
 use Rattle.std.specs.Ordering.{eq_by_cmp, is_eq}
 use Rattle.std.specs.declared.cmp.Ordering.TheVariants.{Less, Equal, Greater}
+use Rattle.span_maderows.proofs.Bytes.{bytes_total, same_bytes}
 use Rattle.span_shard.specs.declared.chain.Version.{Version}
 use Rattle.span_shard.specs.declared.chain.PreparedWrite.{PreparedWrite}
 use Rattle.span_shard.specs.declared.write.Write.{Write}
@@ -13,7 +14,6 @@ use Rattle.span_shard.specs.Shard.{AreInOrder, is_key, versions_of, prepared_of,
 use Rattle.span_machine_laws.proofs.Lists.{all_found, all_weaker}
 use Rattle.std.specs.Cmp.{eq_by_cmp_equiv}
 use Rattle.span_keycode.specs.Order.{byte_order}
-use Rattle.span_shard.proofs.Bytes.{bytes_total, same_bytes}
 use Rattle.span_shard.proofs.InOrder.{in_order_with_writes, key_stays}
 use Rattle.span_shard.proofs.Undo.{equal_key}
 use Rattle.span_keyindex.proofs.Rising.{turned}

@@ -5,11 +5,12 @@ use Rattle.span_schema.specs.declared.table.Table.{Table}
 use Rattle.span_schema.specs.Lineages.{MeetsRules}
 use Rattle.span_mutate.specs.Directories.{Root}
 use Rattle.span_mutate.proofs.Placing.{rising_filter}
+use Rattle.span_maderows.proofs.Bytes.{same_bytes}
+use Rattle.span_maderows.proofs.Lists.{all_filter_itself}
 use Rattle.span_shard.specs.declared.chain.Version.{Version}
 use Rattle.span_shard.specs.declared.chain.PreparedWrite.{PreparedWrite}
 use Rattle.span_shard.specs.KeyVersions.{KeyVersions}
 use Rattle.span_shard.specs.Shard.{is_key, versions_of, prepared_of, versions_at, prepared_at, keys_cmp, IsInUse}
-use Rattle.span_shard.proofs.Bytes.{same_bytes}
 use Rattle.span_machine.specs.declared.slot.SlotState.{SlotState}
 use Rattle.span_machine.specs.declared.transaction.Commit.{Commit}
 use Rattle.span_machine.specs.declared.transaction.OpenTransaction.{OpenTransaction}
@@ -17,7 +18,6 @@ use Rattle.span_machine.specs.Slots.{IsCut, root_code}
 use Rattle.span_machine.specs.Machine.{Machine, has_key, holds}
 use Rattle.span_machine_laws.proofs.Lists.{all_filtered, all_both}
 use Rattle.span_machine_laws.proofs.InPlace.{commits_at, claims}
-use Rattle.span_shard.proofs.Lists.{all_filter_itself}
 use Rattle.span_version_laws.specs.Kept.{IsCodedRoot, IsCodedCoding, IsKeptBy, AreKept}
 use Rattle.span_version_laws.proofs.Cuts.{has_under}
 use Rattle.span_version_laws.proofs.Steps.{under_prepared}

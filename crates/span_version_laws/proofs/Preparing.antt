@@ -15,16 +15,18 @@ use Rattle.span_mutate.specs.Database.{apply}
 use Rattle.span_mutate.specs.Directories.{Root, directory, IsDatabase, AreKeyed}
 use Rattle.span_mutate.specs.Typed.{AreTyped, AreTypedMutations}
 use Rattle.span_mutate.proofs.TypedRows.{typed_stay}
+use Rattle.span_maderows.specs.Made.{begins_with}
+use Rattle.span_maderows.proofs.Bytes.{bytes_same}
+use Rattle.span_maderows.proofs.Lists.{all_append}
 use Rattle.span_shard.specs.declared.chain.PreparedWrite.{PreparedWrite}
 use Rattle.span_shard.specs.declared.write.Write.{Write}
 use Rattle.span_shard.specs.KeyVersions.{KeyVersions}
-use Rattle.span_shard.specs.Rows.{begins_with, row_coded, root_code, is_touched, AreChanges}
+use Rattle.span_shard.specs.Rows.{row_coded, root_code, is_touched, AreChanges}
 use Rattle.span_shard.specs.Writes.{IsWrite, is_of}
 use Rattle.std.specs.declared.cmp.Ordering.TheVariants.{Less, Equal, Greater}
 use Rattle.span_keycode.specs.Order.{byte_order}
 use Rattle.span_shard.specs.Versions.{with_prepared}
 use Rattle.span_shard.specs.Shard.{is_key, versions_at, prepared_at, prepared_of, by_order, new_key, prepared_write, with_write, with_writes, live, IsNotOf, HasNoneOf, IsFree, IsNow}
-use Rattle.span_shard.proofs.Bytes.{bytes_same}
 use Rattle.span_shard.proofs.InOrder.{in_order_with_writes}
 use Rattle.span_shard.proofs.Undo.{used_with_writes}
 use Rattle.span_machine.specs.declared.slot.SlotState.{SlotState}
@@ -56,7 +58,6 @@ use Rattle.span_version_laws.proofs.Trimming.{not_same_of}
 use Rattle.span_version_laws.proofs.Counting.{is_at_key}
 use Rattle.span_version_laws.proofs.Changes.{change_at, change_none, changes_at_key, IsTypedDatabase, apart_of, typed_after, after_is, log_made}
 use Rattle.span_version_laws.proofs.Live.{IsOfKey, coded_between, live_by_keys, counted_changes, count_at, all_coded, counted_length}
-use Rattle.span_shard.proofs.Lists.{all_append}
 use Rattle.std.proofs.lemmas.List.{length-append}
 use Rattle.std.proofs.lemmas.List.Elements.{filter-append}
 use Rattle.span_version_laws.proofs.Rows.{row_now_of_tables, not_of_others, others_apart}

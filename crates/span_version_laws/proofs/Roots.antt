@@ -17,8 +17,9 @@ use Rattle.span_mutate.specs.Typed.{IsTyped, AreTyped, IsTypedMutation}
 use Rattle.span_mutate.proofs.Begins.{number_itself}
 use Rattle.std.proofs.lemmas.Bool.{and_from}
 use Rattle.span_mutate.proofs.Filters.{filter_yes, filter_no}
-use Rattle.span_shard.specs.Rows.{begins_with, code_of, is_coded, row_coded}
-use Rattle.span_shard.proofs.Bytes.{begins_front, front_begins, same_bytes}
+use Rattle.span_maderows.specs.Made.{begins_with}
+use Rattle.span_maderows.proofs.Bytes.{begins_front, front_begins, same_bytes}
+use Rattle.span_shard.specs.Rows.{code_of, is_coded, row_coded}
 use Rattle.span_shard.proofs.Under.{begins_more}
 use Rattle.span_machine.specs.Machine.{root_at}
 use Rattle.span_machine_laws.proofs.CodedRoots.{coded_root_of}

@@ -12,6 +12,7 @@ use Rattle.span_mutate.specs.declared.row.TableRow.{TableRow}
 use Rattle.span_mutate.specs.Database.{apply}
 use Rattle.span_mutate.specs.Directories.{Root, directory}
 use Rattle.span_mutate.specs.Typed.{AreTyped}
+use Rattle.span_maderows.proofs.Lists.{all_filter_itself}
 use Rattle.span_shard.specs.declared.chain.Version.{Version}
 use Rattle.span_shard.specs.declared.chain.PreparedWrite.{PreparedWrite}
 use Rattle.span_shard.specs.KeyVersions.{KeyVersions}
@@ -19,7 +20,6 @@ use Rattle.span_shard.specs.Rows.{row_coded}
 use Rattle.span_shard.specs.Versions.{row_at}
 use Rattle.span_shard.specs.Shard.{versions_at, prepared_at, row_now, end_of_time, IsNotOf}
 use Rattle.span_shard.proofs.Undo.{IsOpenFor}
-use Rattle.span_shard.proofs.Lists.{all_filter_itself}
 use Rattle.span_machine.specs.declared.transaction.Commit.{Commit}
 use Rattle.span_machine.specs.declared.transaction.OpenTransaction.{OpenTransaction}
 use Rattle.span_machine.specs.declared.transaction.Decision.{Decision}

@@ -21,11 +21,12 @@ use Rattle.span_mutate.specs.Directories.{Root, rows_cmp, IsRising, IsDatabase}
 use Rattle.span_mutate.specs.Typed.{IsTyped, AreTyped}
 use Rattle.span_mutate.proofs.Orders.{rows_total}
 use Rattle.span_mutate.proofs.Placing.{rising_filter}
+use Rattle.span_maderows.proofs.Bytes.{bytes_total, same_bytes, bytes_same}
+use Rattle.span_maderows.proofs.Lists.{all_filter_itself}
 use Rattle.span_shard.specs.KeyVersions.{KeyVersions}
 use Rattle.span_shard.specs.Rows.{code_of, is_coded, row_coded}
 use Rattle.span_shard.specs.Versions.{row_at}
 use Rattle.span_shard.specs.Shard.{KeyRow, AreInOrder, is_key, versions_of, versions_at, prepared_at, seen_at, is_within, snapshot}
-use Rattle.span_shard.proofs.Bytes.{bytes_total, same_bytes, bytes_same}
 use Rattle.span_machine.specs.declared.slot.SlotState.{SlotState}
 use Rattle.span_machine.specs.declared.transaction.OpenTransaction.{OpenTransaction}
 use Rattle.span_machine.specs.declared.transaction.Decision.{Decision}
@@ -47,7 +48,6 @@ use Rattle.span_version_laws.specs.Kept.{IsCodedRoot, IsCodedCoding, is_under, I
 use Rattle.span_version_laws.specs.Kept as versions
 use Rattle.span_machine.specs.declared.transaction.Commit.{Commit}
 use Rattle.span_shard.specs.declared.chain.Version.{Version}
-use Rattle.span_shard.proofs.Lists.{all_filter_itself}
 use Rattle.span_version_laws.proofs.Slots.{state_is}
 use Rattle.span_version_laws.proofs.Cuts.{held_by_key}
 use Rattle.span_version_laws.proofs.Trimming.{row_kept_above}

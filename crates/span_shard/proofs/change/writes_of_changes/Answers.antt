@@ -1,6 +1,6 @@
 use Rattle.std.proofs.Common.{[], Some, sym, subst, ◌∙◌}
+use Rattle.span_maderows.proofs.Hashing.{popped_at, popped_out}
 use Rattle.span_shard.specs.Overlay.{Changes, changes_of, AreWrittenFrom}
-use Rattle.span_shard.proofs.Hashing.{popped_at, popped_out}
 use Rattle.span_shard.proofs.RunAll.{written_of, written_left, made_taken, written_more, written_same}
 use Rattle.span_shard.proofs.change.writes_of_changes.Goals as goal
 

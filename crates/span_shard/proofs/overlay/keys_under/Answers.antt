@@ -1,5 +1,6 @@
 use Rattle.std.proofs.Common.{subst}
-use Rattle.span_shard.specs.Overlay.{Changes, AddsMade}
+use Rattle.span_maderows.specs.Made.{AddsMade}
+use Rattle.span_shard.specs.Overlay.{Changes}
 use Rattle.span_shard.proofs.Overlays.{all_under}
 use Rattle.span_shard.proofs.overlay.keys_under.Goals as goal
 

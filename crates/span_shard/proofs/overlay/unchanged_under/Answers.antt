@@ -1,7 +1,7 @@
 use Rattle.std.proofs.Common.{◌≡◌, ◌++◌, ℕ, List, map, ap, sym, subst, ◌∙◌}
 use Rattle.std.specs.List.{filter}
+use Rattle.span_maderows.specs.Made.{begins_with}
 use Rattle.span_shard.specs.KeyVersions.{KeyVersions}
-use Rattle.span_shard.specs.Rows.{begins_with}
 use Rattle.span_shard.specs.Overlay.{is_unchanged, AreUnchangedUnder}
 use Rattle.span_shard.specs.Reading.{versions_alone}
 use Rattle.std.proofs.lemmas.Result.{IfOk-weaker}

@@ -1,8 +1,8 @@
 use Rattle.std.proofs.Common.{◌≡◌, ◌∙◌, ◌++◌, List, map, filter, ap, subst}
 use Rattle.std.specs.Prelude.{OnOk}
 use Rattle.span_keyindex.specs.Indexes.{entries_of}
+use Rattle.span_maderows.specs.Made.{begins_with}
 use Rattle.span_shard.specs.KeyVersions.{KeyVersions}
-use Rattle.span_shard.specs.Rows.{begins_with}
 use Rattle.span_shard.specs.Reading.{versions_alone}
 use Rattle.span_shard.proofs.Seeing.{under_is}
 use Rattle.span_shard.proofs.place.push_beginning.Goals as goal

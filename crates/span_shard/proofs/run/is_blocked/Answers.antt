@@ -2,9 +2,10 @@ use Rattle.std.proofs.Common.{◌∙◌, ◌∷◌, [], ℕ, List, false, true, 
 use Rattle.std.specs.List.{AllByRecursion}
 use Rattle.std.proofs.lemmas.Result.{err_from_is_err_and}
 use Rattle.span_keycode.specs.Reads.{IsNoKey}
-use Rattle.span_shard.specs.Overlay.{is_same, BlocksDelete}
-use Rattle.span_shard.proofs.Bytes.{bytes_same}
-use Rattle.span_shard.proofs.Lists.{all_append}
+use Rattle.span_keycode.specs.Order.{is_same}
+use Rattle.span_maderows.proofs.Bytes.{bytes_same}
+use Rattle.span_maderows.proofs.Lists.{all_append}
+use Rattle.span_shard.specs.Overlay.{BlocksDelete}
 use Rattle.span_shard.proofs.RunAll.{any_at, blocks_by, taken_next}
 use Rattle.span_shard.proofs.run.is_blocked.Goals as goal
 

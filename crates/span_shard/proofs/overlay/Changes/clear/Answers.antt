@@ -1,6 +1,7 @@
 use Rattle.std.proofs.Common.{ℕ, List, true, cond, ap, ◌∙◌}
 use Rattle.std.specs.List.{list_any}
-use Rattle.span_shard.specs.Overlay.{Changes, is_same}
+use Rattle.span_keycode.specs.Order.{is_same}
+use Rattle.span_shard.specs.Overlay.{Changes}
 use Rattle.span_shard.proofs.overlay.Changes.clear.Goals as goal
 
 pub returns-clause-cleared : goal.returns-clause-cleared

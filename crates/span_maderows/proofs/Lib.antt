@@ -1,0 +1,5 @@
+pub mod Bytes
+pub mod Lists
+pub mod Pushing
+pub mod MadeRows
+pub mod Hashing
