@@ -9,12 +9,12 @@ use Rattle.std.proofs.Math.Seq.{take-suc}
 use Rattle.std.proofs.lemmas.List.{drop_more, drop-drop, map-append, take_all}
 use Rattle.std.proofs.lemmas.List.Sums.{fold-append}
 use Rattle.span_value.specs.declared.value.Value.{Value}
-use Rattle.span_value.specs.declared.value.Value.TheVariants as value
 use Rattle.span_value.specs.declared.value.Value.TheVariants.{Null, Int, Str, Bytes, Bool as Flag}
 use Rattle.span_value.specs.declared.value.Kind.{Kind}
 use Rattle.span_value.specs.declared.value.Kind.TheVariants as kind
 use Rattle.span_value.specs.declared.truth.Outcome.{Outcome}
 use Rattle.span_value.specs.declared.truth.Outcome.TheVariants.{Val}
+use Rattle.span_value.specs.declared.truth.Truth.{Truth}
 use Rattle.span_value.specs.declared.truth.Truth.TheVariants.{False, True, Unknown}
 use Rattle.span_schema.specs.declared.table.Table.{Table}
 use Rattle.span_schema.specs.Fitting.{Fits}
@@ -26,19 +26,19 @@ use Rattle.span_rowcode.proofs.RowReads.{no_cell_nothing, one_cell}
 use Rattle.span_mutate.specs.declared.row.TableRow.{TableRow}
 use Rattle.span_mutate.specs.Typed.{IsTyped}
 use Rattle.span_expr.specs.declared.expr.Expr.{Expr}
-use Rattle.span_expr.specs.declared.expr.Expr.TheVariants.{And, Column, Compare, Literal, rolls-And, rolls-Column, rolls-Compare, rolls-Literal}
+use Rattle.span_expr.specs.declared.expr.Expr.TheVariants.{And, Between, Column, Compare, Literal, rolls-And, rolls-Between, rolls-Column, rolls-Compare, rolls-Literal}
 use Rattle.span_expr.specs.declared.expr.Expr.TheFolds.{fold-roll-Expr}
 use Rattle.span_expr.specs.declared.expr.Expr.TheOpen.{Expr-F}
 use Rattle.span_expr.specs.declared.expr.Comparison.{Comparison}
 use Rattle.span_expr.specs.declared.condition.Condition.{Condition}
 use Rattle.span_expr.specs.declared.condition.Condition.TheVariants as condition
-use Rattle.span_expr.specs.Meaning.{all_of, and_also, at_operands, val}
+use Rattle.span_expr.specs.Meaning.{all_of, and_also, at_operands, between, val}
 use Rattle.span_expr.specs.Operators as operators
-use Rattle.span_expr.specs.Outcomes.{both, condition_of, outcome_of, strict, truth_of}
+use Rattle.span_expr.specs.Outcomes.{both, condition_of, outcome_of, strict}
 use Rattle.span_query.specs.Rows.{Row}
 use Rattle.span_fragment.specs.declared.number_test.NumberTest.{NumberTest}
 use Rattle.span_fragment.specs.Meaning.{value_for, declared_row}
-use Rattle.span_fragment.specs.NumberTests.{meets_value, meets, IsNumberAt, IsJudged, AreMoreTests, AreNeededFor, AreNeededForAll, AreSomeTests, AreTestsOf, AreTestsOfAll, IsKnown, IsNumberTest, IsNumberCell, IsRestOf, number_or_null, IsNumberFound, IsWhetherPass}
+use Rattle.span_fragment.specs.NumberTests.{meets_value, meets, AddsNeeded, AddsTests, AreMoreTests, AreNeededFor, AreSomeTests, AreTestsOf, IsKnown, IsNumberAt, IsNumberCell, IsRestOf, IsTestOf, number_or_null, IsNumberFound, IsWhetherPass, and_all, between_at, comparison_at, condition_at}
 use Rattle.span_fragment.proofs.KeyPlaces.{ArePlacesApart}
 use Rattle.span_fragment.proofs.DeclaredRows.{column_at}
 use Rattle.span_fragment.proofs.PlacedRows.{others_placed, others_apart}
@@ -245,145 +245,31 @@ val_column row place = ap (val row) (sym (rolls-Column place)) ∙ fold-roll-Exp
 val_literal : (row : Row) (w : Value) → val row (Literal w) ≡ Val w
 val_literal row w = ap (val row) (sym (rolls-Literal w)) ∙ fold-roll-Expr Outcome (at_operands row) (Expr-F.Literal w)
 
-value_judged : (test : NumberTest) (v : Value) → Fits kind.Int v → IsJudged (operators.compare_values test.comparison v (Int test.number)) (meets_value test v)
-value_judged test Null f = inr (refl, refl)
-value_judged test (Int i) f = inl refl
-value_judged test (Str cs) f = absurd f
-value_judged test (Bytes cs) f = absurd f
-value_judged test (Flag b) f = absurd f
+value_known : (test : NumberTest) (v : Value) → Fits kind.Int v → IsKnown (condition_of (operators.compare_values test.comparison v (Int test.number))) (meets_value test v)
+value_known test Null f = inr (refl, refl)
+value_known test (Int i) f = inl refl
+value_known test (Str cs) f = absurd f
+value_known test (Bytes cs) f = absurd f
+value_known test (Flag b) f = absurd f
 
-pub comparison_test : (schema : List Table) (n place : ℕ) (e left right : Expr) (test : NumberTest) → e ≡ Compare left test.comparison right → left ≡ Column place → right ≡ Literal (Int test.number)
-    → IsNumberCell schema n place test.cell → IsNumberTest schema n e test
-comparison_test schema n place e left right test is column literal cell = record {
+pub comparison_test : (schema : List Table) (n place : ℕ) (left right : Expr) (test : NumberTest) → left ≡ Column place → right ≡ Literal (Int test.number) → IsNumberCell schema n place test.cell
+    → IsTestOf schema n (comparison_at schema left test.comparison right) test
+comparison_test schema n place left right test column literal cell = record {
   number = cell.number;
   judged = λ t typed own.
       let row : Row = declared_row schema t in
       let v : Value = get_or t.cells test.cell Null in
       let first : val row left ≡ Val v = ap (val row) column ∙ val_column row place ∙ ap (λ (u : Value). Val u) (column_is schema n place test.cell cell t typed own) in
       let second : val row right ≡ Val (Int test.number) = ap (val row) literal ∙ val_literal row (Int test.number) in
-      let all : val row e ≡ operators.compare_values test.comparison v (Int test.number) =
-      ap (val row) is ∙ val_compare row left right test.comparison
-      ∙ ap (λ (o : Outcome). strict (operators.compare_values test.comparison) o (val row right)) first
-      ∙ ap (λ (o : Outcome). strict (operators.compare_values test.comparison) (Val v) o) second in
+      let all : comparison_at schema left test.comparison right t ≡ condition_of (operators.compare_values test.comparison v (Int test.number)) =
+      ap (λ (o : Outcome). condition_of (strict (operators.compare_values test.comparison) o (val row right))) first
+      ∙ ap (λ (o : Outcome). condition_of (strict (operators.compare_values test.comparison) (Val v) o)) second in
       let P : List Kind → Type 0 = λ ks. AreCells ks t.cells in
       let fits = number_or_null_at (other_kinds schema n) t.cells test.cell (subst P (ap (other_kinds schema) own) typed.1.0) cell.number in
-      subst (λ (o : Outcome). IsJudged o (meets t.cells test)) (sym all) (value_judged test v fits);
+      subst (λ (c : Condition). IsKnown c (meets t.cells test)) (sym all) (value_known test v fits);
 }
 
-pub one_test_of : (schema : List Table) (n : ℕ) (e : Expr) (test : NumberTest) (tests : List NumberTest) → tests ≡ test ∷ [] → IsNumberTest schema n e test → AreTestsOf schema n e tests
-one_test_of schema n e test tests is one = subst (AreTestsOf schema n e) (sym is) (record {
-  numbers = (one.number, tt {0});
-  judged = λ t typed own. subst (IsJudged (val (declared_row schema t) e)) (alone (meets t.cells test)) (one.judged t typed own);
-})
-  where
-    alone : (b : Bool) → b ≡ (b && true)
-    alone true = refl
-    alone false = refl
-
--- ---- the tests of an AND
-
-abbrev AreNumbers : List Table → ℕ → List NumberTest → Type 0
-AreNumbers schema n tests = AllByRecursion (λ test. IsNumberAt (other_kinds schema n) test.cell) tests
-
-judged_known : (o : Outcome) (b : Bool) → IsJudged o b → IsKnown (condition_of o) b
-judged_known o b (inl is) = inl (ap condition_of is)
-judged_known o b (inr null) = inr (ap condition_of null.0, null.1)
-
-known_judged : (c : Condition) (b : Bool) → IsKnown c b → IsJudged (outcome_of c) b
-known_judged c true (inl is) = inl (ap outcome_of is)
-known_judged c false (inl is) = inl (ap outcome_of is)
-known_judged c b (inr null) = inr (ap outcome_of null.0, null.1)
-
-known_and : (c d : Condition) (a b : Bool) → IsKnown c a → IsKnown d b → IsKnown (both c d) (a && b)
-known_and c d a b (inl first) (inl second) = by_values a b (ap (λ (x : Condition). both x d) first ∙ ap (both (condition.Known (truth_of (value.Bool a)))) second)
-  where
-    by_values : (a b : Bool) → both c d ≡ both (condition.Known (truth_of (value.Bool a))) (condition.Known (truth_of (value.Bool b))) → IsKnown (both c d) (a && b)
-    by_values true true is = inl is
-    by_values true false is = inl is
-    by_values false true is = inl is
-    by_values false false is = inl is
-known_and c d a b (inl first) (inr second) = by_values a (ap (λ (x : Condition). both x d) first ∙ ap (both (condition.Known (truth_of (value.Bool a)))) second.0)
-  where
-    by_values : (a : Bool) → both c d ≡ both (condition.Known (truth_of (value.Bool a))) (condition.Known Unknown) → IsKnown (both c d) (a && b)
-    by_values true is = inr (is, second.1)
-    by_values false is = inl is
-known_and c d a b (inr first) (inl second) = by_values b (ap (λ (x : Condition). both x d) first.0 ∙ ap (both (condition.Known Unknown)) second)
-  where
-    not_both : (y : Bool) → (a && y) ≡ false
-    not_both y = ap (λ (x : Bool). x && y) first.1
-
-    by_values : (b : Bool) → both c d ≡ both (condition.Known Unknown) (condition.Known (truth_of (value.Bool b))) → IsKnown (both c d) (a && b)
-    by_values true is = inr (is, not_both true)
-    by_values false is = subst (λ (x : Bool). IsKnown (both c d) x) (sym (not_both false)) (inl is)
-known_and c d a b (inr first) (inr second) = inr (ap (λ (x : Condition). both x d) first.0 ∙ ap (both (condition.Known Unknown)) second.0, ap (λ (x : Bool). x && b) first.1)
-
-all_and : {X : Type 0} (f : X → Bool) (xs : List X) (y : X) → list_all f (xs ++ y ∷ []) ≡ (list_all f xs && f y)
-all_and f [] y = by_test (f y)
-  where
-    by_test : (b : Bool) → (b && true) ≡ b
-    by_test true = refl
-    by_test false = refl
-all_and f (x ∷ xs) y = by_test (f x) (all_and f xs y)
-  where
-    by_test : (b : Bool) → list_all f (xs ++ y ∷ []) ≡ (list_all f xs && f y) → (b && list_all f (xs ++ y ∷ [])) ≡ ((b && list_all f xs) && f y)
-    by_test true so = so
-    by_test false so = refl
-
-all_added : {X : Type 0} (P : X → Type 0) (xs : List X) (y : X) → AllByRecursion P xs → P y → AllByRecursion P (xs ++ y ∷ [])
-all_added P [] y all one = (one, tt {0})
-all_added P (x ∷ xs) y all one = (all.0, all_added P xs y all.1 one)
-
--- the fold over one condition more
-fold_more : (row : Row) (c : Condition) (es : List Expr) (i : ℕ) (e : Expr) → i < length es → e ≡ get_or es i e
-    → fold and_also c (map (val row) (take (i + 1) es)) ≡ both (fold and_also c (map (val row) (take i es))) (condition_of (val row e))
-fold_more row c es i e less is =
-    let place : i + 1 ≡ suc i = omega arith in
-    let front : take (i + 1) es ≡ take i es ++ e ∷ [] = ap (λ (k : ℕ). take k es) place ∙ take-suc es i e less ∙ ap (λ (y : Expr). take i es ++ y ∷ []) (sym is) in
-    ap (λ (l : List Expr). fold and_also c (map (val row) l)) front
-    ∙ ap (fold and_also c) (map-append (val row) (take i es) (e ∷ []))
-    ∙ fold-append and_also c (map (val row) (take i es)) (val row e ∷ [])
-
-pub no_more_tests : (schema : List Table) (n : ℕ) (es : List Expr) (tests : List NumberTest) → AreMoreTests schema n (take 0 es) tests tests
-no_more_tests schema n es tests = record { numbers = λ numbers. numbers; judged = λ t typed own c known. known }
-
-pub one_more_test : (schema : List Table) (n : ℕ) (es : List Expr) (i : ℕ) (e : Expr) (test : NumberTest) (old now new : List NumberTest) → i < length es → e ≡ get_or es i e → new ≡ now ++ test ∷ []
-    → IsNumberTest schema n e test → AreMoreTests schema n (take i es) old now → AreMoreTests schema n (take (i + 1) es) old new
-one_more_test schema n es i e test old now new less is added one so = subst (AreMoreTests schema n (take (i + 1) es) old) (sym added) (record {
-  numbers = λ numbers. all_added (λ (x : NumberTest). IsNumberAt (other_kinds schema n) x.cell) now test (so.numbers numbers) one.number;
-  judged = λ t typed own c known.
-      let row : Row = declared_row schema t in
-      let all = fold_more row c es i e less is in
-      let both_known = known_and (fold and_also c (map (val row) (take i es))) (condition_of (val row e)) (list_all (meets t.cells) now) (meets t.cells test) (so.judged t typed own c known) (judged_known (val row e) (meets t.cells test) (one.judged t typed own)) in
-      let P : Bool → Type 0 = IsKnown (fold and_also c (map (val row) (take (i + 1) es))) in
-      let Q : Condition → Type 0 = λ k. IsKnown k (list_all (meets t.cells) now && meets t.cells test) in
-      subst P (sym (all_and (meets t.cells) now test)) (subst Q (sym all) both_known);
-})
-
-pub all_more_tests : (schema : List Table) (n : ℕ) (es : List Expr) (i : ℕ) (old new : List NumberTest) → length es ≤ i → AreMoreTests schema n (take i es) old new → AreMoreTests schema n es old new
-all_more_tests schema n es i old new over so = subst (λ (l : List Expr). AreMoreTests schema n l old new) (take_all i es over) so
-
-pub tests_of_all : (schema : List Table) (n : ℕ) (first : Expr) (more : List Expr) (old new : List NumberTest) → AreTestsOf schema n first old → AreMoreTests schema n more old new
-    → AreTestsOfAll schema n first more new
-tests_of_all schema n first more old new begin so = record {
-  numbers = so.numbers begin.numbers;
-  judged = λ t typed own.
-      let row : Row = declared_row schema t in
-      known_judged (fold and_also (condition_of (val row first)) (map (val row) more)) (list_all (meets t.cells) new)
-      (so.judged t typed own (condition_of (val row first)) (judged_known (val row first) (list_all (meets t.cells) old) (begin.judged t typed own)));
-}
-
-val_and : (row : Row) (first : Expr) (more : List Expr) → val row (And first more) ≡ all_of (val row first) (map (val row) more)
-val_and row first more = ap (val row) (sym (rolls-And first more)) ∙ fold-roll-Expr Outcome (at_operands row) (Expr-F.And first more)
-
-pub tests_of_and : (schema : List Table) (n : ℕ) (e first : Expr) (more : List Expr) (tests : List NumberTest) → e ≡ And first more → AreTestsOfAll schema n first more tests → AreTestsOf schema n e tests
-tests_of_and schema n e first more tests is all = record {
-  numbers = all.numbers;
-  judged = λ t typed own.
-      let row : Row = declared_row schema t in
-      subst (λ (o : Outcome). IsJudged o (list_all (meets t.cells) tests)) (sym (ap (val row) is ∙ val_and row first more)) (all.judged t typed own);
-}
-
--- ---- the tests of some conditions of an AND
+-- ---- what an AND comes to
 
 -- what is FALSE or NULL stays so beside any other condition
 not_met_first : (c d : Condition) → IsKnown c false → IsKnown (both c d) false
@@ -418,66 +304,246 @@ not_met_second c d (inr null) = by_other c (ap (both c) null.0)
     by_other (condition.Known Unknown) so = inr (so, refl)
     by_other condition.Faulted so = inr (so, refl)
 
-pub no_tests_yet : (schema : List Table) (n : ℕ) (es : List Expr) (tests : List NumberTest) → AreSomeTests schema n (take 0 es) tests tests
-no_tests_yet schema n es tests = record { numbers = λ numbers. numbers; unmet = λ t typed own c known not_met. known not_met }
+-- TRUE leaves the other condition
+true_first : (d : Condition) → both (condition.Known True) d ≡ d
+true_first (condition.Known False) = refl
+true_first (condition.Known True) = refl
+true_first (condition.Known Unknown) = refl
+true_first condition.Faulted = refl
 
--- a condition that is no test
-pub no_test : (schema : List Table) (n : ℕ) (es : List Expr) (i : ℕ) (e : Expr) (old now : List NumberTest) → i < length es → e ≡ get_or es i e → AreSomeTests schema n (take i es) old now
-    → AreSomeTests schema n (take (i + 1) es) old now
-no_test schema n es i e old now less is so = record {
-  numbers = so.numbers;
-  unmet = λ t typed own c known not_met.
-      let row : Row = declared_row schema t in
-      let begin : Condition = fold and_also c (map (val row) (take i es)) in
-      subst (λ (k : Condition). IsKnown k false) (sym (fold_more row c es i e less is)) (not_met_first begin (condition_of (val row e)) (so.unmet t typed own c known not_met));
-}
+true_second : (c : Condition) → both c (condition.Known True) ≡ c
+true_second (condition.Known False) = refl
+true_second (condition.Known True) = refl
+true_second (condition.Known Unknown) = refl
+true_second condition.Faulted = refl
 
-pub one_test_more : (schema : List Table) (n : ℕ) (es : List Expr) (i : ℕ) (e : Expr) (test : NumberTest) (old now new : List NumberTest) → i < length es → e ≡ get_or es i e → new ≡ now ++ test ∷ []
-    → IsNumberTest schema n e test → AreSomeTests schema n (take i es) old now → AreSomeTests schema n (take (i + 1) es) old new
-one_test_more schema n es i e test old now new less is added one so = subst (AreSomeTests schema n (take (i + 1) es) old) (sym added) (record {
-  numbers = λ numbers. all_added (λ (x : NumberTest). IsNumberAt (other_kinds schema n) x.cell) now test (so.numbers numbers) one.number;
+known_and : (c d : Condition) (a b : Bool) → IsKnown c a → IsKnown d b → IsKnown (both c d) (a && b)
+known_and c d false b first second = not_met_first c d first
+known_and c d true b (inl first) second = subst (λ (x : Condition). IsKnown x b) (sym (ap (λ (x : Condition). both x d) first ∙ true_first d)) second
+known_and c d true b (inr null) second = absurd (let bad : true ≡ false = null.1 in cc)
+
+both_again : (a b c : Condition) → both (both a b) c ≡ both a (both b c)
+both_again (condition.Known False) (condition.Known b) (condition.Known c) = by_values b c
+  where
+    by_values : (b c : Truth) → both (both (condition.Known False) (condition.Known b)) (condition.Known c) ≡ both (condition.Known False) (both (condition.Known b) (condition.Known c))
+    by_values False False = refl
+    by_values False True = refl
+    by_values False Unknown = refl
+    by_values True False = refl
+    by_values True True = refl
+    by_values True Unknown = refl
+    by_values Unknown False = refl
+    by_values Unknown True = refl
+    by_values Unknown Unknown = refl
+both_again (condition.Known Unknown) (condition.Known b) (condition.Known c) = by_values b c
+  where
+    by_values : (b c : Truth) → both (both (condition.Known Unknown) (condition.Known b)) (condition.Known c) ≡ both (condition.Known Unknown) (both (condition.Known b) (condition.Known c))
+    by_values False False = refl
+    by_values False True = refl
+    by_values False Unknown = refl
+    by_values True False = refl
+    by_values True True = refl
+    by_values True Unknown = refl
+    by_values Unknown False = refl
+    by_values Unknown True = refl
+    by_values Unknown Unknown = refl
+both_again (condition.Known True) b c = ap (λ (x : Condition). both x c) (true_first b) ∙ sym (true_first (both b c))
+both_again a (condition.Known True) c = ap (λ (x : Condition). both x c) (true_second a) ∙ ap (both a) (sym (true_first c))
+both_again a b (condition.Known True) = true_second (both a b) ∙ ap (both a) (sym (true_second b))
+both_again (condition.Known False) (condition.Known False) condition.Faulted = refl
+both_again (condition.Known False) (condition.Known Unknown) condition.Faulted = refl
+both_again (condition.Known False) condition.Faulted (condition.Known False) = refl
+both_again (condition.Known False) condition.Faulted (condition.Known Unknown) = refl
+both_again (condition.Known False) condition.Faulted condition.Faulted = refl
+both_again (condition.Known Unknown) (condition.Known False) condition.Faulted = refl
+both_again (condition.Known Unknown) (condition.Known Unknown) condition.Faulted = refl
+both_again (condition.Known Unknown) condition.Faulted (condition.Known False) = refl
+both_again (condition.Known Unknown) condition.Faulted (condition.Known Unknown) = refl
+both_again (condition.Known Unknown) condition.Faulted condition.Faulted = refl
+both_again condition.Faulted (condition.Known False) (condition.Known False) = refl
+both_again condition.Faulted (condition.Known False) (condition.Known Unknown) = refl
+both_again condition.Faulted (condition.Known False) condition.Faulted = refl
+both_again condition.Faulted (condition.Known Unknown) (condition.Known False) = refl
+both_again condition.Faulted (condition.Known Unknown) (condition.Known Unknown) = refl
+both_again condition.Faulted (condition.Known Unknown) condition.Faulted = refl
+both_again condition.Faulted condition.Faulted (condition.Known False) = refl
+both_again condition.Faulted condition.Faulted (condition.Known Unknown) = refl
+both_again condition.Faulted condition.Faulted condition.Faulted = refl
+
+-- ---- the tests of one condition more
+
+all_and : {X : Type 0} (f : X → Bool) (xs : List X) (y : X) → list_all f (xs ++ y ∷ []) ≡ (list_all f xs && f y)
+all_and f [] y = by_test (f y)
+  where
+    by_test : (b : Bool) → (b && true) ≡ b
+    by_test true = refl
+    by_test false = refl
+all_and f (x ∷ xs) y = by_test (f x) (all_and f xs y)
+  where
+    by_test : (b : Bool) → list_all f (xs ++ y ∷ []) ≡ (list_all f xs && f y) → (b && list_all f (xs ++ y ∷ [])) ≡ ((b && list_all f xs) && f y)
+    by_test true so = so
+    by_test false so = refl
+
+all_added : {X : Type 0} (P : X → Type 0) (xs : List X) (y : X) → AllByRecursion P xs → P y → AllByRecursion P (xs ++ y ∷ [])
+all_added P [] y all one = (one, tt {0})
+all_added P (x ∷ xs) y all one = (all.0, all_added P xs y all.1 one)
+
+pub one_test_added : (schema : List Table) (n : ℕ) (of : TableRow → Condition) (test : NumberTest) (old new : List NumberTest) → new ≡ old ++ test ∷ [] → IsTestOf schema n of test → AddsTests schema n of old new
+one_test_added schema n of test old new added one = subst (AddsTests schema n of old) (sym added) (record {
+  judged = λ t typed own c known.
+      subst (IsKnown (both c (of t))) (sym (all_and (meets t.cells) old test)) (known_and c (of t) (list_all (meets t.cells) old) (meets t.cells test) known (one.judged t typed own));
+})
+
+pub one_test_needed : (schema : List Table) (n : ℕ) (of : TableRow → Condition) (test : NumberTest) (old new : List NumberTest) → new ≡ old ++ test ∷ [] → IsTestOf schema n of test → AddsNeeded schema n of old new
+one_test_needed schema n of test old new added one = subst (AddsNeeded schema n of old) (sym added) (record {
+  numbers = λ numbers. all_added (λ (x : NumberTest). IsNumberAt (other_kinds schema n) x.cell) old test numbers one.number;
   unmet = λ t typed own c known not_met.
-      let row : Row = declared_row schema t in
-      let begin : Condition = fold and_also c (map (val row) (take i es)) in
-      let judged = judged_known (val row e) (meets t.cells test) (one.judged t typed own) in
-      subst (λ (k : Condition). IsKnown k false) (sym (fold_more row c es i e less is))
-      (by_test begin (condition_of (val row e)) (list_all (meets t.cells) now) (meets t.cells test) (sym (all_and (meets t.cells) now test) ∙ not_met) (so.unmet t typed own c known) judged);
+      by_test c (of t) (list_all (meets t.cells) old) (meets t.cells test) (sym (all_and (meets t.cells) old test) ∙ not_met) known (one.judged t typed own);
 })
   where
     by_test : (c d : Condition) (a b : Bool) → (a && b) ≡ false → (a ≡ false → IsKnown c false) → IsKnown d b → IsKnown (both c d) false
     by_test c d false b not_met first second = not_met_first c d (first refl)
     by_test c d true b not_met first second = not_met_second c d (subst (λ (x : Bool). IsKnown d x) not_met second)
 
-pub some_tests_of : (schema : List Table) (n : ℕ) (es : List Expr) (i : ℕ) (old new : List NumberTest) → length es ≤ i → AreSomeTests schema n (take i es) old new → AreSomeTests schema n es old new
-some_tests_of schema n es i old new over so = subst (λ (l : List Expr). AreSomeTests schema n l old new) (take_all i es over) so
+-- a condition that is no test
+pub no_test_needed : (schema : List Table) (n : ℕ) (of : TableRow → Condition) (tests : List NumberTest) → AddsNeeded schema n of tests tests
+no_test_needed schema n of tests = record { numbers = λ numbers. numbers; unmet = λ t typed own c known not_met. not_met_first c (of t) (known not_met) }
 
--- no test is needed
-pub no_test_needed : (schema : List Table) (n : ℕ) (e : Expr) (tests : List NumberTest) → tests ≡ [] → AreNeededFor schema n e tests
-no_test_needed schema n e tests none = subst (AreNeededFor schema n e) (sym none) (record {
-  numbers = tt {0};
-  unmet = λ t typed own not_met. absurd (let bad : true ≡ false = not_met in cc);
-})
-
-pub tests_needed : (schema : List Table) (n : ℕ) (e : Expr) (tests : List NumberTest) → AreTestsOf schema n e tests → AreNeededFor schema n e tests
-tests_needed schema n e tests of = record {
-  numbers = of.numbers;
-  unmet = λ t typed own not_met. subst (λ (b : Bool). IsJudged (val (declared_row schema t) e) b) not_met (of.judged t typed own);
+-- two conditions, of which the AND is a condition
+pub two_added : (schema : List Table) (n : ℕ) (f g : TableRow → Condition) (old now new : List NumberTest) → AddsTests schema n f old now → AddsTests schema n g now new → AddsTests schema n (λ t. both (f t) (g t)) old new
+two_added schema n f g old now new first second = record {
+  judged = λ t typed own c known.
+      subst (λ (x : Condition). IsKnown x (list_all (meets t.cells) new)) (both_again c (f t) (g t)) (second.judged t typed own (both c (f t)) (first.judged t typed own c known));
 }
 
-pub needed_for_all : (schema : List Table) (n : ℕ) (first : Expr) (more : List Expr) (old new : List NumberTest) → AreNeededFor schema n first old → AreSomeTests schema n more old new
-    → AreNeededForAll schema n first more new
-needed_for_all schema n first more old new begin so = record {
-  numbers = so.numbers begin.numbers;
-  unmet = λ t typed own not_met.
-      let row : Row = declared_row schema t in
-      known_judged (fold and_also (condition_of (val row first)) (map (val row) more)) false
-      (so.unmet t typed own (condition_of (val row first)) (λ unmet. judged_known (val row first) false (begin.unmet t typed own unmet)) not_met);
+pub two_needed : (schema : List Table) (n : ℕ) (f g : TableRow → Condition) (old now new : List NumberTest) → AddsNeeded schema n f old now → AddsNeeded schema n g now new → AddsNeeded schema n (λ t. both (f t) (g t)) old new
+two_needed schema n f g old now new first second = record {
+  numbers = λ numbers. second.numbers (first.numbers numbers);
+  unmet = λ t typed own c known not_met.
+      subst (λ (x : Condition). IsKnown x false) (both_again c (f t) (g t)) (second.unmet t typed own (both c (f t)) (first.unmet t typed own c known) not_met);
 }
 
-pub needed_for_and : (schema : List Table) (n : ℕ) (e first : Expr) (more : List Expr) (tests : List NumberTest) → e ≡ And first more → AreNeededForAll schema n first more tests → AreNeededFor schema n e tests
-needed_for_and schema n e first more tests is all = record {
-  numbers = all.numbers;
-  unmet = λ t typed own not_met.
-      let row : Row = declared_row schema t in
-      subst (λ (o : Outcome). IsJudged o false) (sym (ap (val row) is ∙ val_and row first more)) (all.unmet t typed own not_met);
+-- a condition that comes to the same
+pub same_added : (schema : List Table) (n : ℕ) (f g : TableRow → Condition) (old new : List NumberTest) → ((t : TableRow) → f t ≡ g t) → AddsTests schema n f old new → AddsTests schema n g old new
+same_added schema n f g old new same so = record {
+  judged = λ t typed own c known. subst (λ (x : Condition). IsKnown (both c x) (list_all (meets t.cells) new)) (same t) (so.judged t typed own c known);
 }
+
+pub same_needed : (schema : List Table) (n : ℕ) (f g : TableRow → Condition) (old new : List NumberTest) → ((t : TableRow) → f t ≡ g t) → AddsNeeded schema n f old new → AddsNeeded schema n g old new
+same_needed schema n f g old new same so = record {
+  numbers = so.numbers;
+  unmet = λ t typed own c known not_met. subst (λ (x : Condition). IsKnown (both c x) false) (same t) (so.unmet t typed own c known not_met);
+}
+
+known_again : (c : Condition) → condition_of (outcome_of c) ≡ c
+known_again (condition.Known False) = refl
+known_again (condition.Known True) = refl
+known_again (condition.Known Unknown) = refl
+known_again condition.Faulted = refl
+
+pub at_comparison : (schema : List Table) (e left right : Expr) (c : Comparison) → e ≡ Compare left c right → (t : TableRow) → comparison_at schema left c right t ≡ condition_at schema e t
+at_comparison schema e left right c is t =
+    let row : Row = declared_row schema t in
+    ap condition_of (sym (ap (val row) is ∙ val_compare row left right c))
+
+val_between : (row : Row) (operand low high : Expr) → val row (Between operand low high) ≡ between (val row operand) (val row low) (val row high)
+val_between row operand low high = ap (val row) (sym (rolls-Between operand low high)) ∙ fold-roll-Expr Outcome (at_operands row) (Expr-F.Between operand low high)
+
+pub at_between : (schema : List Table) (e operand low high : Expr) → e ≡ Between operand low high → (t : TableRow) → between_at schema operand low high t ≡ condition_at schema e t
+at_between schema e operand low high is t =
+    let row : Row = declared_row schema t in
+    sym (known_again (between_at schema operand low high t)) ∙ ap condition_of (sym (ap (val row) is ∙ val_between row operand low high))
+
+val_and : (row : Row) (first : Expr) (more : List Expr) → val row (And first more) ≡ all_of (val row first) (map (val row) more)
+val_and row first more = ap (val row) (sym (rolls-And first more)) ∙ fold-roll-Expr Outcome (at_operands row) (Expr-F.And first more)
+
+at_and : (schema : List Table) (e first : Expr) (more : List Expr) → e ≡ And first more → (t : TableRow) → and_all schema (condition_at schema first t) more t ≡ condition_at schema e t
+at_and schema e first more is t =
+    let row : Row = declared_row schema t in
+    sym (known_again (and_all schema (condition_at schema first t) more t)) ∙ ap condition_of (sym (ap (val row) is ∙ val_and row first more))
+
+-- ---- the tests of several conditions
+
+-- the fold over one condition more
+fold_more : (row : Row) (c : Condition) (es : List Expr) (i : ℕ) (e : Expr) → i < length es → e ≡ get_or es i e
+    → fold and_also c (map (val row) (take (i + 1) es)) ≡ both (fold and_also c (map (val row) (take i es))) (condition_of (val row e))
+fold_more row c es i e less is =
+    let place : i + 1 ≡ suc i = omega arith in
+    let front : take (i + 1) es ≡ take i es ++ e ∷ [] = ap (λ (k : ℕ). take k es) place ∙ take-suc es i e less ∙ ap (λ (y : Expr). take i es ++ y ∷ []) (sym is) in
+    ap (λ (l : List Expr). fold and_also c (map (val row) l)) front
+    ∙ ap (fold and_also c) (map-append (val row) (take i es) (e ∷ []))
+    ∙ fold-append and_also c (map (val row) (take i es)) (val row e ∷ [])
+
+pub no_more_tests : (schema : List Table) (n : ℕ) (es : List Expr) (tests : List NumberTest) → AreMoreTests schema n (take 0 es) tests tests
+no_more_tests schema n es tests = record { judged = λ t typed own c known. known }
+
+pub none_of_more : (schema : List Table) (n : ℕ) (es : List Expr) (tests : List NumberTest) → AreSomeTests schema n (take 0 es) tests tests
+none_of_more schema n es tests = record { numbers = λ numbers. numbers; unmet = λ t typed own c known not_met. known not_met }
+
+pub one_more_added : (schema : List Table) (n : ℕ) (es : List Expr) (i : ℕ) (e : Expr) (old now new : List NumberTest) → i < length es → e ≡ get_or es i e
+    → AreMoreTests schema n (take i es) old now → AddsTests schema n (condition_at schema e) now new → AreMoreTests schema n (take (i + 1) es) old new
+one_more_added schema n es i e old now new less is so one = record {
+  judged = λ t typed own c known.
+      subst (λ (k : Condition). IsKnown k (list_all (meets t.cells) new)) (sym (fold_more (declared_row schema t) c es i e less is)) (one.judged t typed own (and_all schema c (take i es) t) (so.judged t typed own c known));
+}
+
+pub one_more_needed : (schema : List Table) (n : ℕ) (es : List Expr) (i : ℕ) (e : Expr) (old now new : List NumberTest) → i < length es → e ≡ get_or es i e
+    → AreSomeTests schema n (take i es) old now → AddsNeeded schema n (condition_at schema e) now new → AreSomeTests schema n (take (i + 1) es) old new
+one_more_needed schema n es i e old now new less is so one = record {
+  numbers = λ numbers. one.numbers (so.numbers numbers);
+  unmet = λ t typed own c known not_met.
+      subst (λ (k : Condition). IsKnown k false) (sym (fold_more (declared_row schema t) c es i e less is)) (one.unmet t typed own (and_all schema c (take i es) t) (so.unmet t typed own c known) not_met);
+}
+
+pub all_more_tests : (schema : List Table) (n : ℕ) (es : List Expr) (i : ℕ) (old new : List NumberTest) → length es ≤ i → AreMoreTests schema n (take i es) old new → AreMoreTests schema n es old new
+all_more_tests schema n es i old new over so = subst (λ (l : List Expr). AreMoreTests schema n l old new) (take_all i es over) so
+
+pub all_of_more : (schema : List Table) (n : ℕ) (es : List Expr) (i : ℕ) (old new : List NumberTest) → length es ≤ i → AreSomeTests schema n (take i es) old new → AreSomeTests schema n es old new
+all_of_more schema n es i old new over so = subst (λ (l : List Expr). AreSomeTests schema n l old new) (take_all i es over) so
+
+-- ---- the tests of a condition
+
+-- nothing is tested yet
+none_unmet : (c : Condition) → true ≡ false → IsKnown c false
+none_unmet c bad = absurd (let e : true ≡ false = bad in cc)
+
+pub tests_of_one : (schema : List Table) (n : ℕ) (e : Expr) (old new : List NumberTest) → old ≡ [] → AddsNeeded schema n (condition_at schema e) old new → AddsTests schema n (condition_at schema e) old new → AreTestsOf schema n e new
+tests_of_one schema n e old new none needed so =
+    let P : List NumberTest → Type 0 = λ tests. AddsTests schema n (condition_at schema e) tests new in
+    let Q : List NumberTest → Type 0 = λ tests. AddsNeeded schema n (condition_at schema e) tests new in
+    let first = subst P none so in
+    let numbered = subst Q none needed in
+    record {
+      numbers = numbered.numbers (tt {0});
+      judged = λ t typed own. subst (λ (c : Condition). IsKnown c (list_all (meets t.cells) new)) (true_first (condition_at schema e t)) (first.judged t typed own (condition.Known True) (inl refl));
+    }
+
+pub needed_for_one : (schema : List Table) (n : ℕ) (e : Expr) (old new : List NumberTest) → old ≡ [] → AddsNeeded schema n (condition_at schema e) old new → AreNeededFor schema n e new
+needed_for_one schema n e old new none so =
+    let P : List NumberTest → Type 0 = λ tests. AddsNeeded schema n (condition_at schema e) tests new in
+    let first = subst P none so in
+    record {
+      numbers = first.numbers (tt {0});
+      unmet = λ t typed own not_met.
+          subst (λ (c : Condition). IsKnown c false) (true_first (condition_at schema e t)) (first.unmet t typed own (condition.Known True) (none_unmet (condition.Known True)) not_met);
+    }
+
+pub tests_of_and : (schema : List Table) (n : ℕ) (e first : Expr) (more : List Expr) (old now new : List NumberTest) → e ≡ And first more → old ≡ [] → AddsNeeded schema n (condition_at schema first) old now
+    → AddsTests schema n (condition_at schema first) old now → AreSomeTests schema n more now new → AreMoreTests schema n more now new → AreTestsOf schema n e new
+tests_of_and schema n e first more old now new is none needed one some so =
+    let begin = tests_of_one schema n first old now none needed one in
+    record {
+      numbers = some.numbers begin.numbers;
+      judged = λ t typed own.
+          subst (λ (c : Condition). IsKnown c (list_all (meets t.cells) new)) (at_and schema e first more is t) (so.judged t typed own (condition_at schema first t) (begin.judged t typed own));
+    }
+
+pub needed_for_and : (schema : List Table) (n : ℕ) (e first : Expr) (more : List Expr) (old now new : List NumberTest) → e ≡ And first more → old ≡ [] → AddsNeeded schema n (condition_at schema first) old now
+    → AreSomeTests schema n more now new → AreNeededFor schema n e new
+needed_for_and schema n e first more old now new is none needed some =
+    let begin = needed_for_one schema n first old now none needed in
+    record {
+      numbers = some.numbers begin.numbers;
+      unmet = λ t typed own not_met.
+          subst (λ (c : Condition). IsKnown c false) (at_and schema e first more is t) (some.unmet t typed own (condition_at schema first t) (begin.unmet t typed own) not_met);
+    }

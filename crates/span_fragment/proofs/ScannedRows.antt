@@ -5,7 +5,10 @@ use Rattle.std.specs.List.{range_with_len, list_all}
 use Rattle.std.proofs.lemmas.Bool.{eqb-true, eq-eqb, and_parts}
 use Rattle.std.proofs.lemmas.List.{append-nil}
 use Rattle.std.proofs.lemmas.List.FromFn.{length-map-range_with_len}
+use Rattle.span_value.specs.declared.value.Value.TheVariants.{Null, Int, Str, Bytes, Bool as Flag}
+use Rattle.span_value.specs.declared.truth.Truth.TheVariants.{False, True, Unknown}
 use Rattle.span_value.specs.declared.truth.Outcome.{Outcome}
+use Rattle.span_value.specs.declared.truth.Outcome.TheVariants as outcome
 use Rattle.span_schema.specs.declared.table.Table.{Table}
 use Rattle.span_schema.specs.Numbers.{other_kinds}
 use Rattle.span_rowcode.specs.Rows.{IsRow, row_code}
@@ -18,7 +21,9 @@ use Rattle.span_shard.specs.Reading.{has_short_key, IsNoTableRow}
 use Rattle.span_expr.specs.declared.cell.Failure.{Failure}
 use Rattle.span_expr.specs.declared.cell.Failure.TheVariants.{Fault, OutOfMemory}
 use Rattle.span_expr.specs.declared.expr.Expr.{Expr}
+use Rattle.span_expr.specs.declared.condition.Condition.TheVariants as condition
 use Rattle.span_expr.specs.Meaning.{val}
+use Rattle.span_expr.specs.Outcomes.{condition_of, truth_of}
 use Rattle.span_expr.specs.Places.{is_in, reads_only, moved, rank}
 use Rattle.span_expr.proofs.Places.{reads_only-wider}
 use Rattle.span_query.specs.Rows.{Row, OrFault, Rows, ◌>>=◌, value_of, is_true, append_results, keep_if, holds, filter_rows, filter_where}
@@ -38,7 +43,7 @@ use Rattle.span_fragment.specs.Entries.{key_row, AreNoRows, IsWhetherOf}
 use Rattle.span_fragment.specs.Given.{picked_given, IsGivenOn}
 use Rattle.span_fragment.specs.Longest.{IsLongest, AreLongest, HaveShortKeys}
 use Rattle.span_fragment.specs.declared.number_test.NumberTest.{NumberTest}
-use Rattle.span_fragment.specs.NumberTests.{meets, AreNeededFor, AreTestsOf, IsJudged, IsWhetherPass}
+use Rattle.span_fragment.specs.NumberTests.{meets, AreNeededFor, AreTestsOf, IsKnown, IsWhetherPass}
 use Rattle.span_fragment.specs.Readers.{ArePickedOf}
 use Rattle.span_fragment.specs.Scans.{passes, kept_row, AreNeeded, AreTestsWhere, IsMaskOf, IsConditionAt, IsAdded, IsAddedWhere, IsTaken}
 use Rattle.span_fragment.proofs.DeclaredRows.{row_width}
@@ -146,16 +151,31 @@ condition_gives schema n ms w at key row values found of read gives t typed own 
     subst (λ (o : OrFault Bool). Gives found o) same gives
 
 -- whether a row passes, by its cells
-judged_passes : (o : Outcome) (b : Bool) → IsJudged o b → (value_of o >>= (λ v. Some (is_true v))) ≡ Some b
-judged_passes o b (inl is) = ap (λ (x : Outcome). value_of x >>= (λ v. Some (is_true v))) is
-judged_passes o b (inr null) = ap (λ (x : Outcome). value_of x >>= (λ v. Some (is_true v))) null.0 ∙ ap (λ (x : Bool). Some x) (sym null.1)
+unknown_passes : (b : Bool) → IsKnown (condition.Known Unknown) b → Some false ≡ Some b
+unknown_passes true (inl is) = absurd (let bad : condition.Known Unknown ≡ condition.Known True = is in cc)
+unknown_passes true (inr null) = absurd (let bad : true ≡ false = null.1 in cc)
+unknown_passes false known = refl
+
+known_passes : (o : Outcome) (b : Bool) → IsKnown (condition_of o) b → (value_of o >>= (λ v. Some (is_true v))) ≡ Some b
+known_passes outcome.Fault b (inl is) = absurd (let bad : condition.Faulted ≡ condition.Known (truth_of (Flag b)) = is in cc)
+known_passes outcome.Fault b (inr null) = absurd (let bad : condition.Faulted ≡ condition.Known Unknown = null.0 in cc)
+known_passes (outcome.Val (Flag true)) true known = refl
+known_passes (outcome.Val (Flag true)) false (inl is) = absurd (let bad : condition.Known True ≡ condition.Known False = is in cc)
+known_passes (outcome.Val (Flag true)) false (inr null) = absurd (let bad : condition.Known True ≡ condition.Known Unknown = null.0 in cc)
+known_passes (outcome.Val (Flag false)) true (inl is) = absurd (let bad : condition.Known False ≡ condition.Known True = is in cc)
+known_passes (outcome.Val (Flag false)) true (inr null) = absurd (let bad : true ≡ false = null.1 in cc)
+known_passes (outcome.Val (Flag false)) false known = refl
+known_passes (outcome.Val Null) b known = unknown_passes b known
+known_passes (outcome.Val (Int i)) b known = unknown_passes b known
+known_passes (outcome.Val (Str cs)) b known = unknown_passes b known
+known_passes (outcome.Val (Bytes cs)) b known = unknown_passes b known
 
 -- the tests that a condition is tell whether a row passes it
 pub tests_where : (schema : List Table) (n : ℕ) (w : Option Expr) (e : Expr) (tests : List NumberTest) → w ≡ Some e → AreTestsOf schema n e tests → AreTestsWhere schema n w tests
 tests_where schema n w e tests is of = record {
   numbers = of.numbers;
   judged = λ t typed own.
-      ap (λ (o : Option Expr). passes o (declared_row schema t)) is ∙ judged_passes (val (declared_row schema t) e) (list_all (meets t.cells) tests) (of.judged t typed own);
+      ap (λ (o : Option Expr). passes o (declared_row schema t)) is ∙ known_passes (val (declared_row schema t) e) (list_all (meets t.cells) tests) (of.judged t typed own);
 }
 
 -- each row passes where there is no condition
@@ -167,7 +187,7 @@ pub needed_where : (schema : List Table) (n : ℕ) (w : Option Expr) (e : Expr) 
 needed_where schema n w e tests is of = record {
   numbers = of.numbers;
   unmet = λ t typed own not_met.
-      ap (λ (o : Option Expr). passes o (declared_row schema t)) is ∙ judged_passes (val (declared_row schema t) e) false (of.unmet t typed own not_met);
+      ap (λ (o : Option Expr). passes o (declared_row schema t)) is ∙ known_passes (val (declared_row schema t) e) false (of.unmet t typed own not_met);
 }
 
 pub none_needed : (schema : List Table) (n : ℕ) (w : Option Expr) (tests : List NumberTest) → tests ≡ [] → AreNeeded schema n w tests

@@ -5,8 +5,6 @@ use Rattle.span_value.specs.declared.value.Value.{Value}
 use Rattle.span_value.specs.declared.value.Value.TheVariants as value
 use Rattle.span_value.specs.declared.value.Kind.{Kind}
 use Rattle.span_value.specs.declared.value.Kind.TheVariants as kind
-use Rattle.span_value.specs.declared.truth.Outcome.{Outcome}
-use Rattle.span_value.specs.declared.truth.Outcome.TheVariants.{Val}
 use Rattle.span_value.specs.declared.truth.Truth.TheVariants.{Unknown}
 use Rattle.span_value.specs.Orders.{value_order}
 use Rattle.span_schema.specs.declared.table.Table.{Table}
@@ -16,11 +14,13 @@ use Rattle.span_rowcode.specs.Rows.{AreCells, IsRow, cell_code, row_code}
 use Rattle.span_mutate.specs.declared.row.TableRow.{TableRow}
 use Rattle.span_mutate.specs.Typed.{IsTyped}
 use Rattle.span_expr.specs.declared.expr.Expr.{Expr}
+use Rattle.span_expr.specs.declared.expr.Comparison.{Comparison}
+use Rattle.span_expr.specs.declared.expr.Comparison.TheVariants.{AtLeast, AtMost}
 use Rattle.span_expr.specs.declared.condition.Condition.{Condition}
 use Rattle.span_expr.specs.declared.condition.Condition.TheVariants as condition
-use Rattle.span_expr.specs.Meaning.{all_of, and_also, val}
-use Rattle.span_expr.specs.Operators.{holds}
-use Rattle.span_expr.specs.Outcomes.{truth_of}
+use Rattle.span_expr.specs.Meaning.{and_also, val}
+use Rattle.span_expr.specs.Operators.{compare_values, holds}
+use Rattle.span_expr.specs.Outcomes.{both, condition_of, strict, truth_of}
 use Rattle.span_planner.specs.Leaves.{width_of}
 use Rattle.span_fragment.specs.declared.number_test.NumberTest.{NumberTest}
 use Rattle.span_fragment.specs.Meaning.{declared_row}
@@ -41,58 +41,73 @@ pub record IsNumberAt (ks : List Kind) (cell : ℕ) : Type 0 where
   pub within : cell < length ks
   pub kind : get_or ks cell kind.Int ≡ kind.Int
 
--- an outcome is TRUE where the answer is true, and FALSE or NULL where it is not
-abbrev pub IsJudged : Outcome → Bool → Type 0
-IsJudged o found = (o ≡ Val (value.Bool found)) ⊎ ((o ≡ Val value.Null) × (found ≡ false))
+-- ---- what tests tell of a condition
+
+-- a condition is known to be TRUE where the answer is true, and to be FALSE or NULL where it is not
+abbrev pub IsKnown : Condition → Bool → Type 0
+IsKnown c found = (c ≡ condition.Known (truth_of (value.Bool found))) ⊎ ((c ≡ condition.Known Unknown) × (found ≡ false))
+
+-- what an expression comes to as a condition, at a row as it is declared
+abbrev pub condition_at : List Table → Expr → TableRow → Condition
+condition_at schema e t = condition_of (val (declared_row schema t) e)
+
+-- what a comparison of two expressions comes to
+abbrev pub comparison_at : List Table → Expr → Comparison → Expr → TableRow → Condition
+comparison_at schema left c right t =
+    condition_of (strict (compare_values c) (val (declared_row schema t) left) (val (declared_row schema t) right))
+
+-- what `operand BETWEEN low AND high` comes to
+abbrev pub between_at : List Table → Expr → Expr → Expr → TableRow → Condition
+between_at schema operand low high t = both (comparison_at schema operand AtLeast low t) (comparison_at schema operand AtMost high t)
+
+-- the test is what a condition comes to at the rows of table n
+pub record IsTestOf (schema : List Table) (n : ℕ) (of : TableRow → Condition) (test : NumberTest) : Type 0 where
+  pub number : IsNumberAt (other_kinds schema n) test.cell
+  pub judged : (t : TableRow) → IsTyped schema t → t.table ≡ n → IsKnown (of t) (meets t.cells test)
 
 -- the tests are what a condition comes to at the rows of table n
 pub record AreTestsOf (schema : List Table) (n : ℕ) (e : Expr) (tests : List NumberTest) : Type 0 where
   pub numbers : AllByRecursion (λ test. IsNumberAt (other_kinds schema n) test.cell) tests
-  pub judged : (t : TableRow) → IsTyped schema t → t.table ≡ n → IsJudged (val (declared_row schema t) e) (list_all (meets t.cells) tests)
+  pub judged : (t : TableRow) → IsTyped schema t → t.table ≡ n
+      → IsKnown (condition_at schema e t) (list_all (meets t.cells) tests)
 
 -- the condition is FALSE or NULL at the rows of table n that do not meet all of the tests
 pub record AreNeededFor (schema : List Table) (n : ℕ) (e : Expr) (tests : List NumberTest) : Type 0 where
   pub numbers : AllByRecursion (λ test. IsNumberAt (other_kinds schema n) test.cell) tests
   pub unmet : (t : TableRow) → IsTyped schema t → t.table ≡ n → list_all (meets t.cells) tests ≡ false
-      → IsJudged (val (declared_row schema t) e) false
+      → IsKnown (condition_at schema e t) false
 
--- the same of one test
-pub record IsNumberTest (schema : List Table) (n : ℕ) (e : Expr) (test : NumberTest) : Type 0 where
-  pub number : IsNumberAt (other_kinds schema n) test.cell
-  pub judged : (t : TableRow) → IsTyped schema t → t.table ≡ n → IsJudged (val (declared_row schema t) e) (meets t.cells test)
+-- ---- the tests of an AND, one condition after another
 
--- ---- the tests of an AND
+-- the tests of some conditions, and after them those of one more: they are what the AND of them comes to
+pub record AddsTests (schema : List Table) (n : ℕ) (of : TableRow → Condition) (old new : List NumberTest) : Type 0 where
+  pub judged : (t : TableRow) → IsTyped schema t → t.table ≡ n → (c : Condition) → IsKnown c (list_all (meets t.cells) old)
+      → IsKnown (both c (of t)) (list_all (meets t.cells) new)
 
--- the tests are what an AND of conditions comes to at the rows of table n
-pub record AreTestsOfAll (schema : List Table) (n : ℕ) (first : Expr) (more : List Expr) (tests : List NumberTest) : Type 0 where
-  pub numbers : AllByRecursion (λ test. IsNumberAt (other_kinds schema n) test.cell) tests
-  pub judged : (t : TableRow) → IsTyped schema t → t.table ≡ n
-      → IsJudged (all_of (val (declared_row schema t) first) (map (val (declared_row schema t)) more)) (list_all (meets t.cells) tests)
-
--- it is known to be TRUE where the answer is true, and to be FALSE or NULL where it is not
-abbrev pub IsKnown : Condition → Bool → Type 0
-IsKnown c found = (c ≡ condition.Known (truth_of (value.Bool found))) ⊎ ((c ≡ condition.Known Unknown) × (found ≡ false))
-
--- the tests of some conditions, and after them those of more, at the rows of table n
-pub record AreMoreTests (schema : List Table) (n : ℕ) (more : List Expr) (old new : List NumberTest) : Type 0 where
+-- ... where not all are met, the AND of them is FALSE or NULL
+pub record AddsNeeded (schema : List Table) (n : ℕ) (of : TableRow → Condition) (old new : List NumberTest) : Type 0 where
   pub numbers : AllByRecursion (λ test. IsNumberAt (other_kinds schema n) test.cell) old
       → AllByRecursion (λ test. IsNumberAt (other_kinds schema n) test.cell) new
+  pub unmet : (t : TableRow) → IsTyped schema t → t.table ≡ n → (c : Condition)
+      → (list_all (meets t.cells) old ≡ false → IsKnown c false) → list_all (meets t.cells) new ≡ false
+      → IsKnown (both c (of t)) false
+
+-- the conditions after one, with it
+abbrev pub and_all : List Table → Condition → List Expr → TableRow → Condition
+and_all schema c more t = fold and_also c (map (val (declared_row schema t)) more)
+
+-- the tests of some conditions, and after them those of several more
+pub record AreMoreTests (schema : List Table) (n : ℕ) (more : List Expr) (old new : List NumberTest) : Type 0 where
   pub judged : (t : TableRow) → IsTyped schema t → t.table ≡ n → (c : Condition) → IsKnown c (list_all (meets t.cells) old)
-      → IsKnown (fold and_also c (map (val (declared_row schema t)) more)) (list_all (meets t.cells) new)
+      → IsKnown (and_all schema c more t) (list_all (meets t.cells) new)
 
--- an AND of conditions is FALSE or NULL at the rows of table n that do not meet all of the tests
-pub record AreNeededForAll (schema : List Table) (n : ℕ) (first : Expr) (more : List Expr) (tests : List NumberTest) : Type 0 where
-  pub numbers : AllByRecursion (λ test. IsNumberAt (other_kinds schema n) test.cell) tests
-  pub unmet : (t : TableRow) → IsTyped schema t → t.table ≡ n → list_all (meets t.cells) tests ≡ false
-      → IsJudged (all_of (val (declared_row schema t) first) (map (val (declared_row schema t)) more)) false
-
--- the tests of some conditions, and after them those of some of more: where not all are met, the AND of them is FALSE or NULL
+-- ... of which some are tests
 pub record AreSomeTests (schema : List Table) (n : ℕ) (more : List Expr) (old new : List NumberTest) : Type 0 where
   pub numbers : AllByRecursion (λ test. IsNumberAt (other_kinds schema n) test.cell) old
       → AllByRecursion (λ test. IsNumberAt (other_kinds schema n) test.cell) new
   pub unmet : (t : TableRow) → IsTyped schema t → t.table ≡ n → (c : Condition)
       → (list_all (meets t.cells) old ≡ false → IsKnown c false) → list_all (meets t.cells) new ≡ false
-      → IsKnown (fold and_also c (map (val (declared_row schema t)) more)) false
+      → IsKnown (and_all schema c more t) false
 
 -- ---- where the cell of a column is
 

@@ -9,7 +9,7 @@ ghost use Rattle.span_rowcode.specs.Cells.{IsNoBody, IsBody};
 ghost use Rattle.span_expr.specs.declared.expr.Expr.TheVariants.{Literal};
 ghost use Rattle.span_expr.specs.Operators.{holds};
 ghost use Rattle.span_fragment.specs.NumberTests as spec;
-ghost use Rattle.span_fragment.specs.NumberTests.{AreMoreTests, AreNeededFor, AreNeededForAll, AreSomeTests, AreTestsOf, AreTestsOfAll, IsNumberAt, IsNumberCell, IsNumberFound, IsNumberTest, IsRestOf, IsWhetherPass};
+ghost use Rattle.span_fragment.specs.NumberTests.{AddsNeeded, AddsTests, AreMoreTests, AreNeededFor, AreSomeTests, AreTestsOf, IsNumberAt, IsNumberCell, IsNumberFound, IsRestOf, IsWhetherPass, between_at, comparison_at, condition_at};
 
 use span_expr::expr::{Comparison, Expr};
 use span_planner::table::width_of;
@@ -83,22 +83,26 @@ fn literal_number(expr: &Expr) -> Option<i64>
     }
 }
 
-/// The test that a condition is. None where it is no comparison of a column of numbers outside the key with a number.
-pub(crate) fn number_test(schema: &Schema, table: usize, condition: &Expr) -> Option<NumberTest>
+/// The test that a comparison is. None where it is not of a column of numbers outside the key with a number.
+fn number_test(
+    schema: &Schema,
+    table: usize,
+    left: &Expr,
+    comparison: Comparison,
+    right: &Expr,
+) -> Option<NumberTest>
     requires { IsTable schema.now table }
-    ensures { IfSome result (λ test. IsNumberTest schema.now table condition.now test) }
+    ensures { IfSome result
+        (λ test. spec.IsTestOf schema.now table (comparison_at schema.now left.now comparison right.now) test) }
 {
-    let Expr::Compare(left, comparison, right) = condition else {
+    let Expr::Column(place) = left else {
         return None;
     };
-    let Expr::Column(place) = left.get() else {
-        return None;
-    };
-    let number = literal_number(right.get())?;
+    let number = literal_number(right)?;
     let cell = number_cell(schema, table, *place)?;
     Some(NumberTest {
         cell,
-        comparison: *comparison,
+        comparison,
         number,
     })
 }
@@ -112,7 +116,78 @@ pub(crate) struct NumberTests {
     pub are_all: bool,
 }
 
-/// Adds the tests that some of the conditions are; whether all of them are tests.
+/// Adds the test that a comparison is; whether it is one.
+fn add_comparison(
+    schema: &Schema,
+    table: usize,
+    left: &Expr,
+    comparison: Comparison,
+    right: &Expr,
+    tests: &mut Vec<NumberTest>,
+) -> Result<bool, AllocError>
+    requires { IsTable schema.now table }
+    ensures all { IfOk result
+        (λ all. all ≡ true
+        → AddsTests schema.now table (comparison_at schema.now left.now comparison right.now) tests.old.items tests.new.items) }
+    ensures some { OnOk result
+        (AddsNeeded schema.now table (comparison_at schema.now left.now comparison right.now) tests.old.items tests.new.items) }
+{
+    match number_test(schema, table, left, comparison, right) {
+        None => Ok(false),
+        Some(test) => {
+            tests.push(test)?;
+            Ok(true)
+        }
+    }
+}
+
+/// Adds the two tests that `operand BETWEEN low AND high` is; whether it is both.
+fn add_between(
+    schema: &Schema,
+    table: usize,
+    operand: &Expr,
+    low: &Expr,
+    high: &Expr,
+    tests: &mut Vec<NumberTest>,
+) -> Result<bool, AllocError>
+    requires { IsTable schema.now table }
+    ensures all { IfOk result
+        (λ all. all ≡ true
+        → AddsTests schema.now table (between_at schema.now operand.now low.now high.now) tests.old.items tests.new.items) }
+    ensures some { OnOk result
+        (AddsNeeded schema.now table (between_at schema.now operand.now low.now high.now) tests.old.items tests.new.items) }
+{
+    let is_low = add_comparison(schema, table, operand, Comparison::AtLeast, low, tests)?;
+    let is_high = add_comparison(schema, table, operand, Comparison::AtMost, high, tests)?;
+    Ok(is_low && is_high)
+}
+
+/// Adds the tests that a condition has; whether it is these.
+fn add_test(
+    schema: &Schema,
+    table: usize,
+    condition: &Expr,
+    tests: &mut Vec<NumberTest>,
+) -> Result<bool, AllocError>
+    requires { IsTable schema.now table }
+    ensures all { IfOk result
+        (λ all. all ≡ true
+        → AddsTests schema.now table (condition_at schema.now condition.now) tests.old.items tests.new.items) }
+    ensures some { OnOk result
+        (AddsNeeded schema.now table (condition_at schema.now condition.now) tests.old.items tests.new.items) }
+{
+    match condition {
+        Expr::Compare(left, comparison, right) => {
+            add_comparison(schema, table, left.get(), *comparison, right.get(), tests)
+        }
+        Expr::Between(operand, low, high) => {
+            add_between(schema, table, operand.get(), low.get(), high.get(), tests)
+        }
+        _ => Ok(false),
+    }
+}
+
+/// Adds the tests that several conditions have; whether they are these.
 fn add_tests(
     schema: &Schema,
     table: usize,
@@ -126,56 +201,14 @@ fn add_tests(
 {
     let mut all = true;
     for condition in conditions {
-        match number_test(schema, table, condition) {
-            None => all = false,
-            Some(test) => tests.push(test)?,
-        }
+        let is_test = add_test(schema, table, condition, tests)?;
+        all = all && is_test;
     }
     Ok(all)
 }
 
-/// Adds the test that a condition is; whether it is one.
-fn add_test(
-    schema: &Schema,
-    table: usize,
-    condition: &Expr,
-    tests: &mut Vec<NumberTest>,
-) -> Result<bool, AllocError>
-    requires table { IsTable schema.now table }
-    requires first { tests.old.items ≡ [] }
-    ensures all { IfOk result (λ all. all ≡ true → AreTestsOf schema.now table condition.now tests.new.items) }
-    ensures some { OnOk result (AreNeededFor schema.now table condition.now tests.new.items) }
-{
-    match number_test(schema, table, condition) {
-        None => Ok(false),
-        Some(test) => {
-            tests.push(test)?;
-            Ok(true)
-        }
-    }
-}
-
-/// Adds the tests of an AND of conditions; whether all of these are tests.
-fn add_tests_of_all(
-    schema: &Schema,
-    table: usize,
-    first: &Expr,
-    more: &[Expr],
-    tests: &mut Vec<NumberTest>,
-) -> Result<bool, AllocError>
-    requires table { IsTable schema.now table }
-    requires first { tests.old.items ≡ [] }
-    ensures all { IfOk result
-        (λ all. all ≡ true → AreTestsOfAll schema.now table first.now more.now tests.new.items) }
-    ensures some { OnOk result (AreNeededForAll schema.now table first.now more.now tests.new.items) }
-{
-    let is_first_one = add_test(schema, table, first, tests)?;
-    let are_more = add_tests(schema, table, more, tests)?;
-    Ok(is_first_one && are_more)
-}
-
-/// The tests that a condition has: those that it is, where it is a comparison of a column of numbers outside the key with a number, and
-/// those of an AND of conditions.
+/// The tests that a condition has: comparisons of columns of numbers outside the key with numbers, also by BETWEEN, alone or among the
+/// conditions of an AND.
 pub(crate) fn number_tests(
     alloc: Global,
     schema: &Schema,
@@ -190,7 +223,9 @@ pub(crate) fn number_tests(
     let mut tests = Vec::new(alloc);
     let are_all = match condition {
         Expr::And(first, more) => {
-            add_tests_of_all(schema, table, first.get(), more.as_slice(), &mut tests)?
+            let is_first = add_test(schema, table, first.get(), &mut tests)?;
+            let are_more = add_tests(schema, table, more.as_slice(), &mut tests)?;
+            is_first && are_more
         }
         _ => add_test(schema, table, condition, &mut tests)?,
     };
