@@ -9,7 +9,7 @@ use Rattle.span_query.specs.Rows.{Row, Rows, ◌>>=◌, append_results, keep_if,
 use Rattle.span_query.specs.Groups.{groups}
 use Rattle.span_algebra.specs.declared.group.Group.{Group}
 use Rattle.span_rows.specs.Answers.{Gives}
-use Rattle.span_algebra.specs.Selecting.{holds_where}
+use Rattle.span_rows.specs.Joining.{holds_where}
 use Rattle.span_algebra.specs.States.{operand_at}
 use Rattle.span_algebra.specs.GroupStates.{AreGroupsOf, AreGroupsWhere, CanCountRow}
 use Rattle.span_rows.proofs.Gathering.{drop_at, gathered_at, one_more, one_less, one_fails, then_fails}

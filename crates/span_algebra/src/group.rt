@@ -10,12 +10,12 @@ ghost use Rattle.span_algebra.specs.States.{AreStatesOf, CanCountOne, operand_at
 ghost use Rattle.span_algebra.specs.GroupStates.{keys_of, AreGroupsOf, AreGroupsWhere, CanCountRow, HasPlace};
 
 use super::aggregate::State;
-use super::select::is_kept;
 use super::states::{new_states, row_with, take_all};
 use indexmap::IndexSet;
 use span_expr::cell::Failure;
 use span_expr::expr::Expr;
 use span_query::query::{Aggregate, Grouping};
+use span_rows::filter::is_kept;
 use span_rows::key::LentKey;
 use span_rows::row::{add, copy_of, copy_row};
 use span_rows::row_list::RowList;

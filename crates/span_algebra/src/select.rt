@@ -2,11 +2,11 @@
 ghost use Rattle.std.specs.Prelude.{◌≡◌};
 ghost use Rattle.span_query.specs.Rows.{unless_fault, filter_where, project_rows, values};
 ghost use Rattle.span_rows.specs.Answers.{Gives, Puts};
-ghost use Rattle.span_algebra.specs.Selecting.{holds_where};
 
 use span_expr::cell::Failure;
 use span_expr::expr::Expr;
-use span_rows::row::{add, is_met, value_at};
+use span_rows::filter::is_kept;
+use span_rows::row::{add, value_at};
 use span_rows::row_list::RowList;
 use span_value::value::Value;
 use std::alloc::Global;
@@ -25,16 +25,6 @@ fn put_values(
         add(found, value_at(alloc, output, row)?)?;
     }
     Ok(())
-}
-
-/// Whether the condition is TRUE at the row, or there is none.
-pub(crate) fn is_kept(alloc: Global, filter: &Option<Expr>, row: &[Value]) -> Result<bool, Failure>
-    ensures { Gives result (holds_where filter.now row.now) }
-{
-    match filter {
-        Some(condition) => is_met(alloc, condition, row),
-        None => Ok(true),
-    }
 }
 
 /// The select list at the rows where the condition is TRUE.

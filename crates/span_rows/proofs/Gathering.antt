@@ -73,9 +73,3 @@ pub adding_fails_at : {A B : Type 0} (why : Failure) (f : A → OrFault (List B)
     → concat_map f xs ≡ append_results (Some old) (concat_map f (drop k xs)) → Adds (Err why) (f x) old new → Gives (Err why) (concat_map f xs)
 adding_fails_at why f xs k x below is old new so_far fails =
     one_fails why _ _ (f x) _ old so_far (gathered_at f xs k x below is) (adding-fails why (f x) old new fails)
-
--- what adds nothing to a list is the fault itself
-pub adds_fail : {A : Type 0} (why : Failure) (o : OrFault (List A)) (first new : List A) → Gives (Err why) (append_results (Some first) o) → Adds (Err why) o first new
-adds_fail Fault (Some xs) first new e = absurd cc
-adds_fail Fault None first new e = refl
-adds_fail OutOfMemory o first new e = tt {0}

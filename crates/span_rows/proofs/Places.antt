@@ -1,6 +1,8 @@
 -- The keys of groups: the place of a key among them, and one more key.
-use Rattle.std.proofs.Common.{◌≡◌, ◌≢◌, ℕ, zero, suc, ◌+◌, ◌<◌, ◌≤◌, Bool, true, false, cond, not, ◌||◌, List, [], ◌∷◌, ◌++◌, length, get_or, map, refl, sym, ap, ◌∙◌, arith}
-use Rattle.std.specs.List.{filter}
+use Rattle.std.proofs.Common.{◌≡◌, ◌≢◌, ℕ, zero, suc, ◌+◌, ◌<◌, ◌≤◌, Bool, true, false, cond, not, ◌||◌, List, [], ◌∷◌, ◌++◌, length, get_or, map, Some, refl, sym, ap, ◌∙◌, arith}
+use Rattle.std.specs.Prelude.{slice_get}
+use Rattle.std.proofs.lemmas.Option.{get_or_from_slice_get}
+use Rattle.std.specs.List.{AllByRecursion, IsDistinct, filter}
 use Rattle.std.proofs.lemmas.List.{map-append}
 use Rattle.std.proofs.lemmas.List.Elements.{filter-append}
 use Rattle.std.proofs.lemmas.List.Folds.{list_any-append}
@@ -37,6 +39,27 @@ place_tells (x ∷ ks) k = elim (are_equal x k) as (λ b. (cond b zero (suc (pla
   | true ↦ (λ h. refl, λ h. absurd (omega arith))
   | false ↦ (λ h. (place_tells ks k).0 (omega arith), λ h. (place_tells ks k).1 (omega arith))
 ]
+
+-- ---- the place of a key of which there is no other
+
+none_after : (x : Row) (ks : List Row) (i : ℕ) (d : Row) → AllByRecursion (λ y. are_equal x y ≡ false) ks → i < length ks → are_equal x (get_or ks i d) ≡ false
+none_after x [] i d all less = absurd (omega arith)
+none_after x (y ∷ ks) zero d all less = all.0
+none_after x (y ∷ ks) (suc i) d all less = none_after x ks i d all.1 (omega arith)
+
+pub place_of_own : (ks : List Row) (i : ℕ) (k d : Row) → IsDistinct are_equal ks → i < length ks → k ≡ get_or ks i d → i ≡ place_of ks k
+unfolding IsDistinct
+place_of_own [] i k d apart less is = absurd (omega arith)
+place_of_own (x ∷ ks) zero k d apart less is =
+    sym (ap (λ (b : Bool). cond b zero (suc (place_of ks k))) (ap (are_equal x) is ∙ are_equal-itself x))
+place_of_own (x ∷ ks) (suc i) k d apart less is =
+    ap (λ (n : ℕ). suc n) (place_of_own ks i k d apart.1 (omega arith) is)
+    ∙ sym (ap (λ (b : Bool). cond b zero (suc (place_of ks k))) (ap (are_equal x) is ∙ none_after x ks i d apart.0 (omega arith)))
+
+-- the place where an index has a key that is equal to this one
+pub known_place : (ks : List Row) (i : ℕ) (known k : Row) → IsDistinct are_equal ks → i < length ks → slice_get ks i ≡ Some known → are_equal known k ≡ true → i ≡ place_of ks k
+known_place ks i known k apart less there same =
+    place_of_own ks i k k apart less (sym (are_equal-same known k same) ∙ sym (get_or_from_slice_get ks i known k there))
 
 -- ---- keys that are apart
 

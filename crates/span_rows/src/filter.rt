@@ -2,7 +2,7 @@
 ghost use Rattle.std.specs.Prelude.{◌≡◌};
 ghost use Rattle.span_query.specs.Rows.{filter_rows, filter_where};
 ghost use Rattle.span_rows.specs.Answers.{Adds, Gives};
-ghost use Rattle.span_rows.specs.Joining.{filter_row};
+ghost use Rattle.span_rows.specs.Joining.{filter_row, holds_where};
 
 use super::row::is_met;
 use super::row_list::RowList;
@@ -10,6 +10,16 @@ use span_expr::cell::Failure;
 use span_expr::expr::Expr;
 use span_value::value::Value;
 use std::alloc::Global;
+
+/// Whether the condition is TRUE at the row, or there is none. The error is an arithmetic error, or out of memory.
+pub fn is_kept(alloc: Global, filter: &Option<Expr>, row: &[Value]) -> Result<bool, Failure>
+    ensures { Gives result (holds_where filter.now row.now) }
+{
+    match filter {
+        Some(condition) => is_met(alloc, condition, row),
+        None => Ok(true),
+    }
+}
 
 /// Adds a copy of the row where the condition is TRUE at it.
 fn add_if_met(

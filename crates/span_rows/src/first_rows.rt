@@ -1,8 +1,8 @@
 //! The first rows in the order of some keys, without an order of the others.
-ghost use Rattle.std.specs.Prelude.{◌≡◌, ◌∷◌, ◌++◌, ◌≤◌, IfOk, OnOk, drop, length, take, true};
+ghost use Rattle.std.specs.Prelude.{◌≡◌, ◌≤◌, IfOk, OnOk, length, take, true};
 ghost use Rattle.span_query.specs.Sorting.{comes_before, insert_sorted, sorted};
 ghost use Rattle.span_rows.specs.LentRows.{lent_rows};
-ghost use Rattle.span_rows.specs.Orders.{IsSorted};
+ghost use Rattle.span_rows.specs.Orders.{GoesBefore, IsSorted};
 
 use super::sort::compare_rows;
 use span_query::query::SortKey;
@@ -19,7 +19,7 @@ fn is_before(keys: &[SortKey], left: &[Value], right: &[Value]) -> bool
 /// The place among rows before which a row is to be put: that of the first that does not come before it.
 fn place_in_order(keys: &[SortKey], rows: &[&[Value]], row: &[Value]) -> usize
     ensures within { result ≤ length rows.now }
-    ensures place { insert_sorted (comes_before keys.now) row.now (lent_rows rows.now) ≡ take result (lent_rows rows.now) ++ row.now ∷ drop result (lent_rows rows.now) }
+    ensures place { GoesBefore (comes_before keys.now) row.now (lent_rows rows.now) result }
 {
     for at in 0..rows.len() {
         if !is_before(keys, rows[at], row) {

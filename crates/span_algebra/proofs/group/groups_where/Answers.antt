@@ -5,7 +5,7 @@ use Rattle.span_query.specs.Rows.{Row, ◌>>=◌, filter_where}
 use Rattle.span_query.specs.Groups.{groups}
 use Rattle.span_rows.specs.Answers.{Gives}
 use Rattle.span_algebra.specs.GroupStates.{keys_of, AreGroupsOf}
-use Rattle.span_algebra.specs.Selecting.{holds_where}
+use Rattle.span_rows.specs.Joining.{holds_where}
 use Rattle.span_algebra.proofs.Passes.{HavePassed, pass_fails, take_fails, pass_keeps, pass_drops, groups_passed}
 use Rattle.span_algebra.proofs.group.groups_where.Goals.{then-branch+in_ok-take_row, else-branch}
 use Rattle.span_algebra.proofs.group.groups_where.Goals as goal
