@@ -8,7 +8,7 @@ use Rattle.span_arena.specs.Content.{Content, Prepared, versions, versions_in, p
 use Rattle.span_arena.proofs.Counts.{one_for-at, one_for-same}
 use Rattle.span_keyindex.specs.Arenas.{in_use, IsWithoutUnused}
 use Rattle.span_keyindex.specs.Entries.{Entry}
-use Rattle.span_maderows.proofs.Lists.{all_map, all_filter_itself}
+use Rattle.span_maderows.proofs.Lists.{all_map, all_filter_itself, filter-map}
 use Rattle.span_shard.specs.declared.node.PreparedNode.{PreparedNode}
 use Rattle.span_shard.specs.Versions.{is_empty, is_used}
 use Rattle.span_shard.specs.Stored.{version_of, chain_versions, is_for, write_of, write_for, kept, kept_entry, all_kept, count_for, IsNodeOf, AreOwned}

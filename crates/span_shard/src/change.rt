@@ -9,13 +9,13 @@ ghost use Rattle.span_shard.specs.Reading.{is_same_row, AreWrites, IsFault, IsPr
 ghost use Rattle.span_shard.specs.Overlay.{changes_of, AreWrittenFrom, AreWritesAt};
 
 use super::lookups::Lookups;
-use super::made::MadeRows;
 use super::overlay::Changes;
 use super::run::run;
 use super::store::Store;
 use super::write::{NearWrite, Write};
 use span_keycode::key::Key;
 use span_keyindex::near::NO_CHAIN;
+use span_maderows::made::MadeRows;
 use span_mutate::mutation::CheckedMutation;
 use span_schema::schema::Schema;
 use span_value::refusal::Refusal;

@@ -6,9 +6,9 @@ ghost use Rattle.span_shard.specs.Shard.{AreInOrder};
 ghost use Rattle.span_shard.specs.Overlay.{no_change, changed_at, row_over, row_under, is_unchanged, AreCleared, HasSameCleared, AddsCleared, AreUnder, AreUnchangedUnder, IsPutAt, AreRemoved};
 
 use super::lookups::Lookups;
-use super::made::MadeRows;
 use super::place::StoredKey;
 use span_keycode::key::Key;
+use span_maderows::made::MadeRows;
 use span_value::seq::Seq;
 use std::alloc::{AllocError, Global};
 use std::collections::BTreeSet;
