@@ -1,5 +1,5 @@
 //! What lies under the journal's lock: the journal, and the seat that knows its log and what each slot is to have.
-ghost use Rattle.std.specs.Prelude.{◌≡◌, ◌<◌, ◌++◌, ◌∷◌, [], true, false, List, Ok, IfOk, IfErr, IfSome, OnErr, MatchResult, Some, None, find, length, slice_get, remove};
+ghost use Rattle.std.specs.Prelude.{◌≡◌, ◌<◌, true, false, List, Ok, IfOk, IfErr, IfSome, OnErr, MatchResult, Some, None, find, length, slice_get, remove};
 ghost use Rattle.span_mutate.specs.Typed.{AreTypedMutations};
 ghost use Rattle.span_truetime.specs.Limits.{timestamp_end};
 ghost use Rattle.span_truetime.specs.Time.{timestamp_of};
@@ -17,7 +17,7 @@ ghost use Rattle.span_locks.specs.Answers.{IsAnswered};
 ghost use Rattle.span_locks.specs.Refusing.{IsUnscanned, IsFault, IsEndRefused};
 ghost use Rattle.span_locks.specs.Held.{IsKeeper};
 ghost use Rattle.span_locks.specs.Replies.{IsMachineOf, Replies, MayReply, LacksTransaction, RepliesToCommit, IsNext};
-ghost use Rattle.span_locks.specs.Rule.{Extends, Sees, known_at};
+ghost use Rattle.span_locks.specs.Rule.{Extends, Sees, known_at, own_commit, with_begun};
 
 use crate::begun::Begun;
 use crate::board::{Board, Naming, View};
@@ -107,7 +107,7 @@ impl<J: Naming> LockedJournal<J> {
         interval: Interval,
     ) -> Result<u64, Refusal>
         ensures ok { IfOk result
-            (λ ts. Extends me.old (record { timestamp = ts; number = number; owner = me.old.owner; mutations = copy }) me.new) }
+            (λ ts. Extends me.old (own_commit me.old number ts copy) me.new) }
         ensures err { OnErr result (me.new ≡ me.old) }
         ensures begun { me.new.begun ≡ me.old.begun }
         ensures reply { RepliesToCommit J.schema self.old me.old.owner number copy interval (as_reply reply_of.Decided result) }
@@ -151,7 +151,7 @@ impl<J: Naming> LockedJournal<J> {
         requires { AreTypedMutations J.schema transaction }
         ensures same { self.new ≡ self.old }
         ensures kept { MatchResult result
-            (λ number. me.new ≡ record me.old { begun = me.old.begun ++ (record { number = number; mutations = copy }) ∷ [] })
+            (λ number. me.new ≡ with_begun me.old number copy)
             (λ why. me.new ≡ me.old) }
         ensures reply { MayReply J.schema self.old
             (λ m. begin m me.old.owner transaction)
@@ -183,7 +183,7 @@ impl<J: Naming> LockedJournal<J> {
             (λ ts.
             IfSome (slice_get me.old.begun place)
             (λ b.
-            Extends me.old (record { timestamp = ts; number = b.number; owner = me.old.owner; mutations = b.mutations }) me.new
+            Extends me.old (own_commit me.old b.number ts b.mutations) me.new
             × (me.new.begun ≡ remove me.old.begun place))) }
         ensures err { OnErr result (me.new ≡ me.old) }
         ensures reply { IfSome (slice_get me.old.begun place)

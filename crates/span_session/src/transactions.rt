@@ -1,5 +1,5 @@
 //! Transactions one step at a time.
-ghost use Rattle.std.specs.Prelude.{◌≡◌, ◌<◌, ◌++◌, ◌∷◌, [], ℕ, IfErr, OnOk, MatchOption, MatchResult};
+ghost use Rattle.std.specs.Prelude.{◌≡◌, ◌<◌, ℕ, IfErr, OnOk, MatchOption, MatchResult};
 ghost use Rattle.span_mutate.specs.Typed.{AreTypedMutations};
 ghost use Rattle.span_truetime.specs.declared.interval.Interval.{Interval};
 ghost use Rattle.span_machine.specs.Limits.{most_slots};
@@ -8,7 +8,7 @@ ghost use Rattle.span_machine.specs.declared.step.Reply.TheVariants as reply_of;
 ghost use Rattle.span_parts.specs.Replies.{as_reply, decision_reply};
 ghost use Rattle.span_locks.specs.Replies.{RepliesOnce, RepliesAt, MayReplyOnce, MayReplyAt, RepliesToBegun, RepliesToVerdict, RepliesToDecision};
 ghost use Rattle.span_locks.specs.Replies.{IsAmong, IsPrepareRefusal, begin_refusals, apply_refusals, decide_refusals};
-ghost use Rattle.span_locks.specs.Rule.{Decides, Forgets, IsBegunAt};
+ghost use Rattle.span_locks.specs.Rule.{Decides, Forgets, IsBegunAt, with_begun};
 
 use crate::db::Db;
 use span_locks::board::Naming;
@@ -30,7 +30,7 @@ impl<J: Naming> Db<J> {
     ) -> Result<u64, Refusal>
         requires { AreTypedMutations J.schema transaction }
         ensures kept { MatchResult result
-            (λ number. me.new ≡ record me.old { begun = me.old.begun ++ (record { number = number; mutations = transaction }) ∷ [] })
+            (λ number. me.new ≡ with_begun me.old number transaction)
             (λ why. me.new ≡ me.old) }
         ensures reply { MayReplyOnce J.schema
             (λ m. begin m me.old.owner transaction)
