@@ -1,5 +1,5 @@
 //! The journal and its calls.
-ghost use Rattle.std.specs.Prelude.{◌≡◌, ℕ, List, ◌<◌, ◌+◌, ◌^◌, [], ◌∷◌, ◌++◌, length, count_by, find, slice_get, IfOk, IfErr, IfSome, IfNone, MatchOption, OnOk, OnErr, Some, None, Ok, true};
+ghost use Rattle.std.specs.Prelude.{◌≡◌, ℕ, List, ◌<◌, ◌≤◌, ◌+◌, ◌^◌, [], ◌∷◌, ◌++◌, length, count_by, find, slice_get, IfOk, IfErr, IfSome, IfNone, MatchOption, OnOk, OnErr, Some, None, Ok, true};
 ghost use Rattle.span_machine.specs.Machine.{Answers, IsAnswer, start, is_transaction, is_undecided, is_query, commit_refusal, commit_timestamp, begin, begun, decide, apply_step, advance, trim, trim_refusal, open_query, open_refusal, finish, close, refused, without_first, is_prepared_at, split_at, split_in_two};
 ghost use Rattle.span_journal.specs.declared.journal.TheConstants.{MOST_TRANSACTIONS, MOST_COMMITS, MOST_QUERIES, MOST_SLOTS, NUMBER_END};
 ghost use Rattle.span_machine.specs.Limits.{most_transactions, most_commits, most_queries, most_slots, number_end};
@@ -185,6 +185,13 @@ impl Journal {
         ensures { result.now ≡ self.now.log }
     {
         self.log.as_slice()
+    }
+
+    /// A law, which takes no time: the log has no more commits than it may.
+    pub fn log_is_limited(&self)
+        ensures { length self.now.log ≤ most_commits }
+    {
+        let _log = self.log.as_slice();
     }
 
     /// The mutations of an open transaction. None where there is none of this owner and number.

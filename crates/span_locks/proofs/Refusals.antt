@@ -1,6 +1,6 @@
 -- What the machine replies to a step: which refusals, and what is true of the other replies.
-use Rattle.std.proofs.Common.{◌≡◌, ◌⊎◌, ◌≤◌, ◌<◌, ◌-◌, ℕ, Bool, true, false, ◌==◌, ◌||◌, cond, not, nat_le, nat_lt, List, [], ◌∷◌, length, Option, Some, None, Result, Ok, Err, refl, sym, ap, ◌∙◌, subst, inl, inr, arith}
-use Rattle.std.specs.Prelude.{find, map, max, slice_get}
+use Rattle.std.proofs.Common.{◌≡◌, ◌⊎◌, ◌≤◌, ◌<◌, ◌+◌, ◌-◌, ℕ, Bool, true, false, ◌==◌, ◌||◌, cond, not, nat_le, nat_lt, List, [], ◌∷◌, length, Option, Some, None, Result, Ok, Err, refl, sym, ap, ◌∙◌, subst, inl, inr, arith}
+use Rattle.std.specs.Prelude.{count_by, find, map, max, slice_get}
 use Rattle.std.specs.List.{list_any}
 use Rattle.std.proofs.Math.Nat.{le-max_right}
 use Rattle.std.proofs.lemmas.Bool.{leb-false}
@@ -24,11 +24,11 @@ use Rattle.span_machine.specs.declared.transaction.Decision.{Decision}
 use Rattle.span_machine.specs.declared.transaction.Decision.TheVariants as decision
 use Rattle.span_machine.specs.declared.transaction.OpenTransaction.{OpenTransaction}
 use Rattle.span_machine.specs.Kept as kept
-use Rattle.span_machine.specs.Limits.{most_slots}
-use Rattle.span_machine.specs.Machine.{Machine, Answer, refused, if_some, refusal_of, unless_refused, for_slot, has_conflict, is_early, is_safe, with_horizon, is_transaction, is_undecided, is_prepared_at, mutations_in, prepare_refusal, mutations_refusal, capacity_refusal, prepare_timestamp, prepared, prepare_transaction, prepare, aborted, decide_transaction, decide, apply_refusal, applied_at, apply_transaction, apply_step, advanced, advance, trim_refusal, trimmed, trim_slot, trim, begins_at, slot_of, split_refusal, split_in_two, split_slot, split_at}
+use Rattle.span_machine.specs.Limits.{most_transactions, most_commits, most_slots, number_end}
+use Rattle.span_machine.specs.Machine.{Machine, Answer, refused, if_some, refusal_of, unless_refused, for_slot, has_conflict, is_early, is_safe, with_horizon, is_transaction, is_undecided, is_prepared_at, is_all_prepared, mutations_in, begin_refusal, begun, begin, prepare_refusal, mutations_refusal, capacity_refusal, prepare_timestamp, prepared, prepare_transaction, prepare, commit_refusal, commit_timestamp, committed, aborted, decide_transaction, decide, apply_refusal, applied_at, apply_transaction, apply_step, advanced, advance, trim_refusal, trimmed, trim_slot, trim, begins_at, slot_of, split_refusal, split_in_two, split_slot, split_at}
 use Rattle.span_machine_laws.proofs.Reached.{IsReached, reached_tables}
 use Rattle.span_machine_laws.proofs.Splits.{may_split}
-use Rattle.span_locks.specs.Replies.{at_slot, IsAmong, IsPrepareRefusal, apply_refusals, abort_refusals, prepare_refusals, split_refusals, trim_refusals}
+use Rattle.span_locks.specs.Replies.{at_slot, IsAmong, IsPrepareRefusal, begin_refusals, apply_refusals, abort_refusals, decide_refusals, prepare_refusals, split_refusals, trim_refusals}
 
 -- ---- replies of one kind
 
@@ -48,6 +48,9 @@ split_same : (a b : ℕ) → reply.Split a ≡ reply.Split b → a ≡ b
 split_same a b e = cc
 
 -- a refusal is no other reply
+refused_began : (a : Refusal) (n : ℕ) → reply.Refused a ≡ reply.Began n → ⊥
+refused_began a n e = absurd (cc e)
+
 refused_floor : (a : Refusal) (n : ℕ) → reply.Refused a ≡ reply.Floor n → ⊥
 refused_floor a n e = absurd (cc e)
 
@@ -178,6 +181,19 @@ module _ (m : Machine) (key : List ℕ) where
 
 -- ---- transactions
 
+module _ (m : Machine) (owner : ℕ) (ms : List CheckedMutation) where
+  pub begin_refused : (why : Refusal) → reply.Refused why ≡ (begin m owner ms).0 → IsAmong begin_refusals why
+  begin_refused why e = by (unless_cause m (begin_refusal m) (begun m owner ms) why e)
+    where
+      full : IsAmong (refusal.TransactionTableFull ∷ refusal.LogFull ∷ []) why → IsAmong begin_refusals why
+      full (inl f) = inl f
+      full (inr (inl f)) = inr (inl f)
+      full (inr (inr f)) = absurd f
+
+      by : (begin_refusal m ≡ Some why) ⊎ (reply.Refused why ≡ (begun m owner ms).0) → IsAmong begin_refusals why
+      by (inl is) = full (among_causes ((nat_le most_transactions (length m.transactions) || nat_le number_end m.next_transaction, refusal.TransactionTableFull) ∷ (nat_le most_commits (length m.log + count_by is_undecided m.transactions), refusal.LogFull) ∷ []) why is)
+      by (inr f) = absurd (refused_began why m.next_transaction f)
+
 module _ (m : Machine) (owner txn slot : ℕ) (interval : Interval) where
   pub apply_refused : (why : Refusal) → reply.Refused why ≡ (apply_step m owner txn slot interval).0 → IsAmong apply_refusals why
   apply_refused why e = by (find (is_transaction owner txn) m.transactions) e
@@ -213,6 +229,17 @@ module _ (schema : List Table) (m : Machine) (owner txn : ℕ) (interval : Inter
       by : (o : Option OpenTransaction) → reply.Refused why ≡ (if_some o (refused m refusal.UnknownTransaction) (decide_transaction schema m owner txn verdict.Abort interval)).0 → IsAmong abort_refusals why
       by None f = inl (refused_same why refusal.UnknownTransaction f)
       by (Some t) f = cause t (unless_cause m (state_refusal t) (aborted m owner txn t) why f)
+
+  pub commit_refused : (why : Refusal) → reply.Refused why ≡ (decide schema m owner txn verdict.Commit interval).0 → IsAmong decide_refusals why
+  commit_refused why e = by (find (is_transaction owner txn) m.transactions) e
+    where
+      cause : (t : OpenTransaction) → (commit_refusal schema m t interval ≡ Some why) ⊎ (reply.Refused why ≡ (committed m owner txn (commit_timestamp m t interval) t).0) → IsAmong decide_refusals why
+      cause t (inl is) = inr (among_causes ((not (is_undecided t) || not (is_all_prepared schema m t), refusal.WrongState) ∷ (nat_le timestamp_end (commit_timestamp m t interval), refusal.TimestampRange) ∷ []) why is)
+      cause t (inr f) = absurd (refused_decided why (commit_timestamp m t interval) f)
+
+      by : (o : Option OpenTransaction) → reply.Refused why ≡ (if_some o (refused m refusal.UnknownTransaction) (decide_transaction schema m owner txn verdict.Commit interval)).0 → IsAmong decide_refusals why
+      by None f = inl (refused_same why refusal.UnknownTransaction f)
+      by (Some t) f = cause t (unless_cause m (commit_refusal schema m t interval) (committed m owner txn (commit_timestamp m t interval) t) why f)
 
   -- an abort commits nothing
   pub abort_undecided : (ts : ℕ) → reply.Decided ts ≡ (decide schema m owner txn verdict.Abort interval).0 → ⊥

@@ -1,11 +1,12 @@
 -- The journal under its lock is a machine that goes with what the rule knows of it, and its reply is the answer.
 use Rattle.std.proofs.Common.{◌≡◌, ◌⊎◌, ◌≤◌, ◌<◌, ℕ, List, [], ◌∷◌, length, Option, Some, None, Result, Ok, Err, refl, sym, ap, ◌∙◌, subst, inl, inr, arith}
-use Rattle.std.specs.Prelude.{slice_get, slice_set, IfOk, IfErr, MatchOption}
+use Rattle.std.specs.Prelude.{slice_get, slice_set, IfOk, IfErr, IfSome, MatchOption}
 use Rattle.std.proofs.lemmas.Option.{slice_get_past, slice_get-get_or}
 use Rattle.atomic_table.specs.Seated.{TableId}
 use Rattle.span_value.specs.declared.refusal.Refusal.{Refusal}
 use Rattle.span_value.specs.declared.refusal.Refusal.TheVariants as refusal
 use Rattle.span_schema.specs.declared.table.Table.{Table}
+use Rattle.span_mutate.specs.declared.mutation.CheckedMutation.{CheckedMutation}
 use Rattle.span_truetime.specs.declared.interval.Interval.{Interval}
 use Rattle.span_arena.specs.Limits.{most_nodes}
 use Rattle.span_shard.specs.KeyVersions.{KeyVersions}
@@ -13,22 +14,24 @@ use Rattle.span_shard.specs.Shard as shard
 use Rattle.span_machine.specs.declared.slot.SlotState.{SlotState}
 use Rattle.span_machine.specs.declared.step.Reply.{Reply}
 use Rattle.span_machine.specs.declared.step.Reply.TheVariants as reply
+use Rattle.span_machine.specs.declared.step.Verdict.{Verdict}
 use Rattle.span_machine.specs.declared.step.Verdict.TheVariants as verdict
 use Rattle.span_machine.specs.Kept as kept
 use Rattle.span_machine.specs.Limits.{most_slots}
-use Rattle.span_machine.specs.Machine.{Machine, Answer, Answers, IsAnswer, refused, if_some, unless_refused, first_slot, prepare, decide, apply_step, advance, trim, trim_refusal, trim_slot, trimmed, with_horizon, split_at}
+use Rattle.span_machine.specs.Machine.{Machine, Answer, Answers, IsAnswer, refused, if_some, unless_refused, first_slot, begin, prepare, decide, apply_step, advance, trim, trim_refusal, trim_slot, trimmed, with_horizon, split_at}
 use Rattle.span_machine.specs.Pieces.{Journaled, machine_of}
 use Rattle.span_journal.specs.Judged.{MaySplit}
 use Rattle.span_parts.specs.Replies.{as_reply, decision_reply}
 use Rattle.span_parts.specs.Whole.{IsWhole, BelongsAt, GoesAt}
 use Rattle.span_parts.proofs.Applying.{live_here}
 use Rattle.span_parts.proofs.Changes.{set_there}
+use Rattle.span_locks.specs.declared.begun.Begun.{Begun}
 use Rattle.span_locks.specs.declared.board.Role.{Role}
 use Rattle.span_locks.specs.Held.{IsKeeper}
 use Rattle.span_locks.specs.Known.{Known}
-use Rattle.span_locks.specs.Rule.{known_at}
-use Rattle.span_locks.specs.Replies.{IsMachineOf, Replies, MayReply, RepliesOnce, MayReplyOnce, RepliesAt, MayReplyAt, at_slot, IsAmong, IsPrepareRefusal, apply_refusals, abort_refusals, split_refusals, trim_refusals, IsErrAmong}
-use Rattle.span_locks.proofs.Refusals.{refused_same, at_slot_cause, advance_refused, advance_floor, trim_refused, split_refused, split_number, cut_within, apply_refused, abort_refused, abort_undecided, prepare_refused}
+use Rattle.span_locks.specs.Rule.{SessionHistory, IsBegunAt, known_at}
+use Rattle.span_locks.specs.Replies.{IsMachineOf, Replies, MayReply, RepliesOnce, MayReplyOnce, RepliesAt, MayReplyAt, at_slot, RepliesToCommit, RepliesToCommitOnce, RepliesToBegun, RepliesToVerdict, RepliesToDecision, IsBeginRefused, IsPrepareRefused, IsUndecided, IsUncommitted, IsAmong, IsPrepareRefusal, IsCommitRefusal, begin_refusals, apply_refusals, abort_refusals, decide_refusals, split_refusals, trim_refusals, IsErrAmong}
+use Rattle.span_locks.proofs.Refusals.{refused_same, at_slot_cause, advance_refused, advance_floor, trim_refused, split_refused, split_number, cut_within, apply_refused, begin_refused, commit_refused, abort_refused, abort_undecided, prepare_refused}
 
 -- ---- slots of a machine
 
@@ -163,6 +166,34 @@ module _ (schema : List Table) (slot : ℕ) where
   pub prepare_why_is : (owner txn : ℕ) (why : Refusal) → MayReplyAt schema slot (λ m. prepare schema m owner txn slot) (reply.Refused why) → IsPrepareRefusal why
   prepare_why_is owner txn why x = prepare_refusal_is owner txn (Err why) x
 
+module _ (schema : List Table) (owner : ℕ) (ms : List CheckedMutation) where
+  pub begin_why_is : (why : Refusal) → IsBeginRefused schema owner ms why → IsAmong begin_refusals why
+  begin_why_is why (inl e) = inr (inr (inl (refused_same why refusal.OutOfMemory e)))
+  begin_why_is why (inr x) = begin_refused x.1.machine owner ms why x.1.is
+
+  pub begin_refusal_is : (r : Result ℕ Refusal) → MayReplyOnce schema (λ m. begin m owner ms) (as_reply reply.Began r) → IfErr r (IsAmong begin_refusals)
+  begin_refusal_is (Ok n) x = tt
+  begin_refusal_is (Err why) x = begin_why_is why x
+
+  pub commit_why_is : (txn : ℕ) (interval : Interval) (why : Refusal) → RepliesToCommitOnce schema owner txn ms interval (reply.Refused why) → IsAmong decide_refusals why
+  commit_why_is txn interval why x = by x.1
+    where
+      by : RepliesToCommit schema x.0 owner txn ms interval (reply.Refused why) → IsAmong decide_refusals why
+      by (inl e) = inl (refused_same why refusal.UnknownTransaction e.0)
+      by (inr y) = commit_refused schema y.machine owner txn interval why y.is
+
+  pub uncommitted_is : (gives : Interval → Type 0) (why : Refusal) → IsUncommitted schema owner ms gives why → IsCommitRefusal why
+  uncommitted_is gives why (inl e) = inl (begin_why_is why e)
+  uncommitted_is gives why (inr x) = by x.1
+    where
+      at_a_slot : (slot : ℕ) → MayReplyOnce schema (at_slot slot (λ m. prepare schema m owner x.0 slot)) (reply.Refused why) → MayReplyAt schema slot (λ m. prepare schema m owner x.0 slot) (reply.Refused why)
+      at_a_slot slot (inl e) = inl e
+      at_a_slot slot (inr y) = inr (inr y)
+
+      by : IsUndecided schema owner x.0 ms gives why → IsCommitRefusal why
+      by (inl e) = inr (inl (prepare_why_is schema e.0 owner x.0 why (at_a_slot e.0 e.1)))
+      by (inr e) = inr (inr (commit_why_is x.0 e.0 why e.2))
+
 module _ (schema : List Table) (owner txn : ℕ) (interval : Interval) where
   pub abort_refusal_is : (r : Result (Option ℕ) Refusal) → RepliesOnce schema (λ m. decide schema m owner txn verdict.Abort interval) (as_reply decision_reply r) → IfErr r (IsAmong abort_refusals)
   abort_refusal_is (Ok o) x = tt
@@ -172,6 +203,46 @@ module _ (schema : List Table) (owner txn : ℕ) (interval : Interval) where
   abort_none_is (Ok None) x = refl
   abort_none_is (Ok (Some ts)) x = absurd (abort_undecided schema x.1.machine owner txn interval ts x.1.is)
   abort_none_is (Err why) x = tt
+
+-- ---- decisions
+
+-- what a session has begun at a place is decided as of the number under which it has begun it
+pub begun_replies : (schema : List Table) (known : Known) (session : SessionHistory) (number place : ℕ) (at : IsBegunAt session number place) (interval : Interval) (r : Reply)
+    → IfSome (slice_get session.begun place) (λ b. RepliesToCommit schema known session.owner b.number b.mutations interval r) → RepliesToBegun schema session number interval r
+begun_replies schema known session number place at interval r x =
+    let is = subst (λ (o : Option Begun). IfSome o (λ b. RepliesToCommit schema known session.owner b.number b.mutations interval r)) at.there x in
+    record {
+      place = place;
+      at = at;
+      replies = (known, subst (λ (n : ℕ). RepliesToCommit schema known session.owner n at.begun.mutations interval r) at.numbered is);
+    }
+
+-- a transaction is not prepared under the locks of a slot and of the journal
+pub prepare_is_refused : (schema : List Table) (known : Known) (owner txn slot : ℕ) (why : Refusal) → MayReply schema known (at_slot slot (λ m. prepare schema m owner txn slot)) (reply.Refused why)
+    → IsPrepareRefused schema owner txn why
+prepare_is_refused schema known owner txn slot why (inl e) = (slot, inl e)
+prepare_is_refused schema known owner txn slot why (inr x) = (slot, inr (known, x))
+
+-- a decision to commit is refused by a reading
+pub undecided_by : (schema : List Table) (known : Known) (owner txn : ℕ) (ms : List CheckedMutation) (gives : Interval → Type 0) (read : Interval) → gives read → (r : Result ℕ Refusal)
+    → RepliesToCommit schema known owner txn ms read (as_reply reply.Decided r) → IfErr r (IsUndecided schema owner txn ms gives)
+undecided_by schema known owner txn ms gives read given (Ok ts) x = tt
+undecided_by schema known owner txn ms gives read given (Err why) x = inr (read, given, (known, x))
+
+module _ (schema : List Table) (session : SessionHistory) (number : ℕ) where
+  abort_widened : (why : Refusal) → IsAmong abort_refusals why → IsAmong decide_refusals why
+  abort_widened why (inl e) = inl e
+  abort_widened why (inr (inl e)) = inr (inl e)
+  abort_widened why (inr (inr e)) = absurd e
+
+  verdict_why_is : (v : Verdict) (read : Interval) (why : Refusal) → RepliesToVerdict schema session number v read (reply.Refused why) → IsAmong decide_refusals why
+  verdict_why_is verdict.Commit read why x = commit_why_is schema session.owner x.at.begun.mutations number read why x.replies
+  verdict_why_is verdict.Abort read why x = abort_widened why (abort_refused schema x.1.machine session.owner number read why x.1.is)
+
+  pub decision_refusal_is : (v : Verdict) (gives : Interval → Type 0) (r : Result (Option ℕ) Refusal) → RepliesToDecision schema session number v gives (as_reply decision_reply r) → IfErr r (IsAmong decide_refusals)
+  decision_refusal_is v gives (Ok o) x = tt
+  decision_refusal_is v gives (Err why) (inl e) = inl (refused_same why refusal.UnknownTransaction e.0)
+  decision_refusal_is v gives (Err why) (inr e) = verdict_why_is v e.0 why e.2
 
 module _ (schema : List Table) (key : List ℕ) where
   pub split_refusal_is : (r : Result ℕ Refusal) → MayReplyOnce schema (λ m. split_at m key) (as_reply reply.Split r) → IfErr r (IsAmong split_refusals)

@@ -1,16 +1,18 @@
 -- What a session knows after a step.
-use Rattle.std.proofs.Common.{◌≡◌, ◌==◌, ◌<◌, length, ℕ, Option, Some, None, get_or, Result, Ok, Err, List, [], ◌∷◌, ◌++◌, refl, sym, ap, ◌∙◌, subst}
-use Rattle.std.specs.Prelude.{IfOk, IfSome, OnErr, MatchResult, position, remove, slice_get}
-use Rattle.std.proofs.lemmas.Option.{slice_get-get_or}
+use Rattle.std.proofs.Common.{◌≡◌, ◌==◌, ◌<◌, length, ℕ, zero, suc, Bool, true, false, cond, Option, Some, None, get_or, Result, Ok, Err, List, [], ◌∷◌, ◌++◌, refl, sym, ap, ◌∙◌, subst}
+use Rattle.std.specs.Prelude.{find, IfOk, IfSome, OnErr, MatchOption, MatchResult, position, remove, slice_get}
+use Rattle.std.proofs.lemmas.Option.{none-some, slice_get-get_or}
 use Rattle.std.proofs.lemmas.List.Quantifiers.{position-Some}
 use Rattle.span_value.specs.declared.refusal.Refusal.{Refusal}
 use mathlib.Core.List.{IsPrefix}
 use Rattle.span_machine.specs.declared.transaction.Commit.{Commit}
-use Rattle.span_machine_laws.proofs.Tests.{number_same}
+use Rattle.span_machine.proofs.Places.{none_by_position}
+use Rattle.span_machine_laws.proofs.Tests.{equal_number, number_same}
 use Rattle.span_locks.specs.declared.begun.Begun.{Begun}
 use Rattle.span_locks.specs.declared.board.Role.{Role}
 use Rattle.span_locks.specs.declared.board.Role.TheVariants.{Client}
 use Rattle.span_locks.specs.Known.{owned}
+use Rattle.span_locks.specs.Replies.{HasNotBegun}
 use Rattle.span_locks.specs.Rule.{SessionHistory, Extends, Sees, IsBegunAt, Decides, seen_of, mine_of}
 use Rattle.span_locks.proofs.Owners.{owned_between}
 
@@ -57,9 +59,24 @@ decides_begun v w number place at (Ok ts) ok err =
       left = is.1;
     }
 
--- the place of the first of this number is one where the session has begun a transaction under it
-pub begun_there : (v : SessionHistory) (number : ℕ) (r : Option ℕ) → r ≡ position (λ (b : Begun). b.number == number) v.begun → IfSome r (IsBegunAt v number)
-begun_there v number None e = tt
+-- where none is found, the test passes at no place
+none_at : {A : Type 0} (test : A → Bool) (xs : List A) (i : ℕ) (x : A) → find test xs ≡ None → slice_get xs i ≡ Some x → test x ≡ true → ⊥
+none_at test [] i x none here passes = absurd (cc here)
+none_at test (y ∷ ys) zero x none here passes =
+    let same : y ≡ x = cc in
+    let first : test y ≡ true = ap test same ∙ passes in
+    none-some y (sym (subst (λ (b : Bool). cond b (Some y) (find test ys) ≡ None) first none))
+none_at test (y ∷ ys) (suc i) x none here passes = by (test y) none (λ e. none_at test ys i x e here passes)
+  where
+    by : (b : Bool) → cond b (Some y) (find test ys) ≡ None → (find test ys ≡ None → ⊥) → ⊥
+    by true e later = none-some y (sym e)
+    by false e later = later e
+
+-- the place of the first of this number is one where the session has begun a transaction under it; where there is none, it has begun none
+pub begun_there : (v : SessionHistory) (number : ℕ) (r : Option ℕ) → r ≡ position (λ (b : Begun). b.number == number) v.begun → MatchOption r (HasNotBegun v number) (IsBegunAt v number)
+begun_there v number None e = λ place at.
+    let test : Begun → Bool = λ b. b.number == number in
+    none_at test v.begun place at.begun (none_by_position test v.begun (sym e)) at.there (equal_number at.begun.number number at.numbered)
 begun_there v number (Some at) e =
     let none : Begun = record { number = 0; mutations = [] } in
     let says = position-Some (λ (b : Begun). b.number == number) v.begun at none (sym e) in

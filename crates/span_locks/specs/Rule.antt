@@ -6,6 +6,7 @@ use lib.ListN.{get_elem?}
 use Rattle.atomic_table.specs.Seated.{TableId}
 use Rattle.span_schema.specs.declared.table.Table.{Table}
 use Rattle.span_machine.specs.declared.transaction.Commit.{Commit}
+use Rattle.span_mutate.specs.declared.mutation.CheckedMutation.{CheckedMutation}
 use Rattle.span_shard.specs.KeyVersions.{KeyVersions}
 use Rattle.span_locks.specs.declared.begun.Begun.{Begun}
 use Rattle.span_locks.specs.declared.board.Role.{Role}
@@ -103,6 +104,14 @@ abbrev pub mine_of : List Role → List Commit
 mine_of (Client o seen mine ∷ []) = mine
 mine_of v = []
 
+-- a commit of the session, at ts, of mutations that it had begun under the number
+abbrev pub own_commit : SessionHistory → ℕ → ℕ → List CheckedMutation → Commit
+own_commit v number ts ms = record { timestamp = ts; number = number; owner = v.owner; mutations = ms }
+
+-- the session keeps mutations too that it has begun under the number
+abbrev pub with_begun : SessionHistory → ℕ → List CheckedMutation → SessionHistory
+with_begun v number ms = record v { begun = v.begun ++ (record { number = number; mutations = ms }) ∷ [] }
+
 -- the session's commit was added after all that it had seen; commits of others may come between
 abbrev pub Extends : SessionHistory → Commit → SessionHistory → Type 0
 Extends v c w =
@@ -123,7 +132,7 @@ pub record IsBegunAt (v : SessionHistory) (number place : ℕ) : Type 0 where
 pub record Decides (v : SessionHistory) (number ts : ℕ) (w : SessionHistory) : Type 0 where
   pub place : ℕ
   pub at : IsBegunAt v number place
-  pub extends : Extends v (record { timestamp = ts; number = number; owner = v.owner; mutations = at.begun.mutations }) w
+  pub extends : Extends v (own_commit v number ts at.begun.mutations) w
   pub left : w.begun ≡ remove v.begun place
 
 -- what the session had begun under the number is kept no more

@@ -1,13 +1,14 @@
 //! What lies under the journal's lock: the journal, and the seat that knows its log and what each slot is to have.
-ghost use Rattle.std.specs.Prelude.{◌≡◌, ◌<◌, ◌++◌, ◌∷◌, [], true, List, Ok, IfOk, IfErr, IfSome, OnErr, MatchResult, Some, None, find, length, slice_get, remove};
+ghost use Rattle.std.specs.Prelude.{◌≡◌, ◌<◌, true, false, List, Ok, IfOk, IfErr, IfSome, OnErr, MatchResult, Some, None, find, length, slice_get, remove};
 ghost use Rattle.span_mutate.specs.Typed.{AreTypedMutations};
+ghost use Rattle.span_truetime.specs.Limits.{timestamp_end};
 ghost use Rattle.span_truetime.specs.Time.{timestamp_of};
 ghost use Rattle.span_planner.specs.Plannable.{IsPlannable};
 ghost use Rattle.span_binder.specs.Understands.{Understands};
 ghost use Rattle.span_gather.specs.Gathered.{gathered};
 ghost use Rattle.span_query.specs.Rows.{Row};
 ghost use Rattle.span_machine.specs.declared.transaction.OpenTransaction.{OpenTransaction};
-ghost use Rattle.span_machine.specs.Machine.{Machine, is_transaction, advance, decide, open_query, split_at};
+ghost use Rattle.span_machine.specs.Machine.{Machine, is_transaction, advance, begin, decide, open_query, split_at};
 ghost use Rattle.span_machine.specs.Pieces.{machine_of};
 ghost use Rattle.span_machine.specs.declared.step.Reply.TheVariants as reply_of;
 ghost use Rattle.span_journal.specs.Judged.{MaySplit};
@@ -15,8 +16,8 @@ ghost use Rattle.span_parts.specs.Replies.{as_reply, decision_reply};
 ghost use Rattle.span_locks.specs.Answers.{IsAnswered};
 ghost use Rattle.span_locks.specs.Refusing.{IsUnscanned, IsFault, IsEndRefused};
 ghost use Rattle.span_locks.specs.Held.{IsKeeper};
-ghost use Rattle.span_locks.specs.Replies.{IsMachineOf, Replies, MayReply, IsNext};
-ghost use Rattle.span_locks.specs.Rule.{Extends, Sees, known_at};
+ghost use Rattle.span_locks.specs.Replies.{IsMachineOf, Replies, MayReply, LacksTransaction, RepliesToCommit, IsNext};
+ghost use Rattle.span_locks.specs.Rule.{Extends, Sees, known_at, own_commit, with_begun};
 
 use crate::begun::Begun;
 use crate::board::{Board, Naming, View};
@@ -41,9 +42,6 @@ use span_value::refusal::Refusal;
 use span_value::text::Text;
 use std::marker::{Model, PhantomData};
 use std::mem;
-
-/// Why a count of commits is a word of the table: it is below this, far above the limit of the log.
-const MOST_COUNTED: u64 = 1 << 32;
 
 /// The journal, as long as it is locked. Contracts see what the rule knows of it.
 #[derive(Drop)]
@@ -86,7 +84,8 @@ impl<J: Naming> LockedJournal<J> {
         transaction: Transaction,
     ) -> Result<u64, Refusal>
         requires { AreTypedMutations J.schema transaction }
-        ensures { self.new ≡ self.old }
+        ensures same { self.new ≡ self.old }
+        ensures reply { MayReply J.schema self.old (λ m. begin m owner transaction) (as_reply reply_of.Began result) }
     {
         steps::begin(
             board.alloc,
@@ -98,6 +97,7 @@ impl<J: Naming> LockedJournal<J> {
     }
 
     /// Commits a transaction of the session, if it is the one that it began: its commit joins the log, and the timestamp is returned.
+    /// `UnknownTransaction` where the journal has another one, or none.
     pub fn publish(
         &mut self,
         board: &Board<J>,
@@ -107,18 +107,16 @@ impl<J: Naming> LockedJournal<J> {
         interval: Interval,
     ) -> Result<u64, Refusal>
         ensures ok { IfOk result
-            (λ ts. Extends me.old (record { timestamp = ts; number = number; owner = me.old.owner; mutations = copy }) me.new) }
+            (λ ts. Extends me.old (own_commit me.old number ts copy) me.new) }
         ensures err { OnErr result (me.new ≡ me.old) }
         ensures begun { me.new.begun ≡ me.old.begun }
+        ensures reply { RepliesToCommit J.schema self.old me.old.owner number copy interval (as_reply reply_of.Decided result) }
     {
         let owner = me.owner;
         if !is_begun(&self.journal, owner, number, copy.mutations()) {
             return Err(Refusal::UnknownTransaction);
         }
-        let count = self.journal.log().len() as u64;
-        if count >= MOST_COUNTED {
-            return Err(Refusal::LogFull);
-        }
+        let count = count_commits(&self.journal);
         match ends::commit(
             board.alloc,
             &board.schema,
@@ -151,9 +149,13 @@ impl<J: Naming> LockedJournal<J> {
         copy: Transaction,
     ) -> Result<u64, Refusal>
         requires { AreTypedMutations J.schema transaction }
-        ensures { MatchResult result
-            (λ number. me.new ≡ record me.old { begun = me.old.begun ++ (record { number = number; mutations = copy }) ∷ [] })
+        ensures same { self.new ≡ self.old }
+        ensures kept { MatchResult result
+            (λ number. me.new ≡ with_begun me.old number copy)
             (λ why. me.new ≡ me.old) }
+        ensures reply { MayReply J.schema self.old
+            (λ m. begin m me.old.owner transaction)
+            (as_reply reply_of.Began result) }
     {
         me.begun.reserve(1)?;
         match self.begin(board, me.owner, transaction) {
@@ -181,9 +183,12 @@ impl<J: Naming> LockedJournal<J> {
             (λ ts.
             IfSome (slice_get me.old.begun place)
             (λ b.
-            Extends me.old (record { timestamp = ts; number = b.number; owner = me.old.owner; mutations = b.mutations }) me.new
+            Extends me.old (own_commit me.old b.number ts b.mutations) me.new
             × (me.new.begun ≡ remove me.old.begun place))) }
         ensures err { OnErr result (me.new ≡ me.old) }
+        ensures reply { IfSome (slice_get me.old.begun place)
+            (λ b.
+            RepliesToCommit J.schema self.old me.old.owner b.number b.mutations interval (as_reply reply_of.Decided result)) }
     {
         let owner = me.owner;
         let Some(found) = me.begun.as_slice().get(place) else {
@@ -193,10 +198,7 @@ impl<J: Naming> LockedJournal<J> {
         if !is_kept(&self.journal, owner, found) {
             return Err(Refusal::UnknownTransaction);
         }
-        let count = self.journal.log().len() as u64;
-        if count >= MOST_COUNTED {
-            return Err(Refusal::LogFull);
-        }
+        let count = count_commits(&self.journal);
         match ends::commit(
             board.alloc,
             &board.schema,
@@ -376,12 +378,22 @@ impl<J: Naming> LockedJournal<J> {
     }
 }
 
+/// How many commits the log has: few enough for a word of the table.
+fn count_commits(journal: &Journal) -> u64
+    ensures count { result ≡ length journal.now.log }
+    ensures few { result < timestamp_end }
+{
+    journal.log_is_limited();
+    journal.log().len() as u64
+}
+
 /// Whether the journal has this transaction as it was begun.
 fn is_begun(journal: &Journal, owner: u64, number: u64, copy: &[CheckedMutation]) -> bool
-    ensures { result ≡ true
+    ensures begun { result ≡ true
         → (t : OpenTransaction)
         × (find (is_transaction owner number) (machine_of journal.now).transactions ≡ Some t)
         × (t.mutations ≡ copy.now) }
+    ensures lacks { result ≡ false → LacksTransaction (machine_of journal.now) owner number copy.now }
 {
     match journal.mutations(owner, number) {
         Some(mutations) => are_same(mutations, copy),
@@ -391,10 +403,11 @@ fn is_begun(journal: &Journal, owner: u64, number: u64, copy: &[CheckedMutation]
 
 /// Whether the journal has what was begun as it was begun.
 fn is_kept(journal: &Journal, owner: u64, begun: &Begun) -> bool
-    ensures { result ≡ true
+    ensures begun { result ≡ true
         → (t : OpenTransaction)
         × (find (is_transaction owner begun.now.number) (machine_of journal.now).transactions ≡ Some t)
         × (t.mutations ≡ begun.now.mutations) }
+    ensures lacks { result ≡ false → LacksTransaction (machine_of journal.now) owner begun.now.number begun.now.mutations }
 {
     is_begun(journal, owner, begun.number, begun.mutations.as_slice())
 }

@@ -1,5 +1,5 @@
 //! Whether values are the same: what the journal has is compared with what a session handed in.
-ghost use Rattle.std.specs.Prelude.{◌≡◌, true};
+ghost use Rattle.std.specs.Prelude.{◌≡◌, true, false};
 
 use span_mutate::mutation::{CheckedMutation, MutationKind};
 use span_params::params::Parameter;
@@ -7,16 +7,18 @@ use span_value::value::{Kind, Value};
 
 /// Types whose values are compared.
 pub trait Same {
-    ghost use Rattle.std.specs.Prelude.{◌≡◌, true};
+    ghost use Rattle.std.specs.Prelude.{◌≡◌, true, false};
 
-    /// Whether the two are the same. It may answer false for two that are.
+    /// Whether the two are the same.
     fn same_as(&self, other: &Self) -> bool
-        ensures { result ≡ true → self.now ≡ other.now };
+        ensures same { result ≡ true → self.now ≡ other.now }
+        ensures differ { result ≡ false → self.now ≡ other.now → ⊥ };
 }
 
 /// Whether two lists have the same items in the same order.
 pub fn are_same<T: Same>(one: &[T], other: &[T]) -> bool
-    ensures { result ≡ true → one.now ≡ other.now }
+    ensures same { result ≡ true → one.now ≡ other.now }
+    ensures differ { result ≡ false → one.now ≡ other.now → ⊥ }
 {
     if one.len() != other.len() {
         return false;
@@ -63,7 +65,8 @@ impl Same for Parameter {
 }
 
 fn is_same_kind(one: MutationKind, other: MutationKind) -> bool
-    ensures { result ≡ true → one ≡ other }
+    ensures same { result ≡ true → one ≡ other }
+    ensures differ { result ≡ false → one ≡ other → ⊥ }
 {
     match (one, other) {
         (MutationKind::Insert, MutationKind::Insert) => true,
@@ -75,7 +78,8 @@ fn is_same_kind(one: MutationKind, other: MutationKind) -> bool
 }
 
 fn is_same_type(one: Kind, other: Kind) -> bool
-    ensures { result ≡ true → one ≡ other }
+    ensures same { result ≡ true → one ≡ other }
+    ensures differ { result ≡ false → one ≡ other → ⊥ }
 {
     match (one, other) {
         (Kind::Int, Kind::Int) => true,

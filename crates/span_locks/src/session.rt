@@ -1,6 +1,7 @@
 //! A session: its seat, whose view is what it has seen and made.
-ghost use Rattle.std.specs.Prelude.{◌≡◌, ◌∷◌, [], ◌<◌, length, remove, IfSome};
+ghost use Rattle.std.specs.Prelude.{◌≡◌, ◌∷◌, [], ◌<◌, length, remove, MatchOption};
 ghost use mathlib.Core.List.{IsPrefix};
+ghost use Rattle.span_locks.specs.Replies.{HasNotBegun};
 ghost use Rattle.span_locks.specs.Rule.{Sees, IsBegunAt, newcomer};
 ghost use Rattle.span_locks.specs.declared.board.Role.TheVariants.{Client};
 
@@ -61,7 +62,7 @@ impl<J: Naming> Session<J> {
 
     /// The place of what the session has begun under the number.
     pub fn begun_at(&self, number: u64) -> Option<usize>
-        ensures { IfSome result (IsBegunAt self.now number) }
+        ensures { MatchOption result (HasNotBegun self.now number) (IsBegunAt self.now number) }
     {
         place_of(self.begun.as_slice(), number)
     }

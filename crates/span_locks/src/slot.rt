@@ -1,8 +1,5 @@
 //! What lies under a slot's lock: its shard, and the seat that knows it.
-ghost use Rattle.std.specs.Prelude.{◌≡◌, ◌∷◌, [], ◌==◌, ◌≤◌, ◌<◌, ℕ, true, false, List, IfOk, IfErr, IfSome, Some, length};
-ghost use Rattle.span_value.specs.declared.value.Value.{Value};
-ghost use Rattle.span_keycode.specs.Coding.{AreValues};
-ghost use Rattle.span_mutate.specs.RootKeys.{root_key};
+ghost use Rattle.std.specs.Prelude.{◌≡◌, ◌∷◌, [], ◌==◌, ◌≤◌, ◌<◌, ℕ, true, false, List, IfOk, IfErr, IfSome, length};
 ghost use Rattle.span_params.specs.declared.params.Parameter.{Parameter};
 ghost use Rattle.span_machine.specs.Machine.{prepare, apply_step, trim, split_at, refused};
 ghost use Rattle.span_machine.specs.Pieces.{machine_of};
@@ -10,7 +7,7 @@ ghost use Rattle.span_machine.specs.declared.step.Reply.TheVariants as reply_of;
 ghost use Rattle.span_journal.specs.Judged.{MaySplit};
 ghost use Rattle.span_arena.specs.Limits.{most_nodes};
 ghost use Rattle.span_parts.specs.Replies.{as_reply};
-ghost use Rattle.span_parts.specs.Whole.{IsRead};
+ghost use Rattle.span_parts.specs.Whole.{CodesRootKey, IsRead};
 ghost use Rattle.span_locks.specs.Answers.{IsLeafOf};
 ghost use Rattle.span_locks.specs.Refusing.{IsUnscanned};
 ghost use Rattle.span_locks.specs.Replies.{Replies, MayReply, at_slot};
@@ -192,7 +189,7 @@ impl<J: Naming> LockedSlot<J> {
         journal: &mut LockedJournal<J>,
         key: &Key,
     ) -> Result<Option<usize>, Refusal>
-        requires coded { (name : List ℕ) × (values : List Value) × AreValues values × (root_key J.schema name values ≡ Some key.now) }
+        requires coded { CodesRootKey J.schema key.now }
         ensures commits { journal.new.commits ≡ journal.old.commits }
         ensures cut { IfOk result
             (λ cut.

@@ -2,11 +2,14 @@
 use Rattle.std.specs.Prelude.{◌≡◌, ℕ, List, [], ◌∷◌, ◌++◌, Some, None, Ok, find, map, slice_get, slice_set, ◌≤◌, ◌⊎◌}
 use Rattle.span_value.specs.declared.refusal.Refusal.{Refusal}
 use Rattle.span_value.specs.declared.refusal.Refusal.TheVariants.{OutOfMemory}
+use Rattle.span_value.specs.declared.value.Value.{Value}
 use Rattle.span_schema.specs.declared.table.Table.{Table}
 use Rattle.span_schema.specs.Lineages.{MeetsRules}
+use Rattle.span_keycode.specs.Coding.{AreValues}
 use Rattle.span_keycode.specs.declared.range.KeyRange.{KeyRange}
 use Rattle.span_mutate.specs.declared.mutation.CheckedMutation.{CheckedMutation}
 use Rattle.span_mutate.specs.declared.row.TableRow.{TableRow}
+use Rattle.span_mutate.specs.RootKeys.{root_key}
 use Rattle.span_mutate.specs.Typed.{AreTyped}
 use Rattle.span_arena.specs.Limits.{most_nodes}
 use Rattle.span_shard.specs.KeyVersions.{KeyVersions}
@@ -77,6 +80,10 @@ GoesAt schema slot old new before after = (shards : Shards) → IsWhole schema o
 -- the journal goes with the same shards as before, where the slot's shard is this one
 abbrev pub StaysAt : List Table → ℕ → Journaled → Journaled → List KeyVersions → Type 0
 StaysAt schema slot old new shard = (shards : Shards) → IsWhole schema old shards → slice_get shards slot ≡ Some shard → IsWhole schema new shards
+
+-- the coding is that of a key with values of a running program, of the root table with a name
+abbrev pub CodesRootKey : List Table → List ℕ → Type 0
+CodesRootKey schema code = (name : List ℕ) × (values : List Value) × AreValues values × (root_key schema name values ≡ Some code)
 
 -- The slot was cut in two: the journal goes with the same shards as before, but for the slot's, which was the first and is the second, and the
 -- one of the new slot. The log and the open queries are the same.

@@ -1,14 +1,12 @@
 //! Splits: a slot is cut in two at a root key.
-ghost use Rattle.std.specs.Prelude.{◌≡◌, ℕ, List, Some, IfOk, IfErr, OnErr, OnOk, length};
+ghost use Rattle.std.specs.Prelude.{◌≡◌, IfOk, IfErr, OnErr, OnOk, length};
 ghost use Rattle.span_keycode.specs.Coding.{AreValues};
 ghost use Rattle.span_journal.specs.Judged.{MaySplit};
 ghost use Rattle.span_machine.specs.Machine.{Answers, IsAnswer, split, split_at};
 ghost use Rattle.span_machine.specs.Pieces.{machine_of};
-ghost use Rattle.span_mutate.specs.RootKeys.{root_key};
-ghost use Rattle.span_value.specs.declared.value.Value.{Value};
 ghost use Rattle.span_machine.specs.declared.step.Reply.TheVariants as reply_of;
 ghost use Rattle.span_parts.specs.Replies.{as_reply};
-ghost use Rattle.span_parts.specs.Whole.{IsWhole, BelongsAt, IsCutAt};
+ghost use Rattle.span_parts.specs.Whole.{IsWhole, BelongsAt, CodesRootKey, IsCutAt};
 
 use super::shards::cut_at;
 use span_journal::journal::Journal;
@@ -53,7 +51,7 @@ fn split_at(
     key: Key,
 ) -> Result<usize, Refusal>
     requires whole { IsWhole schema.now journal.old shards.old.items }
-    requires coded { (name : List ℕ) × (values : List Value) × AreValues values × (root_key schema.now name values ≡ Some key) }
+    requires coded { CodesRootKey schema.now key }
     ensures step { Answers (machine_of journal.old)
         (split_at (machine_of journal.old) key)
         (as_reply reply_of.Split result)
@@ -84,7 +82,7 @@ pub fn cut_in(
     key: &Key,
 ) -> Result<Shard, Refusal>
     requires belongs { BelongsAt schema.now journal.old slot shard.old }
-    requires coded { (name : List ℕ) × (values : List Value) × AreValues values × (root_key schema.now name values ≡ Some key.now) }
+    requires coded { CodesRootKey schema.now key.now }
     requires may { MaySplit (machine_of journal.old) slot key.now }
     ensures step { OnOk result (IsAnswer (split_at (machine_of journal.old) key.now)
         (reply_of.Split (length journal.old.slots))

@@ -3,10 +3,11 @@
 ghost use Rattle.std.specs.Prelude.{◌≡◌, List, IfOk, IfErr, OnErr, MatchResult, Some, None};
 ghost use Rattle.span_query.specs.Rows.{Row};
 ghost use Rattle.span_gather.specs.Gathered.{gathered};
-ghost use Rattle.span_machine.specs.Machine.{IsAnswer, close, finish, refused};
+ghost use Rattle.span_machine.specs.Machine.{IsAnswer, decide, close, finish, refused};
 ghost use Rattle.span_machine.specs.Pieces.{machine_of};
 ghost use Rattle.span_machine.specs.declared.step.Reply.TheVariants as reply_of;
 ghost use Rattle.span_parts.specs.Asked.{IsQuestionOf};
+ghost use Rattle.span_parts.specs.Replies.{as_reply};
 ghost use Rattle.span_parts.specs.Whole.{Shards, IsWhole, GoesWith, IsCommitted, AreMeant, IsFaulty};
 
 use super::steps::decide;
@@ -30,6 +31,8 @@ pub fn commit(
     ensures committed { MatchResult result
         (λ ts. IsCommitted (machine_of journal.old) owner txn ts (machine_of journal.new))
         (λ why. machine_of journal.new ≡ machine_of journal.old) }
+    ensures reply { as_reply reply_of.Decided result
+        ≡ (decide schema.now (machine_of journal.old) owner txn Verdict.Commit interval).0 }
     ensures whole { GoesWith schema.now journal.old journal.new }
 {
     match decide(

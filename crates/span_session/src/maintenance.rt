@@ -1,6 +1,5 @@
 //! What keeps slots small and answers possible: a slot is cut in two, its old versions go, its floor rises.
-ghost use Rattle.std.specs.Prelude.{◌≡◌, ◌≤◌, ◌<◌, [], ◌∷◌, ℕ, List, Some, IfOk, IfErr, IfSome, OnOk, MatchOption};
-ghost use Rattle.span_value.specs.declared.value.Value.{Value};
+ghost use Rattle.std.specs.Prelude.{◌≡◌, ◌≤◌, ◌<◌, [], ◌∷◌, IfOk, IfErr, IfSome, OnOk, MatchOption};
 ghost use Rattle.span_keycode.specs.Coding.{AreValues};
 ghost use Rattle.span_mutate.specs.RootKeys.{root_key};
 ghost use Rattle.span_truetime.specs.declared.interval.Interval.{Interval};
@@ -9,6 +8,7 @@ ghost use Rattle.span_machine.specs.Limits.{most_slots};
 ghost use Rattle.span_machine.specs.Machine.{split_at, trim, advance};
 ghost use Rattle.span_machine.specs.declared.step.Reply.TheVariants as reply_of;
 ghost use Rattle.span_parts.specs.Replies.{as_reply};
+ghost use Rattle.span_parts.specs.Whole.{CodesRootKey};
 ghost use Rattle.span_locks.specs.Replies.{RepliesOnce, MayReplyOnce, RepliesAt, IsAmong, IsErrAmong, split_refusals, trim_refusals};
 
 use crate::db::Db;
@@ -47,7 +47,7 @@ impl<J: Naming> Db<J> {
     /// Cuts a slot at a coded root key. Where others cut slots meanwhile, it looks once more which slot has the key.
     #[tactic(auto, using(span_locks::proofs::Replying::cut_number))]
     fn split_at<R: Wait>(&self, rt: &R, key: &Key) -> Result<usize, Refusal>
-        requires coded { (name : List ℕ) × (values : List Value) × AreValues values × (root_key J.schema name values ≡ Some key.now) }
+        requires coded { CodesRootKey J.schema key.now }
         ensures reply { MayReplyOnce J.schema (λ m. split_at m key.now) (as_reply reply_of.Split result) }
         ensures number { IfOk result (λ number. (1 ≤ number) × (number < most_slots)) }
         ensures refused { IfErr result (IsAmong split_refusals) }
@@ -64,7 +64,7 @@ impl<J: Naming> Db<J> {
 
     /// Cuts the slot that has the key, if none was cut since it was found: the lock of a slot is taken before that of the journal.
     fn try_split<R: Wait>(&self, rt: &R, key: &Key) -> Result<Option<usize>, Refusal>
-        requires coded { (name : List ℕ) × (values : List Value) × AreValues values × (root_key J.schema name values ≡ Some key.now) }
+        requires coded { CodesRootKey J.schema key.now }
         ensures cut { IfOk result
             (λ cut. IfSome cut (λ number. RepliesOnce J.schema (λ m. split_at m key.now) (reply_of.Split number))) }
         ensures refused { IfErr result

@@ -1,13 +1,14 @@
 //! Transactions one step at a time.
-ghost use Rattle.std.specs.Prelude.{◌≡◌, ◌<◌, ◌++◌, ◌∷◌, [], ℕ, IfErr, OnOk, MatchOption, MatchResult};
+ghost use Rattle.std.specs.Prelude.{◌≡◌, ◌<◌, ℕ, IfErr, OnOk, MatchOption, MatchResult};
 ghost use Rattle.span_mutate.specs.Typed.{AreTypedMutations};
 ghost use Rattle.span_truetime.specs.declared.interval.Interval.{Interval};
 ghost use Rattle.span_machine.specs.Limits.{most_slots};
-ghost use Rattle.span_machine.specs.Machine.{prepare, apply_step};
+ghost use Rattle.span_machine.specs.Machine.{begin, prepare, decide, apply_step};
 ghost use Rattle.span_machine.specs.declared.step.Reply.TheVariants as reply_of;
-ghost use Rattle.span_parts.specs.Replies.{as_reply};
-ghost use Rattle.span_locks.specs.Replies.{RepliesAt, MayReplyAt, IsAmong, IsPrepareRefusal, apply_refusals};
-ghost use Rattle.span_locks.specs.Rule.{Decides, Forgets, IsBegunAt};
+ghost use Rattle.span_parts.specs.Replies.{as_reply, decision_reply};
+ghost use Rattle.span_locks.specs.Replies.{RepliesOnce, RepliesAt, MayReplyOnce, MayReplyAt, RepliesToBegun, RepliesToVerdict, RepliesToDecision};
+ghost use Rattle.span_locks.specs.Replies.{IsAmong, IsPrepareRefusal, begin_refusals, apply_refusals, decide_refusals};
+ghost use Rattle.span_locks.specs.Rule.{Decides, Forgets, IsBegunAt, with_begun};
 
 use crate::db::Db;
 use span_locks::board::Naming;
@@ -28,9 +29,13 @@ impl<J: Naming> Db<J> {
         transaction: Transaction,
     ) -> Result<u64, Refusal>
         requires { AreTypedMutations J.schema transaction }
-        ensures { MatchResult result
-            (λ number. me.new ≡ record me.old { begun = me.old.begun ++ (record { number = number; mutations = transaction }) ∷ [] })
+        ensures kept { MatchResult result
+            (λ number. me.new ≡ with_begun me.old number transaction)
             (λ why. me.new ≡ me.old) }
+        ensures reply { MayReplyOnce J.schema
+            (λ m. begin m me.old.owner transaction)
+            (as_reply reply_of.Began result) }
+        ensures refused { IfErr result (IsAmong begin_refusals) }
     {
         match transaction.copy(self.board.alloc) {
             Ok(copy) => self
@@ -93,25 +98,48 @@ impl<J: Naming> Db<J> {
         number: u64,
         verdict: Verdict,
     ) -> Result<Option<u64>, Refusal>
-        ensures { MatchResult result
+        ensures decided { MatchResult result
             (λ decided. MatchOption decided (Forgets me.old number me.new) (λ ts. Decides me.old number ts me.new))
             (λ why. me.new ≡ me.old) }
+        ensures reply { RepliesToDecision J.schema me.old number verdict
+            (λ read. C.may_give clock.now read)
+            (as_reply decision_reply result) }
+        ensures refused { IfErr result (IsAmong decide_refusals) }
     {
         match me.begun_at(number) {
             Some(place) => {
                 let interval = clock.now();
-                match verdict {
-                    Verdict::Commit => match self.commit_begun(rt, me, number, place, interval) {
-                        Ok(timestamp) => Ok(Some(timestamp)),
-                        Err(why) => Err(why),
-                    },
-                    Verdict::Abort => match self.abort_begun(rt, me, number, place, interval) {
-                        Ok(()) => Ok(None),
-                        Err(why) => Err(why),
-                    },
-                }
+                self.decide_begun(rt, me, number, place, verdict, interval)
             }
             None => Err(Refusal::UnknownTransaction),
+        }
+    }
+
+    /// Decides what the session has begun at a place.
+    fn decide_begun<R: Wait>(
+        &self,
+        rt: &R,
+        me: &mut Session<J>,
+        number: u64,
+        place: usize,
+        verdict: Verdict,
+        interval: Interval,
+    ) -> Result<Option<u64>, Refusal>
+        requires { IsBegunAt me.old number place }
+        ensures decided { MatchResult result
+            (λ decided. MatchOption decided (Forgets me.old number me.new) (λ ts. Decides me.old number ts me.new))
+            (λ why. me.new ≡ me.old) }
+        ensures reply { RepliesToVerdict J.schema me.old number verdict interval (as_reply decision_reply result) }
+    {
+        match verdict {
+            Verdict::Commit => match self.commit_begun(rt, me, number, place, interval) {
+                Ok(timestamp) => Ok(Some(timestamp)),
+                Err(why) => Err(why),
+            },
+            Verdict::Abort => match self.abort_begun(rt, me, number, place, interval) {
+                Ok(()) => Ok(None),
+                Err(why) => Err(why),
+            },
         }
     }
 
@@ -124,7 +152,8 @@ impl<J: Naming> Db<J> {
         interval: Interval,
     ) -> Result<u64, Refusal>
         requires { IsBegunAt me.old number place }
-        ensures { MatchResult result (λ ts. Decides me.old number ts me.new) (λ why. me.new ≡ me.old) }
+        ensures decided { MatchResult result (λ ts. Decides me.old number ts me.new) (λ why. me.new ≡ me.old) }
+        ensures reply { RepliesToBegun J.schema me.old number interval (as_reply reply_of.Decided result) }
     {
         self.journal
             .lock(rt)
@@ -140,7 +169,10 @@ impl<J: Naming> Db<J> {
         interval: Interval,
     ) -> Result<(), Refusal>
         requires { IsBegunAt me.old number place }
-        ensures { MatchResult result (λ _. Forgets me.old number me.new) (λ why. me.new ≡ me.old) }
+        ensures decided { MatchResult result (λ _. Forgets me.old number me.new) (λ why. me.new ≡ me.old) }
+        ensures reply { RepliesOnce J.schema
+            (λ m. decide J.schema m me.old.owner number Verdict.Abort interval)
+            (as_reply (λ _. reply_of.Aborted) result) }
     {
         match self.abort(rt, me.owner(), number, interval) {
             Ok(_) => {

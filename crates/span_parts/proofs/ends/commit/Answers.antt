@@ -26,3 +26,11 @@ pub returns-in-Err-clause-committed : goal.returns-in-Err-clause-committed
 returns-in-Err-clause-committed c =
     let a = c.args in
     uncommitted a.schema.now (machine_of a.journal.now) a.owner a.txn a.interval c.in-Err.why (machine_of c.decide.new.journal) c.in-Err.ensures.step
+
+pub returns-in-Ok-Some-clause-reply : goal.returns-in-Ok-Some-clause-reply
+returns-in-Ok-Some-clause-reply c =
+    let a = c.args in
+    let m = machine_of a.journal.now in
+    let n = machine_of c.decide.new.journal in
+    let is = subst (λ (o : Option ℕ). IsAnswer (decided a.schema.now m a.owner a.txn a.interval) (decision_reply o) n) c.in-Ok-Some.field-0-is c.in-Ok-Some.ensures.step in
+    is.0

@@ -29,7 +29,7 @@ invariant_of-self g c =
     let owner = c.me.inside.owner in
     let k = c.commit.new.journal in
     let made : Commit = record { timestamp = c.in-Ok.timestamp; number = c.args.number; owner = owner; mutations = c.into_mutations.result } in
-    let begun = c.is_begun.ensures c.if-not-is_begun.false in
+    let begun = c.is_begun.ensures.begun c.if-not-is_begun.false in
     let log = commit_is here.journal owner c.args.number c.in-Ok.timestamp k c.into_mutations.result (begun.0, begun.1, begun.2 ∙ c.mutations.ensures ∙ sym c.into_mutations.ensures) c.in-Ok.ensures.committed in
     let views = c.grow.ensures.keeper ∙ ap (λ b. (Keeper (grown (known_at b.views) made) ∷ []) ∷ []) c.replace-keeper.ensures.value in
     keeper_grown schema board.schema g.J.Naming.table here.badge.table_id here.badge.views here.journal board.schema_is c.self.invariant c.grow.result.table_id c.grow.result.views k made c.grow.ensures.tables.1 views log c.in-Ok.ensures.committed.queries c.in-Ok.ensures.whole

@@ -27,7 +27,7 @@ invariant_of-self g c =
     let owner = c.me.inside.owner in
     let k = c.commit.new.journal in
     let made = c.commit_of-made.result in
-    let log = kept_commit_is here.journal owner c.in-Ok.timestamp k c.in-Some.found.now c.remove-begun.result made (begun_same c.me.inside.begun.items c.as_slice.result.now c.args.place c.in-Some.found.now c.remove-begun.result c.as_slice.ensures.value c.in-Some.ensures.lookup.3.1 c.remove-begun.ensures.value) (c.is_kept.ensures c.if-not-is_kept.false) c.in-Ok.ensures.committed c.commit_of-made.ensures in
+    let log = kept_commit_is here.journal owner c.in-Ok.timestamp k c.in-Some.found.now c.remove-begun.result made (begun_same c.me.inside.begun.items c.as_slice.result.now c.args.place c.in-Some.found.now c.remove-begun.result c.as_slice.ensures.value c.in-Some.ensures.lookup.3.1 c.remove-begun.ensures.value) (c.is_kept.ensures.begun c.if-not-is_kept.false) c.in-Ok.ensures.committed c.commit_of-made.ensures in
     let views = c.grow.ensures.keeper ∙ ap (λ b. (Keeper (grown (known_at b.views) made) ∷ []) ∷ []) c.replace-keeper.ensures.value in
     keeper_grown schema board.schema g.J.Naming.table here.badge.table_id here.badge.views here.journal board.schema_is c.self.invariant c.grow.result.table_id c.grow.result.views k made c.grow.ensures.tables.1 views log c.in-Ok.ensures.committed.queries c.in-Ok.ensures.whole
 
