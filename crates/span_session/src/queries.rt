@@ -12,6 +12,7 @@ ghost use Rattle.span_locks.specs.Rule.{Sees};
 
 use crate::db::Db;
 use crate::question::{copy_question, rows_of, understand_and_plan};
+use crate::workers::PlannedQuery;
 use span_gather::rows::Rows;
 use span_journal::journal::Opened;
 use span_journal::taken::Taken;
@@ -83,10 +84,13 @@ impl<J: Naming + Send + Sync> Db<J> {
         let read = clock.now();
         match self.open(rt, text, params, bound, read) {
             Ok((plan, opened)) => {
-                let query = opened.query;
-                let scanned = self.scan_leaves(
-                    rt, clock, gate, text, params, &plan, query, workers,
-                );
+                let query = PlannedQuery {
+                    text,
+                    params,
+                    plan: &plan,
+                    number: opened.query,
+                };
+                let scanned = self.scan_leaves(rt, clock, gate, &query, workers);
                 let scanned = give_after(plan, scanned);
                 self.end_query(rt, me, text, params, read, opened, scanned)
             }

@@ -22,6 +22,26 @@ use std::sync::{Mutex, Wait};
 use std::thread;
 use std::thread::Threads;
 
+/// A query that is open, with its plan.
+pub(crate) struct PlannedQuery<'a> {
+    pub(crate) text: &'a str,
+    pub(crate) params: &'a Params,
+    pub(crate) plan: &'a Plan,
+    /// Its number in the journal.
+    pub(crate) number: u64,
+}
+
+/// A leaf of a query in one slot.
+struct SlotLeaf<'a> {
+    leaf: &'a Leaf,
+    /// Its place in the plan.
+    place: usize,
+    /// How the query groups all rows of the leaf, if it does.
+    grouping: Option<&'a Grouping>,
+    /// The number of the slot.
+    slot: usize,
+}
+
 impl<J: Naming + Send + Sync> Db<J> {
     /// Scans all leaves of a query in the slots in use, and then in those that cuts have added meanwhile: a cut moves keys to a slot that
     /// was not in use. The first refusal of a scan.
@@ -30,13 +50,10 @@ impl<J: Naming + Send + Sync> Db<J> {
         rt: &R,
         clock: &C,
         gate: &G,
-        text: &str,
-        params: &Params,
-        plan: &Plan,
-        query: u64,
+        query: &PlannedQuery<'_>,
         workers: usize,
     ) -> Result<(), Refusal>
-        requires { IsPlanOf J.schema text.now params.now plan.now }
+        requires { IsPlanOf J.schema query.now.text.now query.now.params.now query.now.plan.now }
         ensures { IfErr result (IsUnscanned J.schema) }
     {
         let mut scanned = 0;
@@ -45,9 +62,7 @@ impl<J: Naming + Send + Sync> Db<J> {
             if used <= scanned {
                 break;
             }
-            self.scan_slots(
-                rt, clock, gate, text, params, plan, query, workers, scanned, used,
-            )?;
+            self.scan_slots(rt, clock, gate, query, workers, scanned, used)?;
             scanned = used;
         }
         Ok(())
@@ -59,27 +74,22 @@ impl<J: Naming + Send + Sync> Db<J> {
         rt: &R,
         clock: &C,
         gate: &G,
-        text: &str,
-        params: &Params,
-        plan: &Plan,
-        query: u64,
+        query: &PlannedQuery<'_>,
         workers: usize,
         from: usize,
         to: usize,
     ) -> Result<(), Refusal>
-        requires { IsPlanOf J.schema text.now params.now plan.now }
+        requires { IsPlanOf J.schema query.now.text.now query.now.params.now query.now.plan.now }
         ensures { IfErr result (IsUnscanned J.schema) }
     {
-        let queue = Mutex::new(ScanQueue::new(plan.leaves.len(), from, to));
+        let queue = Mutex::new(ScanQueue::new(query.plan.leaves.len(), from, to));
         // More threads than slots would wait for one another: a slot is read under its lock.
         let threads = workers.min(to.saturating_sub(from));
         if threads > 1 {
             // Where memory doesn't suffice for a thread, what it would have scanned is left.
-            let _ = self.scan_side_by_side(
-                rt, clock, gate, text, params, plan, query, &queue, threads,
-            );
+            let _ = self.scan_side_by_side(rt, clock, gate, query, &queue, threads);
         }
-        self.work(rt, clock, gate, text, params, plan, query, &queue);
+        self.work(rt, clock, gate, query, &queue);
         queue.into_inner().end()
     }
 
@@ -89,22 +99,19 @@ impl<J: Naming + Send + Sync> Db<J> {
         rt: &R,
         clock: &C,
         gate: &G,
-        text: &str,
-        params: &Params,
-        plan: &Plan,
-        query: u64,
+        query: &PlannedQuery<'_>,
         queue: &Mutex<ScanQueue<J>>,
         threads: usize,
     ) -> Result<(), AllocError>
-        requires { IsPlanOf J.schema text.now params.now plan.now }
+        requires { IsPlanOf J.schema query.now.text.now query.now.params.now query.now.plan.now }
     {
         thread::map_indices(
             rt,
             self.board.alloc,
             threads,
             &|_|
-                requires { IsPlanOf J.schema text.now params.now plan.now }
-            { self.work(rt, clock, gate, text, params, plan, query, queue) },
+                requires { IsPlanOf J.schema query.now.text.now query.now.params.now query.now.plan.now }
+            { self.work(rt, clock, gate, query, queue) },
         )?;
         Ok(())
     }
@@ -122,21 +129,16 @@ impl<J: Naming> Db<J> {
         rt: &R,
         clock: &C,
         gate: &G,
-        text: &str,
-        params: &Params,
-        plan: &Plan,
-        query: u64,
+        query: &PlannedQuery<'_>,
         queue: &Mutex<ScanQueue<J>>,
     )
-        requires { IsPlanOf J.schema text.now params.now plan.now }
+        requires { IsPlanOf J.schema query.now.text.now query.now.params.now query.now.plan.now }
     {
         for _ in rt.forever() {
-            let Some((place, number)) = queue.lock(rt).take() else {
+            let Some((place, slot)) = queue.lock(rt).take() else {
                 break;
             };
-            self.scan_place(
-                rt, clock, gate, text, params, plan, query, queue, place, number,
-            );
+            self.scan_place(rt, clock, gate, query, queue, place, slot);
         }
     }
 
@@ -146,22 +148,22 @@ impl<J: Naming> Db<J> {
         rt: &R,
         clock: &C,
         gate: &G,
-        text: &str,
-        params: &Params,
-        plan: &Plan,
-        query: u64,
+        query: &PlannedQuery<'_>,
         queue: &Mutex<ScanQueue<J>>,
         place: usize,
-        number: usize,
+        slot: usize,
     )
-        requires { IsPlanOf J.schema text.now params.now plan.now }
+        requires { IsPlanOf J.schema query.now.text.now query.now.params.now query.now.plan.now }
     {
-        match leaf_at(plan, place) {
+        match leaf_at(query.plan, place) {
             Some(leaf) => {
-                let grouping = leaf_grouping(&plan.top, place);
-                self.scan_slot(
-                    rt, clock, gate, text, params, query, queue, place, leaf, grouping, number,
-                );
+                let leaf = SlotLeaf {
+                    leaf,
+                    place,
+                    grouping: leaf_grouping(&query.plan.top, place),
+                    slot,
+                };
+                self.scan_slot(rt, clock, gate, query, queue, &leaf);
             }
             None => (),
         }
@@ -173,21 +175,14 @@ impl<J: Naming> Db<J> {
         rt: &R,
         clock: &C,
         gate: &G,
-        text: &str,
-        params: &Params,
-        query: u64,
+        query: &PlannedQuery<'_>,
         queue: &Mutex<ScanQueue<J>>,
-        place: usize,
-        leaf: &Leaf,
-        grouping: Option<&Grouping>,
-        number: usize,
+        leaf: &SlotLeaf<'_>,
     )
-        requires { IsLeafOf J.schema text.now params.now place leaf.now }
+        requires { IsLeafOf J.schema query.now.text.now query.now.params.now leaf.now.place leaf.now.leaf.now }
     {
         for _ in rt.forever() {
-            if !self.scan(
-                rt, clock, gate, text, params, query, queue, place, leaf, grouping, number,
-            ) {
+            if !self.scan(rt, clock, gate, query, queue, leaf) {
                 break;
             }
         }
@@ -199,29 +194,21 @@ impl<J: Naming> Db<J> {
         rt: &R,
         clock: &C,
         gate: &G,
-        text: &str,
-        params: &Params,
-        query: u64,
+        query: &PlannedQuery<'_>,
         queue: &Mutex<ScanQueue<J>>,
-        place: usize,
-        leaf: &Leaf,
-        grouping: Option<&Grouping>,
-        number: usize,
+        leaf: &SlotLeaf<'_>,
     ) -> bool
-        requires { IsLeafOf J.schema text.now params.now place leaf.now }
+        requires { IsLeafOf J.schema query.now.text.now query.now.params.now leaf.now.place leaf.now.leaf.now }
     {
         let interval = clock.now();
-        let Some(gap) = self.claim(rt, query, queue, place, number, interval) else {
+        let Some(gap) = self.claim(rt, query.number, queue, leaf.place, leaf.slot, interval) else {
             return false;
         };
-        gate.before_scan(place, number);
-        let scanned = self.read(
-            rt, gate, text, params, query, queue, place, leaf, grouping, number, interval, &gap,
-        );
-        if let Err(why) = scanned {
+        gate.before_scan(leaf.place, leaf.slot);
+        if let Err(why) = self.read(rt, gate, query, queue, leaf, interval, &gap) {
             queue.lock(rt).refuse(why);
         }
-        gate.after_scan(place, number);
+        gate.after_scan(leaf.place, leaf.slot);
         true
     }
 
@@ -233,7 +220,7 @@ impl<J: Naming> Db<J> {
         query: u64,
         queue: &Mutex<ScanQueue<J>>,
         place: usize,
-        number: usize,
+        slot: usize,
         interval: Interval,
     ) -> Option<Gap> {
         let mut queue = queue.lock(rt);
@@ -243,7 +230,7 @@ impl<J: Naming> Db<J> {
         let claimed = self
             .journal
             .lock(rt)
-            .claim(&self.board, query, place, number, interval);
+            .claim(&self.board, query, place, slot, interval);
         match claimed {
             Ok(gap) => gap,
             Err(why) => {
@@ -259,33 +246,28 @@ impl<J: Naming> Db<J> {
         &self,
         rt: &R,
         gate: &G,
-        text: &str,
-        params: &Params,
-        query: u64,
+        query: &PlannedQuery<'_>,
         queue: &Mutex<ScanQueue<J>>,
-        place: usize,
-        leaf: &Leaf,
-        grouping: Option<&Grouping>,
-        number: usize,
+        leaf: &SlotLeaf<'_>,
         interval: Interval,
         gap: &Gap,
     ) -> Result<(), Refusal>
-        requires { IsLeafOf J.schema text.now params.now place leaf.now }
+        requires { IsLeafOf J.schema query.now.text.now query.now.params.now leaf.now.place leaf.now.leaf.now }
         ensures { IfErr result (IsUnscanned J.schema) }
     {
-        let mut slot = self.slot(number)?.lock(rt);
-        let piece = slot.read(&self.board, leaf, grouping, gap)?;
-        gate.in_scan(place, number);
+        let mut slot = self.slot(leaf.slot)?.lock(rt);
+        let piece = slot.read(&self.board, leaf.leaf, leaf.grouping, gap)?;
+        gate.in_scan(leaf.place, leaf.slot);
         let mut queue = queue.lock(rt);
         let mut journal = self.journal.lock(rt);
         let registered = slot.register(
             &self.board,
             &mut journal,
-            text,
-            params,
-            query,
-            place,
-            leaf,
+            query.text,
+            query.params,
+            query.number,
+            leaf.place,
+            leaf.leaf,
             interval,
             gap,
             piece,
