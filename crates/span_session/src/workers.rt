@@ -23,6 +23,7 @@ use std::thread;
 use std::thread::Threads;
 
 /// A query that is open, with its plan.
+#[derive(Drop)]
 pub(crate) struct PlannedQuery<'a> {
     pub(crate) text: &'a str,
     pub(crate) params: &'a Params,
@@ -32,6 +33,7 @@ pub(crate) struct PlannedQuery<'a> {
 }
 
 /// A leaf of a query in one slot.
+#[derive(Drop)]
 struct SlotLeaf<'a> {
     leaf: &'a Leaf,
     /// Its place in the plan.

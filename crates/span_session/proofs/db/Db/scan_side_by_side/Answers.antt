@@ -17,7 +17,7 @@ use Rattle.span_session.proofs.db.Db.scan_side_by_side.Goals as goal
 use Rattle.span_session.proofs.db.Db.scan_side_by_side.Lts as lts
 
 -- what the workers share may be shared. A lemma over plain variables: among the hypotheses of the goal the search gives up
-shares : (j r c a : RattleType) (lj : Laws j) (lr : Laws r) (lc : Laws c) (la : Laws a) (n : Ghosts j.Denot) (d : Dict) (t : Threads.Ghosts r.Denot) (e : Dict) (w : Wait.Ghosts r.Denot) (f : Dict) (k : Clock.Ghosts c.Denot) (h : Dict) (s : Gate.Ghosts a.Denot) (i : Dict) (κs : Lfts 15) → IsSync (param 1 r) → IsSync (param 2 c) → IsSync (param 3 a) → IsSync (lts.arg-0-3 j r c a lj lr lc la n d t e w f k h s i κs)
+shares : (j r c a : RattleType) (lj : Laws j) (lr : Laws r) (lc : Laws c) (la : Laws a) (n : Ghosts j.Denot) (d : Dict) (t : Threads.Ghosts r.Denot) (e : Dict) (w : Wait.Ghosts r.Denot) (f : Dict) (k : Clock.Ghosts c.Denot) (h : Dict) (s : Gate.Ghosts a.Denot) (i : Dict) (κs : Lfts 13) → IsSync (param 1 r) → IsSync (param 2 c) → IsSync (param 3 a) → IsSync (lts.arg-0-3 j r c a lj lr lc la n d t e w f k h s i κs)
 shares j r c a lj lr lc la n d t e w f k h s i κs runtime clock gate =
     let shared = db_sync (param 0 j) n in
     let queue = of_queue.the_send (param 0 j) n in
