@@ -1776,3 +1776,82 @@ true,\N
 SELECT COUNT(FALSE AND DIV(1, 0) = 1), COUNT(NULL AND DIV(1, 0) = 1), COUNT(*) FROM Kinds
 rows 1
 8,0,8
+
+# Conditions on numbers outside the key, alone, beside others, and by BETWEEN, in every order; NULLs among them.
+
+SELECT id FROM Kinds WHERE n BETWEEN -7 AND 7
+rows 4
+7
+6
+5
+4
+
+SELECT id FROM Kinds WHERE n NOT BETWEEN -7 AND 7
+rows 2
+3
+2
+
+SELECT id FROM Kinds WHERE n BETWEEN 7 AND -7
+rows 0
+
+SELECT id FROM Kinds WHERE n BETWEEN NULL AND 7
+rows 0
+
+SELECT id FROM Kinds WHERE n BETWEEN -7 AND 7 AND t
+rows 2
+7
+4
+
+SELECT id FROM Kinds WHERE t AND n BETWEEN -7 AND 7 AND s LIKE 'a%'
+rows 2
+7
+4
+
+SELECT id FROM Kinds WHERE s = 'abc' AND n < 0
+rows 1
+5
+
+SELECT id FROM Kinds WHERE n < 0 AND s = 'abc' AND id <> 2
+rows 1
+5
+
+SELECT id, n FROM Kinds WHERE n >= 0 AND n <= 7 AND b IS NOT NULL
+rows 2
+6,7
+4,0
+
+SELECT COUNT(*) FROM Kinds WHERE n > -8 AND (t OR n < 0)
+rows 1
+4
+
+SELECT COUNT(*), SUM(n) FROM Kinds WHERE n <> 0 AND n BETWEEN -7 AND 9223372036854775806
+rows 1
+2,0
+
+SELECT id FROM Kinds WHERE n > 0 AND DIV(7, n - 7) = 0
+refused 62
+
+SELECT id FROM Kinds WHERE n > 0 AND n < 9223372036854775807 AND DIV(7, n) = 1
+rows 1
+6
+
+SELECT id FROM Kinds WHERE DIV(7, n) = 1 AND n > 0 AND t IS NULL
+rows 1
+6
+
+SELECT id FROM Kinds WHERE n IS NULL AND n > 0
+rows 0
+
+SELECT id FROM Kinds WHERE 0 < n AND n = 7 OR n = -7
+rows 2
+6
+5
+
+SELECT n, COUNT(*) FROM Marks WHERE n BETWEEN 2 AND 6 AND s IS NOT NULL GROUP BY n ORDER BY n DESC LIMIT 3
+rows 3
+6,1
+5,1
+4,1
+
+SELECT id FROM Nothing WHERE n BETWEEN 1 AND 2 AND t
+rows 0
