@@ -191,10 +191,19 @@ class Function:
         before = text[self.start : at]
         return "{\n" in before and f"\n{self.indent}}}\n" not in before
 
-    def goal(self, path, lines):
+    def place(self, file, parted, name):
+        """What the prover names the function by, a regular expression: a free function by its whole path, a method by its type, whose name may
+        have that of a trait after it."""
+        *types, _ = self.name.split("::")
+        if types:
+            return rf"(\S+{parted})?{types[-1]}\w*{parted}{name}"
+        return parted.join([*filter(None, module_of(file).split("/")), name])
+
+    def goal(self, crate, path, lines):
         """The first goal of the function that the prover leaves open, as it says: one that names nothing that is gone, where there is one. None
         where it has none."""
-        if not any(re.match(rf"fn (\S+::)?{re.escape(self.short)}: (no proof|not proved)", line) for line in lines):
+        open_line = rf"fn {crate.name}::{self.place(path, '::', self.short)}: (no proof|not proved)"
+        if not any(re.match(open_line, line) for line in lines):
             return None
         goals = [text for text in reports(lines) if self.has_goal(path, text)]
         by_names = f"({BY_NAMES} what the edit took away) "
@@ -205,7 +214,8 @@ class Function:
         source = re.match(r"note: (\S+?):(\d+):\d+: it is not proved", report)
         if source:
             return source.group(1) == path and self.first <= int(source.group(2)) <= self.last
-        return bool(re.match(rf"(\./)?proofs/(\S+/)?({self.short}|\+{self.cycle or self.short})/\w+\.antt:\d+:\d+: error", report))
+        place = self.place(path, "/", rf"({self.short}|\+{self.cycle or self.short})")
+        return bool(re.match(rf"(\./)?proofs/{place}/\w+\.antt:\d+:\d+: error", report))
 
 
 def reports(lines):
@@ -327,7 +337,7 @@ class Batch:
         lines = ran.stdout.split("\n")
         if ran.returncode != 1 or any(rt.unread(line, self.texts) for line in lines):
             return [None for _ in self.edits]
-        return [Function(self.texts[path], self.start(path, it)).goal(path, lines) for path, it in self.changed]
+        return [Function(self.texts[path], self.start(path, it)).goal(self.crate, path, lines) for path, it in self.changed]
 
     @contextlib.contextmanager
     def crate_with_holes(self, rt):
