@@ -1,6 +1,7 @@
 pub mod DeclaredRows
 mod Directories
 mod Ending
+mod LastJoin
 mod Entries
 pub mod KeyPlaces
 mod Running
