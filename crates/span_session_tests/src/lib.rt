@@ -4,6 +4,8 @@
 #![tactic(auto)]
 
 #[cfg(test)]
+mod all_slots;
+#[cfg(test)]
 mod callers;
 #[cfg(test)]
 mod clock;

@@ -30,14 +30,14 @@ use std::sync::Wait;
 use std::test::Fail;
 use std::thread::Threads;
 
-const TABLES: &str =
+pub(crate) const TABLES: &str =
     "CREATE TABLE Users (uid INT64 NOT NULL, email STRING(MAX)) PRIMARY KEY (uid); \
 CREATE TABLE Albums (uid INT64 NOT NULL, aid INT64 NOT NULL) PRIMARY KEY (uid, aid), INTERLEAVE IN PARENT Users";
 
 const UIDS: &str = "SELECT uid FROM Users";
 
 // An Insert of a row that has key columns alone.
-fn insert_into(alloc: Global, table: &str, key: &[i64]) -> Result<Mutation, AllocError> {
+pub(crate) fn insert_into(alloc: Global, table: &str, key: &[i64]) -> Result<Mutation, AllocError> {
     let mut values = Seq::new(alloc);
     for value in key {
         values.push(Value::Int(*value))?;
@@ -51,7 +51,7 @@ fn insert_into(alloc: Global, table: &str, key: &[i64]) -> Result<Mutation, Allo
 }
 
 // A transaction of two Inserts.
-fn both(
+pub(crate) fn both(
     alloc: Global,
     schema: &Schema,
     first: Mutation,

@@ -1,0 +1,221 @@
+//! Commits over all sixteen slots, and commits that are refused at their second slot.
+ghost use Rattle.std.specs.Prelude.{◌≡◌, IfOk};
+ghost use Rattle.span_mutate.specs.Typed.{AreTypedMutations};
+
+use crate::clock::{OpenGate, SharedClock};
+use crate::steps::{TABLES, both, insert_into, split};
+use crate::threads::{ask, two_of, two_schemas};
+use crate::two_sessions::{UIDS, are_uids, insert};
+use span_locks::board::Naming;
+use span_locks::session::Session;
+use span_machine::step::Verdict;
+use span_mutate::mutation::{Mutation, MutationKind};
+use span_mutate::transaction::Transaction;
+use span_schema::schema::Schema;
+use span_session::db::Db;
+use span_session::open::Opened;
+use span_value::owned::give_after;
+use span_value::refusal::Refusal;
+use std::alloc::{AllocError, Global};
+use std::marker::Brand;
+use std::process::Abort;
+use std::sync::Wait;
+use std::test::Fail;
+use std::thread::Threads;
+
+// Where slots are cut.
+const CUTS: [i64; 15] = [
+    100, 200, 300, 400, 500, 600, 700, 800, 900, 1000, 1100, 1200, 1300, 1400, 1500,
+];
+
+// A user in each of the sixteen slots.
+const ALL: [i64; 16] = [
+    1, 101, 201, 301, 401, 501, 601, 701, 801, 901, 1001, 1101, 1201, 1301, 1401, 1501,
+];
+
+// A transaction that inserts users.
+fn insert_all(alloc: Global, schema: &Schema, uids: &[i64]) -> Result<Transaction, Refusal>
+    ensures { IfOk result (λ t. AreTypedMutations schema.now t) }
+{
+    let mut mutations = Vec::new(alloc);
+    for uid in uids {
+        mutations.push(insert_into(alloc, "Users", &[*uid])?)?;
+    }
+    Transaction::new(alloc, schema, mutations)
+}
+
+// A change of the user of a number.
+fn change(alloc: Global, kind: MutationKind, uid: i64) -> Result<Mutation, AllocError> {
+    let mut change = insert_into(alloc, "Users", &[uid])?;
+    change.kind = kind;
+    Ok(change)
+}
+
+/// One commit of a user in each of the sixteen slots; commits that are refused at their second slot, by each of the causes that rows and other
+/// transactions give, leave nothing prepared at their first.
+#[test]
+fn sixteen_slots(rt: HostRuntime) -> Result<(), Fail> {
+    let alloc = rt.alloc();
+    let (schema, kept) = two_schemas(alloc, TABLES)?;
+    let opened = Opened::new(alloc, schema, 2)?;
+    by_all::<Brand, _>(&rt, alloc, opened, &kept)
+}
+
+fn by_all<J: Naming + Send + Sync, R: Threads + Wait + Abort + Sync>(
+    rt: &R,
+    alloc: Global,
+    opened: Opened,
+    schema: &Schema,
+) -> Result<(), Fail>
+    requires table { opened.table ≡ J.table }
+    requires schema { opened.schema ≡ J.schema }
+    requires kept { schema.now ≡ J.schema }
+{
+    let (db, sessions) = opened.into_database::<J>()?;
+    let (a, b) = two_of(sessions)?;
+    let checked = check_all(rt, alloc, &db, schema, a, b);
+    give_after(db, checked)
+}
+
+fn check_all<J: Naming + Send + Sync, R: Threads + Wait + Abort + Sync>(
+    rt: &R,
+    alloc: Global,
+    db: &Db<J>,
+    schema: &Schema,
+    a: Session<J>,
+    b: Session<J>,
+) -> Result<(), Fail>
+    requires { schema.now ≡ J.schema }
+{
+    let (mut a, mut b) = (a, b);
+    let clock = SharedClock::new();
+    check_commit(rt, alloc, db, schema, &clock, &mut a)?;
+    check_faults(rt, alloc, db, schema, &clock, &mut a)?;
+    check_conflict(rt, alloc, db, schema, &clock, &mut a, &mut b)
+}
+
+// Sixteen slots, and a commit over all of them.
+fn check_commit<J: Naming + Send + Sync, R: Threads + Wait + Abort + Sync>(
+    rt: &R,
+    alloc: Global,
+    db: &Db<J>,
+    schema: &Schema,
+    clock: &SharedClock,
+    me: &mut Session<J>,
+) -> Result<(), Fail>
+    requires { schema.now ≡ J.schema }
+{
+    for place in 0..15 {
+        assert_eq!(rt; split(rt, db, me, CUTS[place]), Ok(place + 1));
+    }
+    let all = insert_all(alloc, schema, &ALL)?;
+    assert_eq!(rt; db.commit(rt, clock, me, all), Ok(111));
+    assert_eq!(rt; db.look(me), 1);
+    let found = ask(rt, alloc, db, clock, &OpenGate, me, UIDS, 8)?;
+    assert!(rt; are_uids(&found, &ALL));
+    Ok(())
+}
+
+// A commit is refused at its second slot for each fault of a mutation.
+fn check_faults<J: Naming, R: Wait + Abort>(
+    rt: &R,
+    alloc: Global,
+    db: &Db<J>,
+    schema: &Schema,
+    clock: &SharedClock,
+    me: &mut Session<J>,
+) -> Result<(), Fail>
+    requires { schema.now ≡ J.schema }
+{
+    let known = insert_into(alloc, "Users", &[101])?;
+    check_refused(rt, alloc, db, schema, clock, me, 2, known, Refusal::Exists)?;
+    let absent = change(alloc, MutationKind::Update, 102)?;
+    check_refused(
+        rt,
+        alloc,
+        db,
+        schema,
+        clock,
+        me,
+        3,
+        absent,
+        Refusal::Missing,
+    )?;
+    let orphan = insert_into(alloc, "Albums", &[102, 1])?;
+    check_refused(
+        rt,
+        alloc,
+        db,
+        schema,
+        clock,
+        me,
+        4,
+        orphan,
+        Refusal::ParentMissing,
+    )?;
+    let child = insert_into(alloc, "Albums", &[101, 1])?;
+    let other = insert_into(alloc, "Users", &[103])?;
+    let with_child = both(alloc, schema, child, other)?;
+    db.commit(rt, clock, me, with_child)?;
+    let parent = change(alloc, MutationKind::Delete, 101)?;
+    check_refused(
+        rt,
+        alloc,
+        db,
+        schema,
+        clock,
+        me,
+        5,
+        parent,
+        Refusal::HasChildren,
+    )
+}
+
+// A commit of a user in the first slot and of a mutation in the second one is refused there; then the user can be committed alone.
+fn check_refused<J: Naming, R: Wait + Abort>(
+    rt: &R,
+    alloc: Global,
+    db: &Db<J>,
+    schema: &Schema,
+    clock: &SharedClock,
+    me: &mut Session<J>,
+    uid: i64,
+    wrong: Mutation,
+    why: Refusal,
+) -> Result<(), Fail>
+    requires { schema.now ≡ J.schema }
+{
+    let first = insert_into(alloc, "Users", &[uid])?;
+    let refused = both(alloc, schema, first, wrong)?;
+    assert_eq!(rt; db.commit(rt, clock, me, refused), Err(why));
+    let alone = insert(alloc, schema, uid)?;
+    assert!(rt; db.commit(rt, clock, me, alone).is_ok());
+    Ok(())
+}
+
+// A commit is refused at its second slot, where another transaction is prepared at one of its keys. Once that is aborted there, it can be committed.
+fn check_conflict<J: Naming, R: Wait + Abort>(
+    rt: &R,
+    alloc: Global,
+    db: &Db<J>,
+    schema: &Schema,
+    clock: &SharedClock,
+    me: &mut Session<J>,
+    other: &mut Session<J>,
+) -> Result<(), Fail>
+    requires { schema.now ≡ J.schema }
+{
+    let before = insert(alloc, schema, 150)?;
+    let number = db.begin(rt, other, before)?;
+    assert_eq!(rt; db.prepare(rt, other, number, 1), Ok(()));
+    let wanted = insert_all(alloc, schema, &[50, 150])?;
+    assert_eq!(rt; db.commit(rt, clock, me, wanted), Err(Refusal::Conflict));
+    assert_eq!(rt;
+        db.decide(rt, clock, other, number, Verdict::Abort),
+        Ok(None)
+    );
+    assert_eq!(rt; db.apply(rt, clock, other, number, 1), Ok(()));
+    let again = insert_all(alloc, schema, &[50, 150])?;
+    assert!(rt; db.commit(rt, clock, me, again).is_ok());
+    Ok(())
+}
