@@ -87,12 +87,7 @@ fn have_equal_columns(
 }
 
 /// The order of the value at a place of a row and that at a place of another; a place that a row does not have counts as NULL.
-fn compare_at(
-    left: &[Value],
-    left_place: usize,
-    right: &[Value],
-    right_place: usize,
-) -> Ordering
+fn compare_at(left: &[Value], left_place: usize, right: &[Value], right_place: usize) -> Ordering
     ensures { result ≡ value_order (column_of left.now left_place) (column_of right.now right_place) }
 {
     let null = Value::Null;
@@ -120,7 +115,11 @@ pub(crate) fn compare_columns(
             return order;
         }
     }
-    left_places.len().cmp(&right_places.len())
+    if left_places.len() < right_places.len() {
+        Ordering::Less
+    } else {
+        Ordering::Equal
+    }
 }
 
 /// A lent row in a set of rows. Contracts see the row.
