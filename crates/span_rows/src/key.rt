@@ -106,7 +106,8 @@ pub(crate) fn compare_columns(
 ) -> Ordering
     ensures { result ≡ values_order (columns_at left_places.now left.now) (columns_at right_places.now right.now) }
 {
-    for at in 0..left_places.len() {
+    let count = left_places.len();
+    for at in 0..count {
         if at >= right_places.len() {
             return Ordering::Greater;
         }
@@ -115,7 +116,7 @@ pub(crate) fn compare_columns(
             return order;
         }
     }
-    if left_places.len() < right_places.len() {
+    if count < right_places.len() {
         Ordering::Less
     } else {
         Ordering::Equal

@@ -6,9 +6,9 @@ pub returns-then-at-right_places : goal.returns-then-at-right_places
 returns-then-at-right_places c =
     more_left c.args.left.now c.args.right.now c.args.left_places.now c.args.right_places.now c.loop-at.at c.loop-at-test.true c.if-at-right_places.true ∙ sym c.loop-at.invariant
 
-pub returns-then-left_places-right_places : goal.returns-then-left_places-right_places
-returns-then-left_places-right_places c =
-    let less = c.if-left_places-right_places.true in
+pub returns-then-count-right_places : goal.returns-then-count-right_places
+returns-then-count-right_places c =
+    let less = c.if-count-right_places.true in
     let past = c.loop-at-test.false in
     let most = c.loop-at.auto.at-end in
     more_right c.args.left.now c.args.right.now c.args.left_places.now c.args.right_places.now c.loop-at.at past (omega arith) ∙ sym c.loop-at.invariant
