@@ -17,3 +17,4 @@ pub mod LentRows
 pub mod Codes
 pub mod CodedRows
 pub mod TakenColumns
+pub mod Placing

@@ -10,3 +10,4 @@ pub mod RowIndexes
 pub mod Orders
 pub mod Codes
 pub mod Columns
+pub mod RowPlaces
