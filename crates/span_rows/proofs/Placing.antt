@@ -1,5 +1,5 @@
 -- Rows of a list with their codes and their places, in order.
-use Rattle.std.proofs.Common.{◌≡◌, refl, sym, ap, subst, ◌∙◌, ℕ, ◌<◌, Bool, true, ◌&&◌, List, [], ◌∷◌, ◌++◌, length, map, get_or}
+use Rattle.std.proofs.Common.{◌≡◌, refl, sym, ap, subst, ◌∙◌, ℕ, ◌<◌, Bool, ◌&&◌, List, [], ◌∷◌, ◌++◌, length, map, get_or}
 use Rattle.std.specs.List.{AllByRecursion}
 use Rattle.std.proofs.lemmas.Bool.{and_parts}
 use Rattle.std.proofs.lemmas.List.{map_push}
@@ -7,7 +7,6 @@ use Rattle.std.proofs.lemmas.List.Elements.{All-from_recursion}
 use Rattle.span_query.specs.declared.query.SortKey.{SortKey}
 use Rattle.span_query.specs.Rows.{Row}
 use Rattle.span_query.specs.Sorting.{insertion_sort, sorted}
-use Rattle.span_rows.specs.declared.coded.CodedRow.{CodedRow}
 use Rattle.span_rows.specs.declared.placed.PlacedRow.{PlacedRow}
 use Rattle.span_rows.specs.Codes.{IsCoded, IsCodedAs, are_exact, code_before, uncoded}
 use Rattle.span_rows.specs.RowPlaces.{ArePlacesBy, IsPlaced, rows_at, without_places}
@@ -26,18 +25,22 @@ module _ (rows : List Row) (keys : List SortKey) where
   pub placed_more : (exact both : Bool) (xs : List PlacedRow) (x : PlacedRow) → AllByRecursion (IsPlaced rows keys exact) xs
       → IsCoded keys x.coded → x.coded.row.now ≡ get_or rows x.place [] → x.place < length rows → both ≡ (exact && are_exact keys x.coded.row.now)
       → AllByRecursion (IsPlaced rows keys both) (xs ++ x ∷ [])
-  placed_more exact both [] x all coded row within is =
-      (record {
-        coded = record { coded = coded; ties = λ e. (and_parts exact (are_exact keys x.coded.row.now) (sym is ∙ e)).1 };
-        row = row;
-        within = within;
-      }, tt)
-  placed_more exact both (y ∷ xs) x all coded row within is =
-      (record {
-        coded = record { coded = all.0.coded.coded; ties = λ e. all.0.coded.ties (and_parts exact (are_exact keys x.coded.row.now) (sym is ∙ e)).0 };
-        row = all.0.row;
-        within = all.0.within;
-      }, placed_more exact both xs x all.1 coded row within is)
+  placed_more exact both [] x all coded row within is = (
+    record {
+      coded = record { coded = coded; ties = λ e. (and_parts exact (are_exact keys x.coded.row.now) (sym is ∙ e)).1 };
+      row = row;
+      within = within;
+    },
+    tt,
+  )
+  placed_more exact both (y ∷ xs) x all coded row within is = (
+    record {
+      coded = record { coded = all.0.coded.coded; ties = λ e. all.0.coded.ties (and_parts exact (are_exact keys x.coded.row.now) (sym is ∙ e)).0 };
+      row = all.0.row;
+      within = all.0.within;
+    },
+    placed_more exact both xs x all.1 coded row within is,
+  )
 
   -- ---- in order
 

@@ -1,5 +1,5 @@
 -- Rows are put in order before or after their columns are taken.
-use Rattle.std.proofs.Common.{◌≡◌, refl, ap, ◌∙◌, ℕ, Bool, true, false, cond, List, [], ◌∷◌, map, Option, Some, None, take, drop}
+use Rattle.std.proofs.Common.{◌≡◌, refl, ap, ◌∙◌, ℕ, Bool, List, [], ◌∷◌, map, Option, Some, None, take, drop}
 use Rattle.std.specs.Prelude.{slice_get, option_map}
 use Rattle.std.specs.declared.cmp.Ordering.{Ordering}
 use Rattle.std.specs.Ordering.{is_lt}
@@ -16,7 +16,7 @@ use Rattle.span_query.specs.declared.query.Limit.{Limit}
 use Rattle.span_query.specs.Rows.{Row, OrFault, append_results, singleton, value_of, values, project_rows}
 use Rattle.span_query.specs.Groups.{columns_at}
 use Rattle.span_query.specs.Meaning.{limit_rows}
-use Rattle.span_query.specs.Sorting.{reverse_if, or_next, key_order, row_order, comes_before, insert_sorted, insertion_sort, sorted}
+use Rattle.span_query.specs.Sorting.{reverse_if, or_next, key_order, row_order, comes_before, sorted}
 use Rattle.span_rows.specs.Columns.{AreColumns, AreKeysOver, key_over}
 use Rattle.span_rows.proofs.Sorting.{sorted_map}
 

@@ -1,5 +1,5 @@
 //! Rows with their order by some keys, made where the rows are read, so that several threads can put their parts in order.
-ghost use Rattle.std.specs.Prelude.{◌≡◌, ◌<◌, ◌++◌, IfOk, IfSome, OnOk, length};
+ghost use Rattle.std.specs.Prelude.{◌≡◌, ◌<◌, ◌++◌, IfOk, IfSome, IsTrue, OnOk, length};
 ghost use Rattle.std.specs.List.{All};
 ghost use Rattle.span_query.specs.Sorting.{sorted};
 ghost use Rattle.span_rows.specs.LentRows.{lent_rows};
@@ -17,6 +17,27 @@ use std::marker::Model;
 struct RowOrder {
     keys: Vec<SortKey>,
     places: Vec<usize>,
+}
+
+fn is_same_key(left: &SortKey, right: &SortKey) -> bool
+    ensures { IsTrue result → left.now ≡ right.now }
+{
+    left.column == right.column && left.is_descending == right.is_descending
+}
+
+/// Whether keys are the same, one by one.
+fn are_same_keys(left: &[SortKey], right: &[SortKey]) -> bool
+    ensures { IsTrue result → left.now ≡ right.now }
+{
+    if left.len() != right.len() {
+        return false;
+    }
+    for at in 0..left.len() {
+        if !is_same_key(&left[at], &right[at]) {
+            return false;
+        }
+    }
+    true
 }
 
 /// Rows, and their order by some keys where it was made. Contracts see the rows.
@@ -76,7 +97,7 @@ impl OrderedRows {
         let Some(order) = &self.order else {
             return None;
         };
-        if keys == order.keys.as_slice() {
+        if are_same_keys(keys, order.keys.as_slice()) {
             Some(order.places.as_slice())
         } else {
             None
@@ -94,7 +115,7 @@ impl OrderedRows {
             (sorted keys.now (lent_rows all.new.items) ≡ sorted keys.now (lent_rows all.old.items ++ self.now)) }
     {
         match self.places_by(keys) {
-            Some(places) => lend_places(&self.rows, places, all),
+            Some(places) => lend_sorted(keys, &self.rows, places, all),
             None => lend_rows(&self.rows, all),
         }
     }
@@ -113,5 +134,20 @@ fn lend_places<'a>(
     for place in places {
         all.push(rows.row(*place))?;
     }
+    Ok(())
+}
+
+/// Lends the rows at their places in the order of the keys, after others.
+fn lend_sorted<'a>(
+    keys: &[SortKey],
+    rows: &'a RowList,
+    places: &[usize],
+    all: &mut Vec<&'a [Value]>,
+) -> Result<(), AllocError>
+    requires { ArePlacesBy keys.now rows.now places.now }
+    ensures { OnOk result
+        (sorted keys.now (lent_rows all.new.items) ≡ sorted keys.now (lent_rows all.old.items ++ rows.now)) }
+{
+    lend_places(rows, places, all)?;
     Ok(())
 }

@@ -183,10 +183,7 @@ pub fn lent_rows(alloc: Global, rows: &RowList) -> Result<Vec<&[Value]>, AllocEr
 }
 
 /// Lends the rows of a list after others, in their order.
-pub(crate) fn lend_rows<'a>(
-    rows: &'a RowList,
-    all: &mut Vec<&'a [Value]>,
-) -> Result<(), AllocError>
+pub(crate) fn lend_rows<'a>(rows: &'a RowList, all: &mut Vec<&'a [Value]>) -> Result<(), AllocError>
     ensures { OnOk result (lent_rows all.new.items ≡ lent_rows all.old.items ++ rows.now) }
 {
     all.reserve(rows.len())?;
