@@ -183,12 +183,12 @@ pub fn lent_rows(alloc: Global, rows: &RowList) -> Result<Vec<&[Value]>, AllocEr
 }
 
 /// Lends the rows of a list after others, in their order.
-pub(crate) fn lend_rows<'a>(rows: &'a RowList, all: &mut Vec<&'a [Value]>) -> Result<(), AllocError>
-    ensures { OnOk result (lent_rows all.new.items ≡ lent_rows all.old.items ++ rows.now) }
+pub(crate) fn lend_rows<'a>(more: &'a RowList, all: &mut Vec<&'a [Value]>) -> Result<(), AllocError>
+    ensures { OnOk result (lent_rows all.new.items ≡ lent_rows all.old.items ++ more.now) }
 {
-    all.reserve(rows.len())?;
-    for at in 0..rows.len() {
-        all.push(rows.row(at))?;
+    all.reserve(more.len())?;
+    for at in 0..more.len() {
+        all.push(more.row(at))?;
     }
     Ok(())
 }
