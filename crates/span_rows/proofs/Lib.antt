@@ -18,3 +18,4 @@ pub mod Codes
 pub mod CodedRows
 pub mod TakenColumns
 pub mod Placing
+pub mod FirstOfParts

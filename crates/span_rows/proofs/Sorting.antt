@@ -51,7 +51,7 @@ module _ {A : Type 0} (lt : A → A → Bool) where
     pub from_sorted : (ys : List A) → IsSortedBy lt ys → IsSorted lt ys
     from_sorted ys up = from_pairs ys (sorted_far lt o ys up)
 
-    none_before : (x y : A) (ys : List A) → lt y x ≡ false → AllByRecursion (λ w. lt w y ≡ false) ys → AllByRecursion (λ w. lt w x ≡ false) ys
+    pub none_before : (x y : A) (ys : List A) → lt y x ≡ false → AllByRecursion (λ w. lt w y ≡ false) ys → AllByRecursion (λ w. lt w x ≡ false) ys
     none_before x y [] e all = tt
     none_before x y (w ∷ ys) e all = (o.chain w y x all.0 e, none_before x y ys e all.1)
 

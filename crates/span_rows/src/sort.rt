@@ -1,5 +1,5 @@
 //! ORDER BY and LIMIT: rows in the order of some keys, and a part of a list of rows.
-ghost use Rattle.std.specs.Prelude.{◌≡◌, ◌+◌, ◌++◌, IfOk, IfSome, Some, List, map, true};
+ghost use Rattle.std.specs.Prelude.{◌≡◌, ℕ, ◌+◌, ◌++◌, IfOk, IfSome, Some, List, map, take, true};
 ghost use Rattle.span_query.specs.declared.query.Limit.{Limit};
 ghost use Rattle.std.specs.Cmp.{IsStrictWeakOrder};
 ghost use Rattle.std.specs.List.Sorted.{IsStableBy};
@@ -201,9 +201,13 @@ pub fn sorting_is_stable()
 {}
 
 /// A law, which takes no time: lists of rows may each be replaced by one that sorting makes the same, and still do so one after the
-/// other; a list in order is such a one.
+/// other; a list in order is such a one. The same holds of lists of which sorting makes the same first rows.
 pub fn sorting_in_parts()
     ensures both { (keys : List SortKey) (first others second more : List Row) → spec.sorted keys first ≡ spec.sorted keys others
         → spec.sorted keys second ≡ spec.sorted keys more → spec.sorted keys (first ++ second) ≡ spec.sorted keys (others ++ more) }
+    ensures first { (count : ℕ) (keys : List SortKey) (first others second more : List Row)
+        → take count (spec.sorted keys first) ≡ take count (spec.sorted keys others)
+        → take count (spec.sorted keys second) ≡ take count (spec.sorted keys more)
+        → take count (spec.sorted keys (first ++ second)) ≡ take count (spec.sorted keys (others ++ more)) }
     ensures again { (keys : List SortKey) (rows : List Row) → spec.sorted keys (spec.sorted keys rows) ≡ spec.sorted keys rows }
 {}
