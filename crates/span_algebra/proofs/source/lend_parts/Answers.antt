@@ -1,4 +1,4 @@
-use Rattle.std.proofs.Common.{rules, ◌≡◌, ◌++◌, ◌<◌, ◌≤◌, ◌∙◌, List, length, get_or, take, ap, sym, refl}
+use Rattle.std.proofs.Common.{rules, ◌≡◌, ◌<◌, ◌≤◌, ◌∙◌, List, length, get_or, take, ap, sym, refl}
 use Rattle.span_query.specs.Rows.{Row}
 use Rattle.span_query.specs.Sorting.{comes_before, sorted}
 use Rattle.span_rows.specs.LentRows.{lent_rows}
