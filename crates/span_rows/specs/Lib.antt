@@ -7,6 +7,7 @@ pub mod EqualRows
 pub mod Candidates
 pub mod LentRows
 pub mod RowIndexes
+pub mod KeyRuns
 pub mod Orders
 pub mod Codes
 pub mod Columns

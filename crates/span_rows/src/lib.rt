@@ -12,4 +12,5 @@ pub mod join;
 pub mod key;
 pub mod row;
 pub mod row_list;
+mod runs;
 pub mod sort;

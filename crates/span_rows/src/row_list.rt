@@ -79,6 +79,14 @@ impl RowList {
         row_at(self.values.as_slice(), self.ends.as_slice(), at)
     }
 
+    /// Removes all rows. Their memory is used again.
+    pub fn clear(&mut self)
+        ensures { self.new ≡ [] }
+    {
+        self.values.clear();
+        self.ends.clear();
+    }
+
     /// Adds a row, whose values are moved. An error leaves the rows and the values as they were.
     pub fn push(&mut self, row: &mut Vec<Value>) -> Result<(), AllocError>
         ensures ok { OnOk result (self.new ≡ self.old ++ row.old.items ∷ []) }
