@@ -18,3 +18,5 @@ pub mod KeyRuns
 pub mod Codes
 pub mod CodedRows
 pub mod TakenColumns
+pub mod Placing
+pub mod FirstOfParts

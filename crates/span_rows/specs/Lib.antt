@@ -11,3 +11,4 @@ pub mod KeyRuns
 pub mod Orders
 pub mod Codes
 pub mod Columns
+pub mod RowPlaces

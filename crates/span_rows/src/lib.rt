@@ -10,6 +10,8 @@ pub mod filter;
 mod first_rows;
 pub mod join;
 pub mod key;
+pub mod ordered_rows;
+mod placed;
 pub mod row;
 pub mod row_list;
 mod runs;

@@ -190,6 +190,17 @@ pub fn lent_rows(alloc: Global, rows: &RowList) -> Result<Vec<&[Value]>, AllocEr
     Ok(all)
 }
 
+/// Lends the rows of a list after others, in their order.
+pub(crate) fn lend_rows<'a>(more: &'a RowList, all: &mut Vec<&'a [Value]>) -> Result<(), AllocError>
+    ensures { OnOk result (lent_rows all.new.items ≡ lent_rows all.old.items ++ more.now) }
+{
+    all.reserve(more.len())?;
+    for at in 0..more.len() {
+        all.push(more.row(at))?;
+    }
+    Ok(())
+}
+
 /// The place of the first value of a row.
 #[tactic(auto, using(crate::proofs::Cutting::start_after))]
 fn start_of(ends: &[usize], at: usize) -> usize
