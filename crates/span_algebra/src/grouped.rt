@@ -116,15 +116,25 @@ fn groups_of(
     let Some(measures) = measures_of(alloc, grouping.aggregates.as_slice())? else {
         return Ok(None);
     };
-    match groups_where(alloc, &None, grouping, rows) {
-        Ok(groups) => Ok(Some(Groups {
-            keys: grouping.keys.as_slice().to_vec(alloc)?,
-            measures,
-            groups,
-        })),
-        Err(Failure::Fault) => Ok(None),
-        Err(Failure::OutOfMemory) => Err(AllocError),
+    let groups = match groups_where(alloc, &None, grouping, rows) {
+        Ok(groups) => groups,
+        Err(Failure::Fault) => return Ok(None),
+        Err(Failure::OutOfMemory) => return Err(AllocError),
+    };
+    if are_many(groups.len(), rows.len()) {
+        return Ok(None);
     }
+    Ok(Some(Groups {
+        keys: grouping.keys.as_slice().to_vec(alloc)?,
+        measures,
+        groups,
+    }))
+}
+
+/// Whether there are so many groups of rows that those of several parts are sooner made of all rows than put together. Only how fast a query
+/// is answered rests on it.
+fn are_many(groups: usize, rows: usize) -> bool {
+    groups > rows / 2
 }
 
 impl GroupedRows {
