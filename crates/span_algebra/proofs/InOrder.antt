@@ -1,5 +1,5 @@
 -- What a query means whose rows are put in order before the columns of its select list are copied.
-use Rattle.std.proofs.Common.{◌≡◌, ◌∙◌, refl, ap, ℕ, Bool, false, List, [], map, Option, Some, None, Err}
+use Rattle.std.proofs.Common.{◌≡◌, ◌∙◌, refl, ap, sym, ℕ, Bool, false, List, [], map, Option, Some, None, Err}
 use Rattle.std.proofs.lemmas.List.{append-nil}
 use Rattle.span_expr.specs.declared.expr.Expr.{Expr}
 use Rattle.span_query.specs.declared.query.Block.{Block}
@@ -21,7 +21,7 @@ use Rattle.span_rows.specs.Answers.{Gives}
 use Rattle.span_rows.proofs.TakenColumns.{project_columns, columns_in_order}
 use Rattle.span_algebra.specs.declared.ordered.ColumnOrder.{ColumnOrder}
 use Rattle.span_algebra.specs.ColumnOrders.{IsColumnOrder, IsTable}
-use Rattle.span_algebra.specs.Sources.{GivesRows}
+use Rattle.span_algebra.specs.Sources.{GivesRows, SortsAs}
 use Rattle.span_algebra.proofs.Derived.{joins-fail, meaning_is}
 
 -- the rows of the FROM of a block
@@ -67,6 +67,13 @@ pub rows_of_table : (tables : ℕ → Rows) (b : Block BoundQuery) (n : ℕ) →
 rows_of_table tables b n h =
     ap (λ (i : Item BoundQuery). from tables (map_item (meaning_over tables) i) (map (map_join (meaning_over tables)) b.joins)) h.from
     ∙ ap (λ (js : List (Join BoundQuery)). from tables (item.Table n) (map (map_join (meaning_over tables)) js)) h.joins
+
+-- rows that these rows may stand for where they are sorted, as those of the FROM
+pub sorts_columns : (q : BoundQuery-F BoundQuery) (order : ColumnOrder) (rows : List Row) (o : Rows) → SortsAs order.keys.items rows o
+    → (o >>= (λ found. Some (columns_first q order found))) ≡ Some (columns_first q order rows)
+sorts_columns q order rows None h = absurd h
+sorts_columns q order rows (Some all) h =
+    ap (λ (l : List Row). Some (map (columns_at order.columns.items) (limit_rows q.limit l))) (sym h)
 
 -- where the FROM fails, the query does
 pub ordered_fails : (why : Failure) (tables : ℕ → Rows) (q : BoundQuery) (order : ColumnOrder) → IsColumnOrder (out-BoundQuery q) order

@@ -2,7 +2,9 @@
 use Rattle.std.specs.Prelude.{◌≡◌, List, [], Option, Result, Ok, Err, Some, None}
 use Rattle.span_expr.specs.declared.cell.Failure.{Failure}
 use Rattle.span_expr.specs.declared.cell.Failure.TheVariants.{Fault, OutOfMemory}
+use Rattle.span_query.specs.declared.query.SortKey.{SortKey}
 use Rattle.span_query.specs.Rows.{Row, Rows}
+use Rattle.span_query.specs.Sorting.{sorted}
 use Rattle.span_algebra.specs.declared.source.Source.{Source}
 use Rattle.span_algebra.specs.declared.source.Source.TheVariants.{Lent, Made}
 use Rattle.span_algebra.specs.declared.source.TableSource.{TableSource}
@@ -28,3 +30,8 @@ source_result table.Fault = None
 abbrev pub IsGivenBy : Option TableSource → Rows → Type 0
 IsGivenBy None o = o ≡ Some []
 IsGivenBy (Some source) o = o ≡ source_result source
+
+-- they are rows that these rows may stand for where all are sorted by the keys
+abbrev pub SortsAs : List SortKey → List Row → Rows → Type 0
+SortsAs keys rows None = ⊥
+SortsAs keys rows (Some all) = sorted keys rows ≡ sorted keys all

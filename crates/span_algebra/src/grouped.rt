@@ -1,14 +1,19 @@
-//! Rows with the groups that they fall into, made where the rows are read, so that several threads can make the groups of their parts.
-ghost use Rattle.std.specs.Prelude.{◌≡◌, IfOk, IfSome, IsTrue, MatchOption, MatchResult, map};
+//! Rows with the groups that they fall into, or with their order, made where the rows are read, so that several threads can make those of
+//! their parts.
+ghost use Rattle.std.specs.Prelude.{◌≡◌, ◌++◌, IfOk, IfSome, IsTrue, MatchOption, MatchResult, OnOk, map};
 ghost use Rattle.span_query.specs.Groups as spec;
+ghost use Rattle.span_query.specs.Sorting.{sorted};
+ghost use Rattle.span_rows.specs.LentRows.{lent_rows};
 ghost use Rattle.span_algebra.specs.GroupStates.{AreGroupsOf};
 ghost use Rattle.span_algebra.specs.Parts.{aggregate_of, AreMeasuresOf, HaveGroups};
 
 use super::group::{Group, groups_where};
 use span_expr::cell::Failure;
 use span_expr::expr::Expr;
-use span_query::query::{Aggregate, Function, Grouping};
+use span_query::query::{Aggregate, Function, Grouping, SortKey};
+use span_rows::ordered_rows::OrderedRows;
 use span_rows::row_list::RowList;
+use span_value::value::Value;
 use std::alloc::{AllocError, Global};
 use std::marker::Model;
 
@@ -81,10 +86,10 @@ struct Groups {
     groups: Vec<Group>,
 }
 
-/// Rows, and the groups that they fall into where these were made. Contracts see the rows.
+/// Rows, and the groups that they fall into, or their order, where these were made. Contracts see the rows.
 #[derive(Debug, Drop)]
 pub struct GroupedRows {
-    rows: RowList,
+    rows: OrderedRows,
     groups: Option<Groups>,
 }
 
@@ -111,23 +116,50 @@ fn groups_of(
     let Some(measures) = measures_of(alloc, grouping.aggregates.as_slice())? else {
         return Ok(None);
     };
-    match groups_where(alloc, &None, grouping, rows) {
-        Ok(groups) => Ok(Some(Groups {
-            keys: grouping.keys.as_slice().to_vec(alloc)?,
-            measures,
-            groups,
-        })),
-        Err(Failure::Fault) => Ok(None),
-        Err(Failure::OutOfMemory) => Err(AllocError),
+    let groups = match groups_where(alloc, &None, grouping, rows) {
+        Ok(groups) => groups,
+        Err(Failure::Fault) => return Ok(None),
+        Err(Failure::OutOfMemory) => return Err(AllocError),
+    };
+    if are_many(groups.len(), rows.len()) {
+        return Ok(None);
     }
+    Ok(Some(Groups {
+        keys: grouping.keys.as_slice().to_vec(alloc)?,
+        measures,
+        groups,
+    }))
+}
+
+/// Whether there are so many groups of rows that those of several parts are sooner made of all rows than put together. Only how fast a query
+/// is answered rests on it.
+fn are_many(groups: usize, rows: usize) -> bool {
+    groups > rows / 2
 }
 
 impl GroupedRows {
-    /// Rows without groups.
+    /// Rows without groups and without their order.
     pub fn new(rows: RowList) -> GroupedRows
         ensures { result ≡ rows }
     {
-        GroupedRows { rows, groups: None }
+        GroupedRows {
+            rows: OrderedRows::new(rows),
+            groups: None,
+        }
+    }
+
+    /// Rows with their order by the keys. The only error is out of memory.
+    pub fn with_order(
+        alloc: Global,
+        keys: &[SortKey],
+        rows: RowList,
+    ) -> Result<GroupedRows, AllocError>
+        ensures { IfOk result (λ ordered. ordered ≡ rows) }
+    {
+        Ok(GroupedRows {
+            rows: OrderedRows::with_order(alloc, keys, rows)?,
+            groups: None,
+        })
     }
 
     /// Rows with the groups that a block makes of them, as far as these are made where rows are read: where each aggregate is of a column, and
@@ -140,14 +172,30 @@ impl GroupedRows {
         ensures { IfOk result (λ grouped. grouped ≡ rows) }
     {
         let groups = groups_of(alloc, grouping, &rows)?;
-        Ok(GroupedRows { rows, groups })
+        Ok(GroupedRows {
+            rows: OrderedRows::new(rows),
+            groups,
+        })
     }
 
     /// The rows.
     pub fn rows(&self) -> &RowList
         ensures { result.now ≡ self.now }
     {
-        &self.rows
+        self.rows.rows()
+    }
+
+    /// Lends the rows after others, in the order of the keys where it was made, so that sorting all has less to do. The only error
+    /// is out of memory.
+    pub(crate) fn lend_in_order<'a>(
+        &'a self,
+        keys: &[SortKey],
+        all: &mut Vec<&'a [Value]>,
+    ) -> Result<(), AllocError>
+        ensures { OnOk result
+            (sorted keys.now (lent_rows all.new.items) ≡ sorted keys.now (lent_rows all.old.items ++ self.now)) }
+    {
+        self.rows.lend_in_order(keys, all)
     }
 
     /// The groups that a block makes of the rows, where they were made.

@@ -6,7 +6,7 @@ mod block;
 mod group;
 pub mod grouped;
 mod merge;
-mod ordered;
+pub mod ordered;
 pub mod plain;
 mod select;
 pub mod source;

@@ -7,10 +7,11 @@ ghost use Rattle.span_query.specs.Sorting.{sorted};
 ghost use Rattle.span_rows.specs.LentRows.{lent_rows};
 ghost use Rattle.span_algebra.specs.ColumnOrders.{IsColumnOrder, IsTable, TakesAllRows};
 
+use super::grouped::GroupedRows;
 use span_query::query::{Block, BoundQuery, Item, Limit, SortKey};
 use span_rows::columns::{columns_of, keys_over};
 use span_rows::row_list::{RowList, lent_rows};
-use span_rows::sort::order_columns;
+use span_rows::sort::{few_rows, order_columns};
 use span_value::value::Value;
 use std::alloc::{AllocError, Global};
 
@@ -19,6 +20,15 @@ use std::alloc::{AllocError, Global};
 pub(crate) struct ColumnOrder {
     columns: Vec<usize>,
     keys: Vec<SortKey>,
+}
+
+impl ColumnOrder {
+    /// The keys, as keys of the rows that the select list is taken at.
+    pub(crate) fn keys(&self) -> &[SortKey]
+        ensures { result.now ≡ self.now.keys.items }
+    {
+        self.keys.as_slice()
+    }
 }
 
 /// Whether a query is one SELECT whose select list is taken at each row of its FROM, and puts its rows in order.
@@ -91,4 +101,32 @@ pub(crate) fn take_columns_of(
     let lent = lent_rows(alloc, rows)?;
     let part = take_columns(alloc, order, limit, lent)?;
     Ok(part)
+}
+
+/// The table all of whose rows a query puts in order, where it is such a query: one SELECT with no condition and no groups. None where
+/// LIMIT needs few of them, for which the others are not sorted.
+pub fn ordered_table(query: &BoundQuery) -> Option<usize>
+    ensures table { IfSome result (λ number. IsTable (out-BoundQuery query.now).first number) }
+    ensures takes { IfSome result (λ _. TakesAllRows (out-BoundQuery query.now)) }
+{
+    if orders_all_rows(query) && few_rows(query.limit).is_none() {
+        only_table(&query.first)
+    } else {
+        None
+    }
+}
+
+/// Rows of the table that a query puts in order, with this order where its select list is columns alone. The only error is out of
+/// memory.
+pub fn order_part(
+    alloc: Global,
+    query: &BoundQuery,
+    rows: RowList,
+) -> Result<GroupedRows, AllocError>
+    ensures { IfOk result (λ ordered. ordered ≡ rows) }
+{
+    match column_order(alloc, query)? {
+        Some(order) => GroupedRows::with_order(alloc, order.keys(), rows),
+        None => Ok(GroupedRows::new(rows)),
+    }
 }

@@ -4,16 +4,17 @@ ghost use Rattle.std.specs.Option.{option_copied};
 ghost use Rattle.span_query.specs.Meaning as spec;
 ghost use Rattle.span_query.specs.Groups.{groups};
 ghost use Rattle.span_query.specs.Rows.{Row, unless_fault};
+ghost use Rattle.span_query.specs.Sorting.{sorted};
 ghost use Rattle.span_rows.specs.Answers.{Gives};
 ghost use Rattle.span_rows.specs.LentRows.{lent_rows};
 ghost use Rattle.span_algebra.specs.Parts.{all_rows};
-ghost use Rattle.span_algebra.specs.Sources.{GivesRows, IsGivenBy, source_rows, source_result};
+ghost use Rattle.span_algebra.specs.Sources.{GivesRows, IsGivenBy, SortsAs, source_rows, source_result};
 
 use super::group::rows_of;
 use super::grouped::GroupedRows;
 use super::merge::merge_parts;
 use span_expr::cell::Failure;
-use span_query::query::Grouping;
+use span_query::query::{Grouping, SortKey};
 use span_rows::row_list::RowList;
 use span_value::value::Value;
 use std::alloc::{AllocError, Global};
@@ -100,16 +101,22 @@ impl<'a> Tables<'a> {
         }
     }
 
-    /// The rows of the table with this number, each lent where it lies. `Fault` where the table is one, or out of memory.
-    pub(crate) fn lend_rows(&self, alloc: Global, number: usize) -> Result<Vec<&[Value]>, Failure>
+    /// The rows of the table with this number, each lent where it lies, for them to be sorted by the keys: those of a part that is in
+    /// their order already, in this order. `Fault` where the table is one, or out of memory.
+    pub(crate) fn lend_in_order(
+        &self,
+        alloc: Global,
+        number: usize,
+        keys: &[SortKey],
+    ) -> Result<Vec<&[Value]>, Failure>
         ensures { MatchResult result
-            (λ rows. spec.given self.now number ≡ Some (lent_rows rows.items))
+            (λ rows. SortsAs keys.now (lent_rows rows.items) (spec.given self.now number))
             (λ why. Gives {A = List Row} (Err why) (spec.given self.now number)) }
     {
         match numbered_source(self.sources.as_slice(), number) {
             None => Ok(Vec::new(alloc)),
             Some(TableSource::Fault) => Err(Failure::Fault),
-            Some(TableSource::Parts(parts)) => Ok(lend_parts(alloc, parts.as_slice())?),
+            Some(TableSource::Parts(parts)) => Ok(lend_parts(alloc, keys, parts.as_slice())?),
         }
     }
 
@@ -171,25 +178,19 @@ fn add_copies(alloc: Global, rows: &mut RowList, more: &RowList) -> Result<(), A
     Ok(())
 }
 
-/// The rows of parts, one after another, each lent.
-fn lend_parts<'a>(alloc: Global, parts: &[&'a GroupedRows]) -> Result<Vec<&'a [Value]>, AllocError>
-    ensures { IfOk result (λ rows. lent_rows rows.items ≡ all_rows parts.now) }
+/// The rows of parts, one after another, each lent: those of a part that is in the order of the keys already, in this order.
+fn lend_parts<'a>(
+    alloc: Global,
+    keys: &[SortKey],
+    parts: &[&'a GroupedRows],
+) -> Result<Vec<&'a [Value]>, AllocError>
+    ensures { IfOk result (λ rows. sorted keys.now (lent_rows rows.items) ≡ sorted keys.now (all_rows parts.now)) }
 {
     let mut rows = Vec::new(alloc);
     for part in parts {
-        add_lent(&mut rows, part.rows())?;
+        part.lend_in_order(keys, &mut rows)?;
     }
     Ok(rows)
-}
-
-fn add_lent<'a>(rows: &mut Vec<&'a [Value]>, more: &'a RowList) -> Result<(), AllocError>
-    ensures { OnOk result (lent_rows rows.new.items ≡ lent_rows rows.old.items ++ more.now) }
-{
-    rows.reserve(more.len())?;
-    for at in 0..more.len() {
-        rows.push(more.row(at))?;
-    }
-    Ok(())
 }
 
 /// The rows of parts, one after another. Those of the only part are lent.

@@ -15,6 +15,7 @@ use super::piece::Piece;
 use super::scan::rows_of_table;
 use super::short::leaf_entries;
 use span_algebra::grouped::GroupedRows;
+use span_algebra::ordered::{order_part, ordered_table};
 use span_algebra::plain::grouped_table;
 use span_expr::cell::Failure;
 use span_planner::leaf::Leaf;
@@ -25,16 +26,26 @@ use span_shard::snapshot::Snapshot;
 use span_value::refusal::Refusal;
 use std::alloc::{AllocError, Global};
 
-/// Rows, with their groups where the query above groups them.
-fn with_groups(
+/// What the query above the leaves does with all rows of a leaf, where parts of it are done where the rows are read.
+#[derive(Clone, Copy)]
+pub enum LeafUse<'a> {
+    /// A block groups them.
+    Group(&'a Grouping),
+    /// The query puts them in order.
+    Order(&'a BoundQuery),
+}
+
+/// Rows, with their groups where the query above groups them, and with their order where it puts them in order.
+fn rows_for(
     alloc: Global,
-    grouping: Option<&Grouping>,
+    leaf_use: Option<LeafUse<'_>>,
     rows: RowList,
 ) -> Result<GroupedRows, AllocError>
-    ensures { IfOk result (λ grouped. grouped ≡ rows) }
+    ensures { IfOk result (λ made. made ≡ rows) }
 {
-    match grouping {
-        Some(grouping) => GroupedRows::with_groups(alloc, grouping, rows),
+    match leaf_use {
+        Some(LeafUse::Group(grouping)) => GroupedRows::with_groups(alloc, grouping, rows),
+        Some(LeafUse::Order(query)) => order_part(alloc, query, rows),
         None => Ok(GroupedRows::new(rows)),
     }
 }
@@ -42,13 +53,13 @@ fn with_groups(
 /// The piece of a leaf that gives these rows, or the fault. The only refusal is out of memory.
 fn piece_of(
     alloc: Global,
-    grouping: Option<&Grouping>,
+    leaf_use: Option<LeafUse<'_>>,
     found: Result<RowList, Failure>,
 ) -> Result<Piece, Refusal>
     ensures { MatchResult result (λ piece. (o : Rows) → Gives found o → piece.rows ≡ o) (λ why. why ≡ Refusal.OutOfMemory) }
 {
     match found {
-        Ok(rows) => Ok(Piece::new(Some(with_groups(alloc, grouping, rows)?))),
+        Ok(rows) => Ok(Piece::new(Some(rows_for(alloc, leaf_use, rows)?))),
         Err(Failure::Fault) => Ok(Piece::new(None)),
         Err(Failure::OutOfMemory) => Err(Refusal::OutOfMemory),
     }
@@ -84,14 +95,14 @@ fn rows_given(
     rows_of_leaf(alloc, schema, leaf, entries.as_slice())
 }
 
-/// What a leaf gives on the rows of a part of its range, which a snapshot lends. Where the query above groups all rows of the leaf, the groups
-/// of the part are made with its rows. An arithmetic error is a piece without rows, and no refusal. `OutOfMemory`, where these are rows of the
-/// schema's tables.
+/// What a leaf gives on the rows of a part of its range, which a snapshot lends. Where the query above groups all rows of the leaf, or puts
+/// them in order, this is done for the part. An arithmetic error is a piece without rows, and no refusal. `OutOfMemory`, where these are rows
+/// of the schema's tables.
 pub fn run_leaf(
     alloc: Global,
     schema: &Schema,
     leaf: &Leaf,
-    grouping: Option<&Grouping>,
+    leaf_use: Option<LeafUse<'_>>,
     snapshot: Snapshot<'_>,
 ) -> Result<Piece, Refusal>
     requires tables { AllByRecursion (IsTable schema.now) leaf.now.tables }
@@ -101,7 +112,7 @@ pub fn run_leaf(
         (λ why. (why ≡ Refusal.OutOfMemory) ⊎ AreNoRows schema.now snapshot.entry) }
 {
     let found = rows_given(alloc, schema, leaf, snapshot)?;
-    Ok(piece_of(alloc, grouping, found)?)
+    Ok(piece_of(alloc, leaf_use, found)?)
 }
 
 /// How a block groups all rows of the table with this number, if it does; the first table has number 1.
@@ -114,10 +125,8 @@ fn block_grouping(block: &Block<BoundQuery>, number: usize) -> Option<&Grouping>
     }
 }
 
-/// How the query above the leaves groups all rows of a leaf, whose place among them is counted from 0. None where no block of the query's own
-/// does. Only how fast the query is answered rests on it.
-pub fn leaf_grouping(top: &BoundQuery, place: usize) -> Option<&Grouping> {
-    let number = place.saturating_add(1);
+/// How a block of the query's own groups all rows of the table with this number, if one does.
+fn table_grouping(top: &BoundQuery, number: usize) -> Option<&Grouping> {
     if let Some(grouping) = block_grouping(&top.first, number) {
         return Some(grouping);
     }
@@ -127,4 +136,17 @@ pub fn leaf_grouping(top: &BoundQuery, place: usize) -> Option<&Grouping> {
         }
     }
     None
+}
+
+/// What the query above the leaves does with all rows of a leaf, whose place among them is counted from 0. None where no block of the query's
+/// own groups them, and the query does not put them in order. Only how fast the query is answered rests on it.
+pub fn leaf_use(top: &BoundQuery, place: usize) -> Option<LeafUse<'_>> {
+    let number = place.saturating_add(1);
+    if let Some(grouping) = table_grouping(top, number) {
+        return Some(LeafUse::Group(grouping));
+    }
+    match ordered_table(top) {
+        Some(table) if table == number => Some(LeafUse::Order(top)),
+        _ => None,
+    }
 }

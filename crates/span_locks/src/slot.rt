@@ -20,6 +20,7 @@ use crate::seats;
 use atomic_table::Badge;
 use span_binder::understand::understanding_is_unique;
 use span_fragment::piece::Piece;
+use span_fragment::run::LeafUse;
 use span_journal::journal::{Gap, Journal};
 use span_keycode::key::Key;
 use span_params::params::Params;
@@ -27,7 +28,6 @@ use span_parts::cut::cut_in;
 use span_parts::read::read_leaf;
 use span_parts::slot;
 use span_planner::leaf::Leaf;
-use span_query::query::Grouping;
 use span_shard::shard::Shard;
 use span_truetime::interval::Interval;
 use span_value::refusal::Refusal;
@@ -235,21 +235,21 @@ impl<J: Naming> LockedSlot<J> {
         }
     }
 
-    /// What a leaf of a query gives on a part of its range, as far as this slot has it, with the groups that the query above makes
-    /// of all its rows, if it does. The only refusal is `OutOfMemory`: a slot has rows of the schema's tables, so no bytes in it are
+    /// What a leaf of a query gives on a part of its range, as far as this slot has it, with what is done for the part of what the query
+    /// above does with all rows of the leaf. The only refusal is `OutOfMemory`: a slot has rows of the schema's tables, so no bytes in it are
     /// other than a key and a row.
     pub fn read(
         &self,
         board: &Board<J>,
         leaf: &Leaf,
-        grouping: Option<&Grouping>,
+        leaf_use: Option<LeafUse<'_>>,
         gap: &Gap,
     ) -> Result<Piece, Refusal>
         requires { (text : List ℕ) × (params : List Parameter) × (place : ℕ) × IsLeafOf J.schema text params place leaf.now }
         ensures read { IfOk result (λ piece. IsRead J.schema self.now.versions gap.now.range gap.now.s piece leaf.now) }
         ensures memory { IfErr result (λ why. why ≡ Refusal.OutOfMemory) }
     {
-        match read_leaf(board.alloc, &board.schema, &self.shard, leaf, grouping, gap) {
+        match read_leaf(board.alloc, &board.schema, &self.shard, leaf, leaf_use, gap) {
             Ok(piece) => Ok(piece),
             Err(_) => Err(Refusal::OutOfMemory),
         }

@@ -8,10 +8,9 @@ ghost use Rattle.span_journal.specs.Judged.{leaf_of};
 ghost use Rattle.span_parts.specs.Whole.{IsRead, IsUnread};
 
 use span_fragment::piece::Piece;
-use span_fragment::run::{leaf_grouping, run_leaf};
+use span_fragment::run::{LeafUse, leaf_use, run_leaf};
 use span_journal::journal::{Gap, Journal};
 use span_planner::leaf::Leaf;
-use span_query::query::Grouping;
 use span_schema::schema::Schema;
 use span_shard::shard::Shard;
 use span_value::refusal::Refusal;
@@ -37,29 +36,29 @@ pub(crate) fn read_gap(
         (λ piece. IsRead schema.now shard.now gap.now.range gap.now.s piece l)
         (IsUnread schema.now shard.now gap.now.range gap.now.s)) }
 {
-    let grouping = grouping_above(journal, query, leaf);
+    let leaf_use = use_above(journal, query, leaf);
     let Some(leaf) = journal.leaf(query, leaf) else {
         return Err(Refusal::UnknownQuery);
     };
-    read_leaf(alloc, schema, shard, leaf, grouping, gap)
+    read_leaf(alloc, schema, shard, leaf, leaf_use, gap)
 }
 
-/// How the query above the leaves groups all rows of a leaf of an open query, if it does.
-fn grouping_above(journal: &Journal, query: u64, leaf: usize) -> Option<&Grouping> {
+/// What the query above the leaves does with all rows of a leaf of an open query, where parts of it are done where the rows are read.
+fn use_above(journal: &Journal, query: u64, leaf: usize) -> Option<LeafUse<'_>> {
     match journal.query(query) {
-        Some(question) => leaf_grouping(&question.top, leaf),
+        Some(question) => leaf_use(&question.top, leaf),
         None => None,
     }
 }
 
-/// What a leaf gives on a part of its range, from the shard that has it, with the groups that the query above makes of all its rows, if it
-/// does. `OutOfMemory`, where the shard has rows of the schema's tables.
+/// What a leaf gives on a part of its range, from the shard that has it, with what is done for the part of what the query above does with all
+/// rows of the leaf. `OutOfMemory`, where the shard has rows of the schema's tables.
 pub fn read_leaf(
     alloc: Global,
     schema: &Schema,
     shard: &Shard,
     leaf: &Leaf,
-    grouping: Option<&Grouping>,
+    leaf_use: Option<LeafUse<'_>>,
     gap: &Gap,
 ) -> Result<Piece, Refusal>
     requires tables { AllByRecursion (IsTable schema.now) leaf.now.tables }
@@ -69,5 +68,5 @@ pub fn read_leaf(
         (IsUnread schema.now shard.now gap.now.range gap.now.s) }
 {
     let snapshot = shard.snapshot(&gap.range, gap.s);
-    run_leaf(alloc, schema, leaf, grouping, snapshot)
+    run_leaf(alloc, schema, leaf, leaf_use, snapshot)
 }

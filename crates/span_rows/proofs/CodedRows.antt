@@ -22,7 +22,7 @@ use Rattle.span_query.specs.Sorting.{reverse_if, or_next, key_order, row_order, 
 use Rattle.span_rows.specs.declared.coded.CodedRow.{CodedRow}
 use Rattle.span_rows.specs.Codes.{code_of, is_exact, IsInRange, value_at, key_code, first_code, next_code, second_code, are_exact, AreInRange, IsCoded, IsCodedAs, code_order, code_before, uncoded}
 use Rattle.span_rows.proofs.Codes.{code_agrees, exact_order, exact_same, code_end, less_is, greater_is, equal_is}
-use Rattle.span_rows.proofs.Sorting.{all_placed, from_sorted, is_the_order}
+use Rattle.span_rows.proofs.Sorting.{all_in_order, from_sorted, is_the_order}
 use Rattle.span_rows.proofs.RowOrder.{rows_total, same_next}
 
 -- ---- the rows so far
@@ -196,10 +196,6 @@ module _ (keys : List SortKey) where
   code_ranked exact = ranks_by (code_total exact) (λ (x : CodedRow). x)
 
   module _ (exact : Bool) where
-    all_sorted : (xs : List CodedRow) → AllByRecursion (IsCodedAs keys exact) xs → AllByRecursion (IsCodedAs keys exact) (insertion_sort (code_before keys exact) xs)
-    all_sorted [] all = tt
-    all_sorted (x ∷ xs) all = all_placed (code_before keys exact) (IsCodedAs keys exact) x (insertion_sort (code_before keys exact) xs) all.0 (all_sorted xs all.1)
-
     uncoded_inserted : (x : CodedRow) (ys : List CodedRow) → IsCodedAs keys exact x → AllByRecursion (IsCodedAs keys exact) ys
         → uncoded (insert_sorted (code_before keys exact) x ys) ≡ insert_sorted (comes_before keys) x.row.now (uncoded ys)
     uncoded_inserted x [] f all = refl
@@ -211,11 +207,22 @@ module _ (keys : List SortKey) where
         ])
 
     -- rows in the order of their codes are in the order of the keys
-    uncoded_in_order : (xs : List CodedRow) → AllByRecursion (IsCodedAs keys exact) xs → uncoded (insertion_sort (code_before keys exact) xs) ≡ sorted keys (uncoded xs)
+    pub uncoded_in_order : (xs : List CodedRow) → AllByRecursion (IsCodedAs keys exact) xs → uncoded (insertion_sort (code_before keys exact) xs) ≡ sorted keys (uncoded xs)
     uncoded_in_order [] all = refl
     uncoded_in_order (x ∷ xs) all =
-        uncoded_inserted x (insertion_sort (code_before keys exact) xs) all.0 (all_sorted xs all.1)
+        uncoded_inserted x (insertion_sort (code_before keys exact) xs) all.0 (all_in_order (code_before keys exact) (IsCodedAs keys exact) xs all.1)
         ∙ ap (insert_sorted (comes_before keys) x.row.now) (uncoded_in_order xs all.1)
+
+    -- what the clauses of a stable sort say, where each call compares two items by the codes of their rows
+    pub in_code_order : {X : Type 0} (p : X → CodedRow) {F : Type 0} {g : Mut F (Bor X × (Bor X × Unit)) Ordering} {f : F} (xs ys : List X)
+        → IsSortedByClosure g f ys → IsStableByClosure g f xs ys
+        → ((a : Bor X × (Bor X × Unit)) (r : Ordering) (f' : F) → Called g f a r f' → (r ≡ code_order keys exact (p a.0.now) (p a.1.0.now)) × (f' ≡ f))
+        → ys ≡ insertion_sort (λ (x y : X). code_before keys exact (p x) (p y)) xs
+    in_code_order {X} p {F} {g} {f} xs ys up stable h =
+        let lt : X → X → Bool = λ x y. code_before keys exact (p x) (p y) in
+        let ranked : IsStrictWeakOrder lt = ranks_by (code_total exact) p in
+        let by = always_returns_same g (λ a r. is_lt r ≡ lt a.0.now a.1.0.now) f (λ a r f' k. (ap is_lt (h a r f' k).0, (h a r f' k).1)) in
+        is_the_order lt ranked xs ys (from_sorted lt ranked ys (up lt ranked by)) (stable lt ranked by)
 
     -- what the clauses of a stable sort say, where each call compares two rows by their codes
     pub sorted_by_codes : {F : Type 0} {g : Mut F (Bor CodedRow × (Bor CodedRow × Unit)) Ordering} {f : F} (xs ys : List CodedRow)

@@ -22,7 +22,7 @@ module _ {A : Type 0} (lt : A → A → Bool) where
       first_again (suc n) y [] = refl
       first_again (suc n) y (z ∷ ys) = ap (λ (zs : List A). y ∷ zs) (first_again n z ys)
 
-  all_taken : (P : A → Type 0) (n : ℕ) (xs : List A) → AllByRecursion P xs → AllByRecursion P (take n xs)
+  pub all_taken : (P : A → Type 0) (n : ℕ) (xs : List A) → AllByRecursion P xs → AllByRecursion P (take n xs)
   all_taken P zero xs all = tt
   all_taken P (suc n) [] all = tt
   all_taken P (suc n) (x ∷ xs) all = (all.0, all_taken P n xs all.1)
@@ -39,7 +39,7 @@ module _ {A : Type 0} (lt : A → A → Bool) where
   before_added (y ∷ ys) zs = ap (λ (l : List A). y ∷ l) (before_added ys zs)
 
   module _ (o : IsStrictWeakOrder lt) where
-    decided : (b : Bool) → (b ≡ false → ⊥) → b ≡ true
+    pub decided : (b : Bool) → (b ≡ false → ⊥) → b ≡ true
     decided true h = refl
     decided false h = absurd (h refl)
 

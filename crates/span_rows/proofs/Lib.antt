@@ -14,6 +14,9 @@ pub mod RowOrder
 mod FirstRows
 pub mod Limits
 pub mod LentRows
+pub mod KeyRuns
 pub mod Codes
 pub mod CodedRows
 pub mod TakenColumns
+pub mod Placing
+pub mod FirstOfParts

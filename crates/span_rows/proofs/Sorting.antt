@@ -1,8 +1,9 @@
 -- A list that a stable sort makes is the list in order.
-use Rattle.std.proofs.Common.{◌≡◌, refl, sym, ap, ◌∙◌, ℕ, suc, ◌<◌, ◌≤◌, ◌&&◌, not, Bool, true, false, cond, List, [], ◌∷◌, length, get_or, arith, true≢false}
+use Rattle.std.proofs.Common.{◌≡◌, refl, sym, ap, ◌∙◌, ℕ, suc, ◌<◌, ◌≤◌, ◌&&◌, not, Bool, true, false, cond, List, [], ◌∷◌, ◌++◌, length, map, get_or, arith, true≢false}
 use Rattle.std.specs.List.{AllByRecursion, filter}
 use Rattle.std.specs.List.Sorted.{IsSortedBy, IsStableBy, ties}
 use Rattle.std.specs.Cmp.{IsStrictWeakOrder}
+use Rattle.std.proofs.lemmas.List.Elements.{filter-append}
 use Rattle.std.proofs.lemmas.List.Sorted.{sorted_far}
 use Rattle.span_query.specs.Sorting.{insert_sorted, insertion_sort}
 use Rattle.span_rows.specs.Orders.{IsSorted}
@@ -32,6 +33,11 @@ module _ {A : Type 0} (lt : A → A → Bool) where
     | false ↦ (p, all)
   ]
 
+  -- what holds of all items holds of them in order
+  pub all_in_order : (P : A → Type 0) (xs : List A) → AllByRecursion P xs → AllByRecursion P (insertion_sort lt xs)
+  all_in_order P [] all = tt
+  all_in_order P (x ∷ xs) all = all_placed P x (insertion_sort lt xs) all.0 (all_in_order P xs all.1)
+
   -- a sort's clause by neighbours, as each against those after it
   rest_first : (x : A) (ys : List A) → ((k : ℕ) → k < length ys → lt (get_or ys k x) x ≡ false) → AllByRecursion (λ y. lt y x ≡ false) ys
   rest_first x [] h = tt
@@ -45,7 +51,7 @@ module _ {A : Type 0} (lt : A → A → Bool) where
     pub from_sorted : (ys : List A) → IsSortedBy lt ys → IsSorted lt ys
     from_sorted ys up = from_pairs ys (sorted_far lt o ys up)
 
-    none_before : (x y : A) (ys : List A) → lt y x ≡ false → AllByRecursion (λ w. lt w y ≡ false) ys → AllByRecursion (λ w. lt w x ≡ false) ys
+    pub none_before : (x y : A) (ys : List A) → lt y x ≡ false → AllByRecursion (λ w. lt w y ≡ false) ys → AllByRecursion (λ w. lt w x ≡ false) ys
     none_before x y [] e all = tt
     none_before x y (w ∷ ys) e all = (o.chain w y x all.0 e, none_before x y ys e all.1)
 
@@ -84,3 +90,41 @@ module _ {A : Type 0} (lt : A → A → Bool) where
     -- no other list is in order and has ties in this order
     pub is_the_order : (xs ys : List A) → IsSorted lt ys → IsStableBy lt xs ys → ys ≡ insertion_sort lt xs
     is_the_order xs ys up stable = one_order lt o ys (insertion_sort lt xs) up (is_in_order xs) (λ z. stable z ∙ sym (keeps_ties xs z))
+
+-- ---- items by what is read of each
+
+module _ {A B : Type 0} (p : A → B) (before : B → B → Bool) (under : A → A → Bool) (same : (x y : A) → before (p x) (p y) ≡ under x y) where
+  inserted_map : (x : A) (ys : List A) → insert_sorted before (p x) (map p ys) ≡ map p (insert_sorted under x ys)
+  inserted_map x [] = refl
+  inserted_map x (y ∷ ys) =
+      ap (λ (b : Bool). cond b (p y ∷ insert_sorted before (p x) (map p ys)) (p x ∷ p y ∷ map p ys)) (same y x)
+      ∙ (elim (under y x) as (λ b. cond b (p y ∷ insert_sorted before (p x) (map p ys)) (p x ∷ p y ∷ map p ys) ≡ map p (cond b (y ∷ insert_sorted under x ys) (x ∷ y ∷ ys))) [
+        | true ↦ ap (λ (l : List B). p y ∷ l) (inserted_map x ys)
+        | false ↦ refl
+      ])
+
+  pub sorted_map : (xs : List A) → insertion_sort before (map p xs) ≡ map p (insertion_sort under xs)
+  sorted_map [] = refl
+  sorted_map (x ∷ xs) = ap (insert_sorted before (p x)) (sorted_map xs) ∙ inserted_map x (insertion_sort under xs)
+
+-- ---- parts
+
+module _ {A : Type 0} (lt : A → A → Bool) (o : IsStrictWeakOrder lt) where
+  -- ties have one order in lists that are one when they are in order
+  ties_alike : (xs us : List A) → insertion_sort lt xs ≡ insertion_sort lt us → (z : A) → filter (ties lt z) xs ≡ filter (ties lt z) us
+  ties_alike xs us e z = sym (keeps_ties lt o xs z) ∙ ap (filter (ties lt z)) e ∙ keeps_ties lt o us z
+
+  -- two lists, each of which may be replaced by one that is the same when it is in order
+  pub sorted_both : (xs us ys vs : List A) → insertion_sort lt xs ≡ insertion_sort lt us → insertion_sort lt ys ≡ insertion_sort lt vs
+      → insertion_sort lt (xs ++ ys) ≡ insertion_sort lt (us ++ vs)
+  sorted_both xs us ys vs e f =
+      is_the_order lt o (us ++ vs) (insertion_sort lt (xs ++ ys)) (is_in_order lt o (xs ++ ys)) (λ z.
+      keeps_ties lt o (xs ++ ys) z
+      ∙ filter-append (ties lt z) xs ys
+      ∙ ap (λ (l : List A). l ++ filter (ties lt z) ys) (ties_alike xs us e z)
+      ∙ ap (λ (l : List A). filter (ties lt z) us ++ l) (ties_alike ys vs f z)
+      ∙ sym (filter-append (ties lt z) us vs))
+
+  -- a list in order stays as it is
+  pub sorted_again : (xs : List A) → insertion_sort lt (insertion_sort lt xs) ≡ insertion_sort lt xs
+  sorted_again xs = sym (is_the_order lt o (insertion_sort lt xs) (insertion_sort lt xs) (is_in_order lt o xs) (λ z. refl))

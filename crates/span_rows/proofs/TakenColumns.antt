@@ -1,5 +1,5 @@
 -- Rows are put in order before or after their columns are taken.
-use Rattle.std.proofs.Common.{◌≡◌, refl, ap, ◌∙◌, ℕ, Bool, true, false, cond, List, [], ◌∷◌, map, Option, Some, None, take, drop}
+use Rattle.std.proofs.Common.{◌≡◌, refl, ap, ◌∙◌, ℕ, Bool, List, [], ◌∷◌, map, Option, Some, None, take, drop}
 use Rattle.std.specs.Prelude.{slice_get, option_map}
 use Rattle.std.specs.declared.cmp.Ordering.{Ordering}
 use Rattle.std.specs.Ordering.{is_lt}
@@ -16,8 +16,9 @@ use Rattle.span_query.specs.declared.query.Limit.{Limit}
 use Rattle.span_query.specs.Rows.{Row, OrFault, append_results, singleton, value_of, values, project_rows}
 use Rattle.span_query.specs.Groups.{columns_at}
 use Rattle.span_query.specs.Meaning.{limit_rows}
-use Rattle.span_query.specs.Sorting.{reverse_if, or_next, key_order, row_order, comes_before, insert_sorted, insertion_sort, sorted}
+use Rattle.span_query.specs.Sorting.{reverse_if, or_next, key_order, row_order, comes_before, sorted}
 use Rattle.span_rows.specs.Columns.{AreColumns, AreKeysOver, key_over}
+use Rattle.span_rows.proofs.Sorting.{sorted_map}
 
 -- ---- the select list
 
@@ -72,20 +73,6 @@ module _ (columns : List ℕ) where
       ∙ ap (or_next (key_order m r s)) (order_taken keys moved r s rest)
 
 -- ---- sorting
-
-module _ {A B : Type 0} (p : A → B) (before : B → B → Bool) (under : A → A → Bool) (same : (x y : A) → before (p x) (p y) ≡ under x y) where
-  inserted_map : (x : A) (ys : List A) → insert_sorted before (p x) (map p ys) ≡ map p (insert_sorted under x ys)
-  inserted_map x [] = refl
-  inserted_map x (y ∷ ys) =
-      ap (λ (b : Bool). cond b (p y ∷ insert_sorted before (p x) (map p ys)) (p x ∷ p y ∷ map p ys)) (same y x)
-      ∙ (elim (under y x) as (λ b. cond b (p y ∷ insert_sorted before (p x) (map p ys)) (p x ∷ p y ∷ map p ys) ≡ map p (cond b (y ∷ insert_sorted under x ys) (x ∷ y ∷ ys))) [
-        | true ↦ ap (λ (l : List B). p y ∷ l) (inserted_map x ys)
-        | false ↦ refl
-      ])
-
-  sorted_map : (xs : List A) → insertion_sort before (map p xs) ≡ map p (insertion_sort under xs)
-  sorted_map [] = refl
-  sorted_map (x ∷ xs) = ap (insert_sorted before (p x)) (sorted_map xs) ∙ inserted_map x (insertion_sort under xs)
 
 limit_map : (p : Row → Row) (limit : Option Limit) (rows : List Row) → limit_rows limit (map p rows) ≡ map p (limit_rows limit rows)
 limit_map p None rows = refl

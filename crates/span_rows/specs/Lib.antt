@@ -7,6 +7,8 @@ pub mod EqualRows
 pub mod Candidates
 pub mod LentRows
 pub mod RowIndexes
+pub mod KeyRuns
 pub mod Orders
 pub mod Codes
 pub mod Columns
+pub mod RowPlaces

@@ -29,7 +29,7 @@ pub(crate) struct CodedRows<'a> {
 }
 
 /// The row with its codes.
-fn code_row<'a>(keys: &[SortKey], row: &'a [Value]) -> CodedRow<'a>
+pub(crate) fn code_row<'a>(keys: &[SortKey], row: &'a [Value]) -> CodedRow<'a>
     ensures row { result.row.now ≡ row.now }
     ensures coded { IsCoded keys.now result }
 {
@@ -65,7 +65,7 @@ fn are_exact(keys: &[SortKey], row: &[Value]) -> bool
 }
 
 /// Whether the codes of the rows so far are exact, and those of this row too.
-fn exact_with(exact: bool, keys: &[SortKey], row: &[Value]) -> bool
+pub(crate) fn exact_with(exact: bool, keys: &[SortKey], row: &[Value]) -> bool
     ensures { result ≡ (exact && are_exact keys.now row.now) }
 {
     exact && are_exact(keys, row)

@@ -1,11 +1,16 @@
 //! Rows as the keys of an index by hash: a whole row, and the values of a lent row at some places. NULL equals NULL.
 ghost use Rattle.std.specs.Prelude.{◌≡◌, fold};
+ghost use Rattle.std.specs.Ordering.{is_gt};
+ghost use Rattle.span_value.specs.Orders.{value_order};
 ghost use Rattle.span_expr.specs.Operators.{column_of};
 ghost use Rattle.span_query.specs.Groups.{is_equal, are_equal, columns_at};
 ghost use Rattle.span_rows.specs.Hashes.{value_writes, row_writes};
+ghost use Rattle.span_rows.specs.KeyRuns.{values_order};
 
 use super::distinct::{are_equal, is_equal};
+use span_value::order::compare;
 use span_value::value::Value;
+use std::cmp::Ordering;
 use std::hash::{Hash, Hasher};
 use std::marker::Model;
 
@@ -79,6 +84,43 @@ fn have_equal_columns(
         }
     }
     true
+}
+
+/// The order of the value at a place of a row and that at a place of another; a place that a row does not have counts as NULL.
+fn compare_at(left: &[Value], left_place: usize, right: &[Value], right_place: usize) -> Ordering
+    ensures { result ≡ value_order (column_of left.now left_place) (column_of right.now right_place) }
+{
+    let null = Value::Null;
+    compare(
+        left.get(left_place).unwrap_or(&null),
+        right.get(right_place).unwrap_or(&null),
+    )
+}
+
+/// The order of two rows by their values at some places of each.
+pub(crate) fn compare_columns(
+    left: &[Value],
+    left_places: &[usize],
+    right: &[Value],
+    right_places: &[usize],
+) -> Ordering
+    ensures { result ≡ values_order (columns_at left_places.now left.now) (columns_at right_places.now right.now) }
+{
+    let count = left_places.len();
+    for at in 0..count {
+        if at >= right_places.len() {
+            return Ordering::Greater;
+        }
+        let order = compare_at(left, left_places[at], right, right_places[at]);
+        if order != Ordering::Equal {
+            return order;
+        }
+    }
+    if count < right_places.len() {
+        Ordering::Less
+    } else {
+        Ordering::Equal
+    }
 }
 
 /// A lent row in a set of rows. Contracts see the row.
@@ -167,6 +209,20 @@ impl<'a> LentKey<'a> {
         ensures { result ≡ columns_at places.now row.now }
     {
         LentKey { row, places }
+    }
+
+    /// Whether these values are those of a row at some places.
+    pub(crate) fn is_of(&self, row: &[Value], places: &[usize]) -> bool
+        ensures { result ≡ are_equal self.now (columns_at places.now row.now) }
+    {
+        have_equal_columns(self.row, self.places, row, places)
+    }
+
+    /// Whether these values come after those of a row at some places.
+    pub(crate) fn comes_after(&self, row: &[Value], places: &[usize]) -> bool
+        ensures { result ≡ is_gt (values_order self.now (columns_at places.now row.now)) }
+    {
+        compare_columns(self.row, self.places, row, places).is_gt()
     }
 }
 

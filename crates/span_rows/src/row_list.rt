@@ -79,6 +79,14 @@ impl RowList {
         row_at(self.values.as_slice(), self.ends.as_slice(), at)
     }
 
+    /// Removes all rows. Their memory is used again.
+    pub fn clear(&mut self)
+        ensures { self.new ≡ [] }
+    {
+        self.values.clear();
+        self.ends.clear();
+    }
+
     /// Adds a row, whose values are moved. An error leaves the rows and the values as they were.
     pub fn push(&mut self, row: &mut Vec<Value>) -> Result<(), AllocError>
         ensures ok { OnOk result (self.new ≡ self.old ++ row.old.items ∷ []) }
@@ -180,6 +188,17 @@ pub fn lent_rows(alloc: Global, rows: &RowList) -> Result<Vec<&[Value]>, AllocEr
         all.push(rows.row(at))?;
     }
     Ok(all)
+}
+
+/// Lends the rows of a list after others, in their order.
+pub(crate) fn lend_rows<'a>(more: &'a RowList, all: &mut Vec<&'a [Value]>) -> Result<(), AllocError>
+    ensures { OnOk result (lent_rows all.new.items ≡ lent_rows all.old.items ++ more.now) }
+{
+    all.reserve(more.len())?;
+    for at in 0..more.len() {
+        all.push(more.row(at))?;
+    }
+    Ok(())
 }
 
 /// The place of the first value of a row.

@@ -1,5 +1,5 @@
 //! ORDER BY and LIMIT: rows in the order of some keys, and a part of a list of rows.
-ghost use Rattle.std.specs.Prelude.{◌≡◌, ◌+◌, IfOk, IfSome, Some, List, map, true};
+ghost use Rattle.std.specs.Prelude.{◌≡◌, ℕ, ◌+◌, ◌++◌, IfOk, IfSome, Some, List, map, take, true};
 ghost use Rattle.span_query.specs.declared.query.Limit.{Limit};
 ghost use Rattle.std.specs.Cmp.{IsStrictWeakOrder};
 ghost use Rattle.std.specs.List.Sorted.{IsStableBy};
@@ -76,19 +76,27 @@ fn sort_rows<'a>(
     Ok(all)
 }
 
-/// How many rows LIMIT needs of those in order, where there are keys and they are few; those that are skipped count too.
-fn first_count(keys: &[SortKey], limit: Option<Limit>) -> Option<usize>
+/// How many rows LIMIT needs of those in order, where they are few; those that are skipped count too.
+pub fn few_rows(limit: Option<Limit>) -> Option<usize>
     ensures { IfSome result (λ count. (l : Limit) × (limit ≡ Some l) × (count ≡ l.skip + l.rows)) }
 {
-    if keys.is_empty() {
-        return None;
-    }
     let limit = limit?;
     let count = limit.skip.checked_add(limit.rows)?;
     if count <= MOST_FIRST {
         Some(count as usize)
     } else {
         None
+    }
+}
+
+/// The same where there are keys.
+fn first_count(keys: &[SortKey], limit: Option<Limit>) -> Option<usize>
+    ensures { IfSome result (λ count. (l : Limit) × (limit ≡ Some l) × (count ≡ l.skip + l.rows)) }
+{
+    if keys.is_empty() {
+        None
+    } else {
+        few_rows(limit)
     }
 }
 
@@ -190,4 +198,16 @@ pub fn sorting_is_stable()
     ensures stable { (keys : List SortKey) (rows : List Row) → IsStableBy (spec.comes_before keys) rows (spec.sorted keys rows) }
     ensures only { (keys : List SortKey) (rows others : List Row) →
         IsSorted (spec.comes_before keys) others → IsStableBy (spec.comes_before keys) rows others → others ≡ spec.sorted keys rows }
+{}
+
+/// A law, which takes no time: lists of rows may each be replaced by one that sorting makes the same, and still do so one after the
+/// other; a list in order is such a one. The same holds of lists of which sorting makes the same first rows.
+pub fn sorting_in_parts()
+    ensures both { (keys : List SortKey) (first others second more : List Row) → spec.sorted keys first ≡ spec.sorted keys others
+        → spec.sorted keys second ≡ spec.sorted keys more → spec.sorted keys (first ++ second) ≡ spec.sorted keys (others ++ more) }
+    ensures first { (count : ℕ) (keys : List SortKey) (first others second more : List Row)
+        → take count (spec.sorted keys first) ≡ take count (spec.sorted keys others)
+        → take count (spec.sorted keys second) ≡ take count (spec.sorted keys more)
+        → take count (spec.sorted keys (first ++ second)) ≡ take count (spec.sorted keys (others ++ more)) }
+    ensures again { (keys : List SortKey) (rows : List Row) → spec.sorted keys (spec.sorted keys rows) ≡ spec.sorted keys rows }
 {}

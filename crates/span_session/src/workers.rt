@@ -7,13 +7,12 @@ use crate::db::Db;
 use crate::queries::Gate;
 use crate::question::leaf_at;
 use crate::scan_queue::ScanQueue;
-use span_fragment::run::leaf_grouping;
+use span_fragment::run::{LeafUse, leaf_use};
 use span_journal::journal::Gap;
 use span_locks::board::Naming;
 use span_locks::places::SLOTS;
 use span_params::params::Params;
 use span_planner::leaf::{Leaf, Plan};
-use span_query::query::Grouping;
 use span_truetime::clock::Clock;
 use span_truetime::interval::Interval;
 use span_value::refusal::Refusal;
@@ -38,8 +37,8 @@ struct SlotLeaf<'a> {
     leaf: &'a Leaf,
     /// Its place in the plan.
     place: usize,
-    /// How the query groups all rows of the leaf, if it does.
-    grouping: Option<&'a Grouping>,
+    /// What the query does with all rows of the leaf, where parts of it are done where the rows are read.
+    leaf_use: Option<LeafUse<'a>>,
     /// The number of the slot.
     slot: usize,
 }
@@ -162,7 +161,7 @@ impl<J: Naming> Db<J> {
                 let leaf = SlotLeaf {
                     leaf,
                     place,
-                    grouping: leaf_grouping(&query.plan.top, place),
+                    leaf_use: leaf_use(&query.plan.top, place),
                     slot,
                 };
                 self.scan_slot(rt, clock, gate, query, queue, &leaf);
@@ -258,7 +257,7 @@ impl<J: Naming> Db<J> {
         ensures { IfErr result (IsUnscanned J.schema) }
     {
         let mut slot = self.slot(leaf.slot)?.lock(rt);
-        let piece = slot.read(&self.board, leaf.leaf, leaf.grouping, gap)?;
+        let piece = slot.read(&self.board, leaf.leaf, leaf.leaf_use, gap)?;
         gate.in_scan(leaf.place, leaf.slot);
         let mut queue = queue.lock(rt);
         let mut journal = self.journal.lock(rt);

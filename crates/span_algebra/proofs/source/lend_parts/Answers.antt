@@ -1,23 +1,27 @@
-use Rattle.std.proofs.Common.{rules, ◌≡◌, ◌++◌, ◌<◌, ◌≤◌, ◌∙◌, List, length, get_or, ap, sym}
+use Rattle.std.proofs.Common.{rules, ◌≡◌, ◌<◌, ◌≤◌, ◌∙◌, List, length, get_or, take, ap, sym, refl}
 use Rattle.span_query.specs.Rows.{Row}
+use Rattle.span_query.specs.Sorting.{comes_before, sorted}
 use Rattle.span_rows.specs.LentRows.{lent_rows}
+use Rattle.span_rows.proofs.RowOrder.{rows_ranked}
+use Rattle.span_rows.proofs.Sorting.{sorted_both}
+use Rattle.span_algebra.specs.Parts.{all_rows}
 use Rattle.span_algebra.proofs.Parting.{rows_more, rows_all}
 use Rattle.span_algebra.proofs.source.lend_parts.Goals as goal
 
 pub loop-part-preserved : goal.loop-part-preserved
 loop-part-preserved c =
+    let keys = c.args.keys.now in
     let parts = c.args.parts.now in
     let i = c.loop-part.part-index in
     let x = c.part-item.result in
     let within : i < length parts = search rules in
     let is : x ≡ get_or parts i x = search rules in
-    let part : c.rows.result.now ≡ x.now = search rules in
-    c.in_ok-add_lent.ensures
-    ∙ ap (λ (l : List Row). lent_rows c.loop-part.rows.items ++ l) part
-    ∙ ap (λ (l : List Row). l ++ x.now) c.loop-part.invariant
-    ∙ sym (rows_more parts i x within is)
+    let old : List Row = lent_rows c.loop-part.rows.items in
+    c.in_ok-lend_in_order.ensures
+    ∙ sorted_both (comes_before keys) (rows_ranked keys) old (all_rows (take i parts)) x.now x.now c.loop-part.invariant refl
+    ∙ ap (sorted keys) (sym (rows_more parts i x within is))
 
 pub returns : goal.returns
 returns c =
     let past : length c.args.parts.now ≤ c.loop-part.part-index = search rules in
-    c.loop-part.invariant ∙ rows_all c.args.parts.now c.loop-part.part-index past
+    c.loop-part.invariant ∙ ap (sorted c.args.keys.now) (rows_all c.args.parts.now c.loop-part.part-index past)

@@ -17,8 +17,8 @@ pub loop-entry-init : goal.loop-entry-init
 loop-entry-init c =
     let readers : List TableReader = c.as_slice-readers.result.now in
     record {
-      lists = ap (length {A = List Row}) c.in_ok-found.ensures ∙ length-replicate (length readers) [];
-      so_far = pass_first c.args.schema.now c.args.entries.now readers c.in_ok-found.found.items c.in_ok-found.ensures;
+      lists = ap (length {A = List Row}) c.in_ok-empty_lists.ensures ∙ length-replicate (length readers) [];
+      so_far = pass_first c.args.schema.now c.args.entries.now readers c.empty_lists.new.lists.items c.in_ok-empty_lists.ensures;
     }
 
 pub add_to_each-requires-clause-readers : goal.add_to_each-requires-clause-readers
