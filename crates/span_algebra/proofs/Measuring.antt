@@ -2,7 +2,7 @@
 use Rattle.std.proofs.Common.{◌≡◌, ℕ, ◌+◌, ◌<◌, ◌≤◌, List, [], ◌∷◌, ◌++◌, length, take, get_or, sym, ap, ◌∙◌}
 use Rattle.std.proofs.lemmas.List.{take_more, take_all, map-append}
 use Rattle.span_query.specs.declared.query.Aggregate.{Aggregate}
-use Rattle.span_algebra.specs.declared.grouped.Measure.{Measure}
+use Rattle.span_algebra.specs.declared.part_rows.Measure.{Measure}
 use Rattle.span_algebra.specs.Parts.{aggregate_of, AreMeasuresOf}
 
 pub measured_more : (xs : List Aggregate) (ms : List Measure) (i : ℕ) (a : Aggregate) (m : Measure) → i < length xs → a ≡ get_or xs i a → a ≡ aggregate_of m

@@ -6,9 +6,9 @@ use Rattle.span_query.specs.declared.query.Aggregate.{Aggregate}
 use Rattle.span_query.specs.declared.query.Aggregate.TheVariants as aggregate
 use Rattle.span_query.specs.declared.query.Grouping.{Grouping}
 use Rattle.span_query.specs.Rows.{Row}
-use Rattle.span_algebra.specs.declared.grouped.Measure.{Measure}
-use Rattle.span_algebra.specs.declared.grouped.Measure.TheVariants.{CountRows, OfColumn}
-use Rattle.span_algebra.specs.declared.grouped.Groups.{Groups}
+use Rattle.span_algebra.specs.declared.part_rows.Measure.{Measure}
+use Rattle.span_algebra.specs.declared.part_rows.Measure.TheVariants.{CountRows, OfColumn}
+use Rattle.span_algebra.specs.declared.part_rows.Groups.{Groups}
 use Rattle.span_algebra.specs.GroupStates.{AreGroupsOf}
 
 abbrev pub aggregate_of : Measure → Aggregate

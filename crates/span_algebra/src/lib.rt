@@ -4,9 +4,9 @@
 mod aggregate;
 mod block;
 mod group;
-pub mod grouped;
 mod merge;
 pub mod ordered;
+pub mod part_rows;
 pub mod plain;
 mod select;
 pub mod source;

@@ -10,7 +10,7 @@ ghost use Rattle.span_algebra.specs.MergedGroups.{AreWholeGroups, HasGroupAt};
 ghost use Rattle.span_algebra.specs.Parts.{all_rows};
 
 use super::group::{Group, first_groups, new_group};
-use super::grouped::GroupedRows;
+use super::part_rows::PartRows;
 use super::states::merge_all;
 use indexmap::IndexSet;
 use span_query::query::{Aggregate, Grouping};
@@ -114,7 +114,7 @@ fn first_index<'a>(alloc: Global, grouping: &Grouping) -> Result<IndexSet<RowKey
 pub(crate) fn merge_parts(
     alloc: Global,
     grouping: &Grouping,
-    parts: &[&GroupedRows],
+    parts: &[&PartRows],
 ) -> Result<Option<Vec<Group>>, AllocError>
     ensures { IfOk result (λ found. IfSome found (λ groups. AreGroupsOf grouping.now (all_rows parts.now) groups.items)) }
 {

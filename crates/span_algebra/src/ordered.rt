@@ -7,7 +7,7 @@ ghost use Rattle.span_query.specs.Sorting.{sorted};
 ghost use Rattle.span_rows.specs.LentRows.{lent_rows};
 ghost use Rattle.span_algebra.specs.ColumnOrders.{IsColumnOrder, IsTable, TakesAllRows};
 
-use super::grouped::GroupedRows;
+use super::part_rows::PartRows;
 use span_query::query::{Block, BoundQuery, Item, Limit, SortKey};
 use span_rows::columns::{columns_of, keys_over};
 use span_rows::row_list::{RowList, lent_rows};
@@ -118,15 +118,11 @@ pub fn ordered_table(query: &BoundQuery) -> Option<usize>
 
 /// Rows of the table that a query puts in order, with this order where its select list is columns alone. The only error is out of
 /// memory.
-pub fn order_part(
-    alloc: Global,
-    query: &BoundQuery,
-    rows: RowList,
-) -> Result<GroupedRows, AllocError>
+pub fn order_part(alloc: Global, query: &BoundQuery, rows: RowList) -> Result<PartRows, AllocError>
     ensures { IfOk result (λ ordered. ordered ≡ rows) }
 {
     match column_order(alloc, query)? {
-        Some(order) => GroupedRows::with_order(alloc, order.keys(), rows),
-        None => Ok(GroupedRows::new(rows)),
+        Some(order) => PartRows::with_order(alloc, order.keys(), rows),
+        None => Ok(PartRows::new(rows)),
     }
 }

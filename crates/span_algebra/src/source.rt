@@ -11,8 +11,8 @@ ghost use Rattle.span_algebra.specs.Parts.{all_rows};
 ghost use Rattle.span_algebra.specs.Sources.{GivesRows, IsGivenBy, SortsAs, source_rows, source_result};
 
 use super::group::rows_of;
-use super::grouped::GroupedRows;
 use super::merge::merge_parts;
+use super::part_rows::PartRows;
 use span_expr::cell::Failure;
 use span_query::query::{Grouping, SortKey};
 use span_rows::row_list::RowList;
@@ -42,7 +42,7 @@ impl Source<'_> {
 /// What a table of a query gives: its rows in parts, one after another, or none where reading it was an arithmetic error.
 #[derive(Drop)]
 enum TableSource<'a> {
-    Parts(Vec<&'a GroupedRows>),
+    Parts(Vec<&'a PartRows>),
     Fault,
 }
 
@@ -73,7 +73,7 @@ impl<'a> Tables<'a> {
     }
 
     /// Adds a table whose rows are lent in parts. An error leaves the tables as they were.
-    pub fn lend(&mut self, parts: Vec<&'a GroupedRows>) -> Result<(), AllocError>
+    pub fn lend(&mut self, parts: Vec<&'a PartRows>) -> Result<(), AllocError>
         ensures ok { OnOk result (self.new ≡ self.old ++ Some (all_rows parts.entry.items) ∷ []) }
         ensures err { OnErr result (self.new ≡ self.old) }
     {
@@ -159,7 +159,7 @@ fn numbered_source<'a, 'b>(
 }
 
 /// Copies of the rows of parts, one after another.
-fn join_parts(alloc: Global, parts: &[&GroupedRows]) -> Result<RowList, AllocError>
+fn join_parts(alloc: Global, parts: &[&PartRows]) -> Result<RowList, AllocError>
     ensures { IfOk result (λ rows. rows ≡ all_rows parts.now) }
 {
     let mut rows = RowList::new(alloc);
@@ -182,7 +182,7 @@ fn add_copies(alloc: Global, rows: &mut RowList, more: &RowList) -> Result<(), A
 fn lend_parts<'a>(
     alloc: Global,
     keys: &[SortKey],
-    parts: &[&'a GroupedRows],
+    parts: &[&'a PartRows],
 ) -> Result<Vec<&'a [Value]>, AllocError>
     ensures { IfOk result (λ rows. sorted keys.now (lent_rows rows.items) ≡ sorted keys.now (all_rows parts.now)) }
 {
@@ -194,7 +194,7 @@ fn lend_parts<'a>(
 }
 
 /// The rows of parts, one after another. Those of the only part are lent.
-fn source_of<'a>(alloc: Global, parts: &[&'a GroupedRows]) -> Result<Source<'a>, AllocError>
+fn source_of<'a>(alloc: Global, parts: &[&'a PartRows]) -> Result<Source<'a>, AllocError>
     ensures { IfOk result (λ source. source_rows source ≡ all_rows parts.now) }
 {
     match parts {
@@ -207,7 +207,7 @@ fn source_of<'a>(alloc: Global, parts: &[&'a GroupedRows]) -> Result<Source<'a>,
 fn groups_of(
     alloc: Global,
     grouping: &Grouping,
-    parts: &[&GroupedRows],
+    parts: &[&PartRows],
 ) -> Result<Option<RowList>, Failure>
     ensures { MatchResult result
         (λ found. IfSome found (λ rows. groups grouping.now (all_rows parts.now) ≡ Some rows))

@@ -2,25 +2,25 @@
 ghost use Rattle.std.specs.Prelude.{◌≡◌};
 ghost use Rattle.std.specs.Option.{option_copied};
 
-use span_algebra::grouped::GroupedRows;
+use span_algebra::part_rows::PartRows;
 
 /// The rows of a leaf in a part of its range, with their groups where the query above groups them, or none where joining or filtering them was an
 /// arithmetic error. Only `run_leaf` makes it.
 #[derive(Debug, Drop)]
 pub struct Piece {
-    rows: Option<GroupedRows>,
+    rows: Option<PartRows>,
 }
 
 impl Piece {
     /// A piece with these rows, or none for the fault.
-    pub(crate) fn new(rows: Option<GroupedRows>) -> Piece
+    pub(crate) fn new(rows: Option<PartRows>) -> Piece
         ensures { result.rows ≡ rows }
     {
         Piece { rows }
     }
 
     /// The rows, or none where there was an arithmetic error.
-    pub fn rows(&self) -> Option<&GroupedRows>
+    pub fn rows(&self) -> Option<&PartRows>
         ensures { option_copied result ≡ self.now.rows }
     {
         match &self.rows {

@@ -14,8 +14,8 @@ use super::directory::rows_of_leaf;
 use super::piece::Piece;
 use super::scan::rows_of_table;
 use super::short::leaf_entries;
-use span_algebra::grouped::GroupedRows;
 use span_algebra::ordered::{order_part, ordered_table};
+use span_algebra::part_rows::PartRows;
 use span_algebra::plain::grouped_table;
 use span_expr::cell::Failure;
 use span_planner::leaf::Leaf;
@@ -40,13 +40,13 @@ fn rows_for(
     alloc: Global,
     leaf_use: Option<LeafUse<'_>>,
     rows: RowList,
-) -> Result<GroupedRows, AllocError>
+) -> Result<PartRows, AllocError>
     ensures { IfOk result (λ made. made ≡ rows) }
 {
     match leaf_use {
-        Some(LeafUse::Group(grouping)) => GroupedRows::with_groups(alloc, grouping, rows),
+        Some(LeafUse::Group(grouping)) => PartRows::with_groups(alloc, grouping, rows),
         Some(LeafUse::Order(query)) => order_part(alloc, query, rows),
-        None => Ok(GroupedRows::new(rows)),
+        None => Ok(PartRows::new(rows)),
     }
 }
 

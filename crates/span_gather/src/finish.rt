@@ -5,7 +5,7 @@ ghost use Rattle.span_algebra.specs.Parts.{all_rows};
 ghost use Rattle.span_gather.specs.Gathered.{joined_pieces, gathered};
 
 use super::rows::Rows;
-use span_algebra::grouped::GroupedRows;
+use span_algebra::part_rows::PartRows;
 use span_algebra::plain::eval_plain;
 use span_algebra::source::Tables;
 use span_fragment::piece::Piece;
@@ -18,7 +18,7 @@ use std::alloc::{AllocError, Global};
 fn lent_parts<'a>(
     alloc: Global,
     pieces: &'a [Piece],
-) -> Result<Option<Vec<&'a GroupedRows>>, AllocError>
+) -> Result<Option<Vec<&'a PartRows>>, AllocError>
     ensures { IfOk result (λ parts. joined_pieces pieces.now ≡ option_map (λ lent. all_rows lent.items) parts) }
 {
     let mut parts = Vec::with_capacity(alloc, pieces.len())?;

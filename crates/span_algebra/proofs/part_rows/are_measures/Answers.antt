@@ -1,10 +1,10 @@
 use Rattle.std.proofs.Common.{rules, ◌≡◌, ◌∷◌, ◌++◌, ◌+◌, ◌<◌, ◌≤◌, [], List, length, take, get_or, sym, subst}
 use Rattle.std.proofs.lemmas.List.{take_more, take_all}
-use Rattle.span_algebra.specs.declared.grouped.Measure.{Measure}
-use Rattle.span_algebra.specs.declared.grouped.Measure.TheVariants.{CountRows}
+use Rattle.span_algebra.specs.declared.part_rows.Measure.{Measure}
+use Rattle.span_algebra.specs.declared.part_rows.Measure.TheVariants.{CountRows}
 use Rattle.span_algebra.specs.Parts.{aggregate_of, AreMeasuresOf}
 use Rattle.span_algebra.proofs.Measuring.{measured_more, measured_all}
-use Rattle.span_algebra.proofs.grouped.are_measures.Goals as goal
+use Rattle.span_algebra.proofs.part_rows.are_measures.Goals as goal
 
 pub loop-at-preserved : goal.loop-at-preserved
 loop-at-preserved c =

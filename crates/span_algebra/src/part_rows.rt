@@ -88,12 +88,12 @@ struct Groups {
 
 /// Rows, and the groups that they fall into, or their order, where these were made. Contracts see the rows.
 #[derive(Debug, Drop)]
-pub struct GroupedRows {
+pub struct PartRows {
     rows: OrderedRows,
     groups: Option<Groups>,
 }
 
-impl Model for GroupedRows {
+impl Model for PartRows {
     ghost use Rattle.std.specs.Prelude.{IfSome, List};
     ghost use Rattle.span_query.specs.Rows.{Row};
     ghost use Rattle.span_algebra.specs.Parts.{HaveGroups};
@@ -137,12 +137,12 @@ fn are_many(groups: usize, rows: usize) -> bool {
     groups > rows / 2
 }
 
-impl GroupedRows {
+impl PartRows {
     /// Rows without groups and without their order.
-    pub fn new(rows: RowList) -> GroupedRows
+    pub fn new(rows: RowList) -> PartRows
         ensures { result ≡ rows }
     {
-        GroupedRows {
+        PartRows {
             rows: OrderedRows::new(rows),
             groups: None,
         }
@@ -153,10 +153,10 @@ impl GroupedRows {
         alloc: Global,
         keys: &[SortKey],
         rows: RowList,
-    ) -> Result<GroupedRows, AllocError>
+    ) -> Result<PartRows, AllocError>
         ensures { IfOk result (λ ordered. ordered ≡ rows) }
     {
-        Ok(GroupedRows {
+        Ok(PartRows {
             rows: OrderedRows::with_order(alloc, keys, rows)?,
             groups: None,
         })
@@ -168,11 +168,11 @@ impl GroupedRows {
         alloc: Global,
         grouping: &Grouping,
         rows: RowList,
-    ) -> Result<GroupedRows, AllocError>
+    ) -> Result<PartRows, AllocError>
         ensures { IfOk result (λ grouped. grouped ≡ rows) }
     {
         let groups = groups_of(alloc, grouping, &rows)?;
-        Ok(GroupedRows {
+        Ok(PartRows {
             rows: OrderedRows::new(rows),
             groups,
         })

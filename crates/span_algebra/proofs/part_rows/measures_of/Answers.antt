@@ -1,8 +1,8 @@
 use Rattle.std.proofs.Common.{rules, ◌≡◌, ◌∷◌, ◌++◌, ◌+◌, ◌<◌, [], List, length, take, get_or, sym, subst}
-use Rattle.span_algebra.specs.declared.grouped.Measure.{Measure}
+use Rattle.span_algebra.specs.declared.part_rows.Measure.{Measure}
 use Rattle.span_algebra.specs.Parts.{AreMeasuresOf}
 use Rattle.span_algebra.proofs.Measuring.{measured_more, measured_all}
-use Rattle.span_algebra.proofs.grouped.measures_of.Goals as goal
+use Rattle.span_algebra.proofs.part_rows.measures_of.Goals as goal
 
 pub loop-aggregate-preserved : goal.loop-aggregate-preserved
 loop-aggregate-preserved c =
