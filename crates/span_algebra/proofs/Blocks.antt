@@ -1,5 +1,5 @@
 -- A block is its output from the rows of its FROM, in the order in which the code goes.
-use Rattle.std.proofs.Common.{◌≡◌, ◌∙◌, ℕ, List, Option, Some, None, map, refl, ap}
+use Rattle.std.proofs.Common.{◌≡◌, ◌∙◌, ℕ, Bool, true, List, Option, Some, None, map, refl, sym, ap}
 use Rattle.span_expr.specs.declared.expr.Expr.{Expr}
 use Rattle.span_query.specs.declared.query.Block.{Block}
 use Rattle.span_query.specs.declared.query.BoundQuery.{BoundQuery}
@@ -9,9 +9,12 @@ use Rattle.span_query.specs.declared.query.Item.TheVariants as item
 use Rattle.span_query.specs.declared.query.Join.{Join}
 use Rattle.span_query.specs.Layers.{map_block, map_item, map_join}
 use Rattle.span_query.specs.Meaning.{block_rows, distinct_if, from}
+use Rattle.span_rows.specs.Columns.{AreColumns, distinct_at}
+use Rattle.span_rows.proofs.TakenColumns.{project_columns}
 use Rattle.span_query.specs.Rows.{Row, Rows, OrFault, ◌>>=◌, filter_where, project_rows}
 use Rattle.span_query.specs.Groups.{groups, group_rows}
-use Rattle.span_algebra.specs.BlockMeaning.{GroupsTable, project_groups}
+use Rattle.span_algebra.specs.BlockMeaning.{GroupsTable, TakesDistinct, project_groups}
+use Rattle.span_algebra.specs.Sources.{HasSameValues}
 
 then_some : {A : Type 0} (o : OrFault A) → (o >>= (λ x. Some x)) ≡ o
 then_some (Some x) = refl
@@ -44,5 +47,26 @@ table_grouped f tables b n g o h made =
     after : (p : Rows) → (p >>= filter_where g.having >>= project_rows b.outputs >>= (λ rows. Some (distinct_if b.is_distinct rows))) ≡ (p >>= project_groups b g)
     after (Some rows) = refl
     after None = refl
+
+-- a block that takes its select list, columns alone, at all rows of one table, each row of it once
+pub table_distinct : (f : BoundQuery → Rows) (tables : ℕ → Rows) (b : Block BoundQuery) (n : ℕ) (columns : List ℕ) → TakesDistinct b n → AreColumns b.outputs columns
+    → block_rows tables (map_block f b) ≡ (tables n >>= (λ rows. Some (distinct_at columns rows)))
+table_distinct f tables b n columns h are =
+    let out : Rows → Option Expr → Option Grouping → Bool → Rows = λ p w k d. p >>= filter_where w >>= group_rows k >>= project_rows b.outputs >>= (λ rows. Some (distinct_if d rows)) in
+    ap (λ (i : Item BoundQuery). out (from tables (map_item f i) (map (map_join f) b.joins)) b.filter b.grouping b.is_distinct) h.from
+    ∙ ap (λ (js : List (Join BoundQuery)). out (from tables (item.Table n) (map (map_join f) js)) b.filter b.grouping b.is_distinct) h.joins
+    ∙ ap (λ (w : Option Expr). out (tables n) w b.grouping b.is_distinct) h.filter
+    ∙ ap (λ (k : Option Grouping). out (tables n) None k b.is_distinct) h.grouping
+    ∙ ap (λ (d : Bool). out (tables n) None None d) h.distinct
+    ∙ each_once (tables n)
+  where
+    each_once : (o : Rows) → (o >>= filter_where None >>= group_rows None >>= project_rows b.outputs >>= (λ rows. Some (distinct_if true rows))) ≡ (o >>= (λ rows. Some (distinct_at columns rows)))
+    each_once None = refl
+    each_once (Some rows) = ap (λ (p : Rows). p >>= (λ found. Some (distinct_if true found))) (project_columns b.outputs columns rows are)
+
+-- rows with the same values at the columns, as those of the table
+pub same_values : (columns : List ℕ) (rows : List Row) (o : Rows) → HasSameValues columns rows o → (o >>= (λ all. Some (distinct_at columns all))) ≡ Some (distinct_at columns rows)
+same_values columns rows None h = absurd h
+same_values columns rows (Some all) h = ap (λ (l : List Row). Some l) (sym h)
 
 pub ruleset block_laws = (without_groups, with_groups)

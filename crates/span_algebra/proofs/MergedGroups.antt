@@ -17,6 +17,7 @@ use Rattle.span_algebra.specs.States.{AreStatesOf}
 use Rattle.span_algebra.specs.GroupStates.{keys_of, HasTakenRows, AreGroupsOf}
 use Rattle.span_algebra.specs.MergedGroups.{AreWholeGroups, HasGroupAt, with_keys, rows_by_key}
 use Rattle.span_rows.proofs.Alike.{are_equal-same, are_equal-reversed}
+use Rattle.span_rows.specs.Columns.{distinct_at}
 use Rattle.span_rows.proofs.Firsts.{unlike, distinct-more}
 use Rattle.span_algebra.proofs.Absorbed.{key_at, key_count, keys-same}
 use Rattle.span_rows.proofs.Places.{place_found, place_tells, place_most, apart_at, group_keys-apart, distinct-apart, contains_row-distinct, none_with}
@@ -113,6 +114,25 @@ with_keys-distinct xs (y ∷ ys) =
     ap (λ (l : List Row). with_keys l ys) (sym (distinct-more xs y))
     ∙ with_keys-distinct (xs ++ y ∷ []) ys
     ∙ ap distinct (append_assoc xs (y ∷ []) ys)
+
+-- EACH ONCE, IN PARTS: lists may each be replaced by one that has the same rows where each is taken once
+pub distinct_both : (xs xs' ys ys' : List Row) → distinct xs ≡ distinct xs' → distinct ys ≡ distinct ys' → distinct (xs ++ ys) ≡ distinct (xs' ++ ys')
+distinct_both xs xs' ys ys' first second =
+    sym (with_keys-distinct xs ys)
+    ∙ ap (λ (l : List Row). with_keys l ys) first
+    ∙ with_keys-distinct xs' ys
+    ∙ sym (distinct-after xs' ys)
+    ∙ ap (λ (l : List Row). distinct (xs' ++ l)) second
+    ∙ distinct-after xs' ys'
+
+-- the values at some columns of lists of rows, each once
+pub distinct_at-both : (columns : List ℕ) (xs xs' ys ys' : List Row) → distinct_at columns xs ≡ distinct_at columns xs' → distinct_at columns ys ≡ distinct_at columns ys'
+    → distinct_at columns (xs ++ ys) ≡ distinct_at columns (xs' ++ ys')
+distinct_at-both columns xs xs' ys ys' first second =
+    let taken : List Row → List Row = map (columns_at columns) in
+    ap distinct (map-append (columns_at columns) xs ys)
+    ∙ distinct_both (taken xs) (taken xs') (taken ys) (taken ys') first second
+    ∙ ap distinct (sym (map-append (columns_at columns) xs' ys'))
 
 keys_together : (places : List ℕ) (rows next : List Row) → with_keys (group_keys places rows) (group_keys places next) ≡ group_keys places (rows ++ next)
 keys_together [] rows next = refl

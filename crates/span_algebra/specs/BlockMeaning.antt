@@ -1,5 +1,5 @@
 -- What a block makes of the rows of its FROM.
-use Rattle.std.specs.Prelude.{◌≡◌, ℕ, List, [], None, Some}
+use Rattle.std.specs.Prelude.{◌≡◌, ℕ, true, List, [], None, Some}
 use Rattle.span_query.specs.declared.query.Block.{Block}
 use Rattle.span_query.specs.declared.query.BoundQuery.{BoundQuery}
 use Rattle.span_query.specs.declared.query.Grouping.{Grouping}
@@ -26,6 +26,14 @@ pub record GroupsTable {Q : Type 0} (b : Block Q) (number : ℕ) (g : Grouping) 
   pub joins : b.joins ≡ []
   pub filter : b.filter ≡ None
   pub grouping : b.grouping ≡ Some g
+
+-- the block is one that takes its select list at all rows of one table, each row of this once
+pub record TakesDistinct {Q : Type 0} (b : Block Q) (number : ℕ) : Type 0 where
+  pub from : b.from ≡ item.Table number
+  pub joins : b.joins ≡ []
+  pub filter : b.filter ≡ None
+  pub grouping : b.grouping ≡ None
+  pub distinct : b.is_distinct ≡ true
 
 -- what a block means on tables, each of which may be a fault
 abbrev pub block_meaning : List Rows → Block BoundQuery → Rows

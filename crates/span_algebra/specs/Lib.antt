@@ -5,4 +5,5 @@ pub mod Sources
 pub mod ColumnOrders
 pub mod GroupStates
 pub mod MergedGroups
+pub mod FirstRows
 pub mod Parts

@@ -1,5 +1,5 @@
 -- Rows in parts, and the groups that were made of them.
-use Rattle.std.specs.Prelude.{◌≡◌, List, map, flat_map}
+use Rattle.std.specs.Prelude.{◌≡◌, List, Option, IfSome, map, flat_map}
 use denote.Ref.{Bor}
 use Rattle.span_expr.specs.declared.expr.Expr.TheVariants.{Column}
 use Rattle.span_query.specs.declared.query.Aggregate.{Aggregate}
@@ -9,6 +9,8 @@ use Rattle.span_query.specs.Rows.{Row}
 use Rattle.span_algebra.specs.declared.part_rows.Measure.{Measure}
 use Rattle.span_algebra.specs.declared.part_rows.Measure.TheVariants.{CountRows, OfColumn}
 use Rattle.span_algebra.specs.declared.part_rows.Groups.{Groups}
+use Rattle.span_algebra.specs.declared.firsts.FirstPlaces.{FirstPlaces}
+use Rattle.span_algebra.specs.FirstRows.{AreFirstsOf}
 use Rattle.span_algebra.specs.GroupStates.{AreGroupsOf}
 
 abbrev pub aggregate_of : Measure → Aggregate
@@ -22,6 +24,11 @@ AreMeasuresOf aggregates measures = aggregates ≡ map aggregate_of measures
 abbrev pub HaveGroups : List Row → Groups → Type 0
 HaveGroups rows made =
     (g : Grouping) → g.keys ≡ made.keys.items → AreMeasuresOf g.aggregates made.measures.items → AreGroupsOf g rows made.groups.items
+
+-- the groups and the first rows of a part, where they were made, are those of its rows
+pub record IsPart (rows : List Row) (made : Option Groups) (found : Option FirstPlaces) : Type 0 where
+  pub groups : IfSome made (HaveGroups rows)
+  pub firsts : IfSome found (AreFirstsOf rows)
 
 -- the rows of parts, one part after another
 abbrev pub all_rows : List (Bor (List Row)) → List Row

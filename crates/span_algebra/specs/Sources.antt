@@ -1,10 +1,11 @@
 -- The rows of an item of a FROM, lent or made.
-use Rattle.std.specs.Prelude.{◌≡◌, List, [], Option, Result, Ok, Err, Some, None}
+use Rattle.std.specs.Prelude.{◌≡◌, ℕ, List, [], Option, Result, Ok, Err, Some, None}
 use Rattle.span_expr.specs.declared.cell.Failure.{Failure}
 use Rattle.span_expr.specs.declared.cell.Failure.TheVariants.{Fault, OutOfMemory}
 use Rattle.span_query.specs.declared.query.SortKey.{SortKey}
 use Rattle.span_query.specs.Rows.{Row, Rows}
 use Rattle.span_query.specs.Sorting.{sorted}
+use Rattle.span_rows.specs.Columns.{distinct_at}
 use Rattle.span_algebra.specs.declared.source.Source.{Source}
 use Rattle.span_algebra.specs.declared.source.Source.TheVariants.{Lent, Made}
 use Rattle.span_algebra.specs.declared.source.TableSource.{TableSource}
@@ -35,3 +36,8 @@ IsGivenBy (Some source) o = o ≡ source_result source
 abbrev pub SortsAs : List SortKey → List Row → Rows → Type 0
 SortsAs keys rows None = ⊥
 SortsAs keys rows (Some all) = sorted keys rows ≡ sorted keys all
+
+-- they are rows that these rows may stand for where each of the values at the columns is wanted once
+abbrev pub HasSameValues : List ℕ → List Row → Rows → Type 0
+HasSameValues columns rows None = ⊥
+HasSameValues columns rows (Some all) = distinct_at columns rows ≡ distinct_at columns all

@@ -3,6 +3,8 @@
 
 mod aggregate;
 mod block;
+pub mod distinct;
+mod firsts;
 mod group;
 mod merge;
 pub mod ordered;

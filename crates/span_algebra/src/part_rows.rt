@@ -1,18 +1,21 @@
-//! Rows with the groups that they fall into, or with their order, made where the rows are read, so that several threads can make those of
-//! their parts.
+//! Rows with the groups that they fall into, with their order, or with the first of them by some columns: these are made where the rows are
+//! read, so that several threads can make those of their parts.
 ghost use Rattle.std.specs.Prelude.{◌≡◌, ◌++◌, IfOk, IfSome, IsTrue, MatchOption, MatchResult, OnOk, map};
 ghost use Rattle.span_query.specs.Groups as spec;
 ghost use Rattle.span_query.specs.Sorting.{sorted};
+ghost use Rattle.span_rows.specs.Columns.{distinct_at};
 ghost use Rattle.span_rows.specs.LentRows.{lent_rows};
+ghost use Rattle.span_algebra.specs.FirstRows.{AreFirstsAt};
 ghost use Rattle.span_algebra.specs.GroupStates.{AreGroupsOf};
 ghost use Rattle.span_algebra.specs.Parts.{aggregate_of, AreMeasuresOf, HaveGroups};
 
+use super::firsts::{FirstPlaces, lend_firsts};
 use super::group::{Group, groups_where};
 use span_expr::cell::Failure;
 use span_expr::expr::Expr;
 use span_query::query::{Aggregate, Function, Grouping, SortKey};
 use span_rows::ordered_rows::OrderedRows;
-use span_rows::row_list::RowList;
+use span_rows::row_list::{RowList, lend_rows};
 use span_value::value::Value;
 use std::alloc::{AllocError, Global};
 use std::marker::Model;
@@ -86,23 +89,24 @@ struct Groups {
     groups: Vec<Group>,
 }
 
-/// Rows, and the groups that they fall into, or their order, where these were made. Contracts see the rows.
+/// Rows, and the groups that they fall into, their order, or the first of them by some columns, where these were made. Contracts see the rows.
 #[derive(Debug, Drop)]
 pub struct PartRows {
     rows: OrderedRows,
     groups: Option<Groups>,
+    firsts: Option<FirstPlaces>,
 }
 
 impl Model for PartRows {
-    ghost use Rattle.std.specs.Prelude.{IfSome, List};
+    ghost use Rattle.std.specs.Prelude.{List};
     ghost use Rattle.span_query.specs.Rows.{Row};
-    ghost use Rattle.span_algebra.specs.Parts.{HaveGroups};
+    ghost use Rattle.span_algebra.specs.Parts.{IsPart};
 
     ghost Value = { List Row };
 
     ghost view = { λ a. a.rows };
 
-    ghost invariant = { λ a. IfSome a.groups (HaveGroups a.rows) };
+    ghost invariant = { λ a. IsPart a.rows a.groups a.firsts };
 }
 
 /// The groups of rows. None where an operand is no column, or at one an aggregate is an arithmetic error.
@@ -145,6 +149,7 @@ impl PartRows {
         PartRows {
             rows: OrderedRows::new(rows),
             groups: None,
+            firsts: None,
         }
     }
 
@@ -159,6 +164,7 @@ impl PartRows {
         Ok(PartRows {
             rows: OrderedRows::with_order(alloc, keys, rows)?,
             groups: None,
+            firsts: None,
         })
     }
 
@@ -175,6 +181,23 @@ impl PartRows {
         Ok(PartRows {
             rows: OrderedRows::new(rows),
             groups,
+            firsts: None,
+        })
+    }
+
+    /// Rows with the first of them by some columns. The only error is out of memory.
+    pub fn with_firsts(
+        alloc: Global,
+        columns: &[usize],
+        rows: RowList,
+    ) -> Result<PartRows, AllocError>
+        ensures { IfOk result (λ made. made ≡ rows) }
+    {
+        let firsts = FirstPlaces::find(alloc, columns, &rows)?;
+        Ok(PartRows {
+            rows: OrderedRows::new(rows),
+            groups: None,
+            firsts: Some(firsts),
         })
     }
 
@@ -196,6 +219,32 @@ impl PartRows {
             (sorted keys.now (lent_rows all.new.items) ≡ sorted keys.now (lent_rows all.old.items ++ self.now)) }
     {
         self.rows.lend_in_order(keys, all)
+    }
+
+    /// The places at which the values of the columns appear first, where they were found.
+    fn first_places(&self, columns: &[usize]) -> Option<&[usize]>
+        ensures { IfSome result (λ places. AreFirstsAt columns.now self.now places.now) }
+    {
+        match &self.firsts {
+            Some(firsts) => firsts.places_for(columns),
+            None => None,
+        }
+    }
+
+    /// Lends rows after others: those at which the values of the columns appear first where these were found, and else all. The only
+    /// error is out of memory.
+    pub(crate) fn lend_firsts<'a>(
+        &'a self,
+        columns: &[usize],
+        all: &mut Vec<&'a [Value]>,
+    ) -> Result<(), AllocError>
+        ensures { OnOk result
+            (distinct_at columns.now (lent_rows all.new.items) ≡ distinct_at columns.now (lent_rows all.old.items ++ self.now)) }
+    {
+        match self.first_places(columns) {
+            Some(places) => lend_firsts(columns, self.rows(), places, all),
+            None => lend_rows(self.rows(), all),
+        }
     }
 
     /// The groups that a block makes of the rows, where they were made.

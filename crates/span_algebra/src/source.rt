@@ -6,9 +6,10 @@ ghost use Rattle.span_query.specs.Groups.{groups};
 ghost use Rattle.span_query.specs.Rows.{Row, unless_fault};
 ghost use Rattle.span_query.specs.Sorting.{sorted};
 ghost use Rattle.span_rows.specs.Answers.{Gives};
+ghost use Rattle.span_rows.specs.Columns.{distinct_at};
 ghost use Rattle.span_rows.specs.LentRows.{lent_rows};
 ghost use Rattle.span_algebra.specs.Parts.{all_rows};
-ghost use Rattle.span_algebra.specs.Sources.{GivesRows, IsGivenBy, SortsAs, source_rows, source_result};
+ghost use Rattle.span_algebra.specs.Sources.{GivesRows, HasSameValues, IsGivenBy, SortsAs, source_rows, source_result};
 
 use super::group::rows_of;
 use super::merge::merge_parts;
@@ -120,6 +121,27 @@ impl<'a> Tables<'a> {
         }
     }
 
+    /// Rows of the table with this number, each lent where it lies, for the values at the columns to be taken, each once: of a part
+    /// in which the rows with the first of these were found, they alone. `Fault` where the table is one, or out of memory.
+    pub(crate) fn lend_firsts(
+        &self,
+        alloc: Global,
+        number: usize,
+        columns: &[usize],
+    ) -> Result<Vec<&[Value]>, Failure>
+        ensures { MatchResult result
+            (λ rows. HasSameValues columns.now (lent_rows rows.items) (spec.given self.now number))
+            (λ why. Gives {A = List Row} (Err why) (spec.given self.now number)) }
+    {
+        match numbered_source(self.sources.as_slice(), number) {
+            None => Ok(Vec::new(alloc)),
+            Some(TableSource::Fault) => Err(Failure::Fault),
+            Some(TableSource::Parts(parts)) => {
+                Ok(lend_firsts_of(alloc, columns, parts.as_slice())?)
+            }
+        }
+    }
+
     /// The rows of the groups of the table with this number, where these were made with its rows. `Fault` where the table is one or an
     /// aggregate is an arithmetic error, or out of memory.
     pub(crate) fn groups(
@@ -189,6 +211,21 @@ fn lend_parts<'a>(
     let mut rows = Vec::new(alloc);
     for part in parts {
         part.lend_in_order(keys, &mut rows)?;
+    }
+    Ok(rows)
+}
+
+/// Rows of parts, one after another, each lent: of a part in which the rows with the first values at the columns were found, they alone.
+fn lend_firsts_of<'a>(
+    alloc: Global,
+    columns: &[usize],
+    parts: &[&'a PartRows],
+) -> Result<Vec<&'a [Value]>, AllocError>
+    ensures { IfOk result (λ rows. distinct_at columns.now (lent_rows rows.items) ≡ distinct_at columns.now (all_rows parts.now)) }
+{
+    let mut rows = Vec::new(alloc);
+    for part in parts {
+        part.lend_firsts(columns, &mut rows)?;
     }
     Ok(rows)
 }

@@ -14,6 +14,7 @@ use super::directory::rows_of_leaf;
 use super::piece::Piece;
 use super::scan::rows_of_table;
 use super::short::leaf_entries;
+use span_algebra::distinct::{distinct_part, distinct_table};
 use span_algebra::ordered::{order_part, ordered_table};
 use span_algebra::part_rows::PartRows;
 use span_algebra::plain::grouped_table;
@@ -31,11 +32,13 @@ use std::alloc::{AllocError, Global};
 pub enum LeafUse<'a> {
     /// A block groups them.
     Group(&'a Grouping),
+    /// A block takes each row of its select list at them once.
+    Distinct(&'a Block<BoundQuery>),
     /// The query puts them in order.
     Order(&'a BoundQuery),
 }
 
-/// Rows, with their groups where the query above groups them, and with their order where it puts them in order.
+/// Rows, with what is done here of what the query above does with them.
 fn rows_for(
     alloc: Global,
     leaf_use: Option<LeafUse<'_>>,
@@ -45,6 +48,7 @@ fn rows_for(
 {
     match leaf_use {
         Some(LeafUse::Group(grouping)) => PartRows::with_groups(alloc, grouping, rows),
+        Some(LeafUse::Distinct(block)) => distinct_part(alloc, block, rows),
         Some(LeafUse::Order(query)) => order_part(alloc, query, rows),
         None => Ok(PartRows::new(rows)),
     }
@@ -125,25 +129,36 @@ fn block_grouping(block: &Block<BoundQuery>, number: usize) -> Option<&Grouping>
     }
 }
 
-/// How a block of the query's own groups all rows of the table with this number, if one does.
-fn table_grouping(top: &BoundQuery, number: usize) -> Option<&Grouping> {
-    if let Some(grouping) = block_grouping(&top.first, number) {
-        return Some(grouping);
+/// What a block does with all rows of the table with this number, where parts of it are done where the rows are read.
+fn block_use(block: &Block<BoundQuery>, number: usize) -> Option<LeafUse<'_>> {
+    if let Some(grouping) = block_grouping(block, number) {
+        return Some(LeafUse::Group(grouping));
+    }
+    match distinct_table(block) {
+        Some(table) if table == number => Some(LeafUse::Distinct(block)),
+        _ => None,
+    }
+}
+
+/// What one of the query's own blocks does with all rows of the table with this number, where one does.
+fn use_by_block(top: &BoundQuery, number: usize) -> Option<LeafUse<'_>> {
+    if let Some(found) = block_use(&top.first, number) {
+        return Some(found);
     }
     for block in top.others.as_slice() {
-        if let Some(grouping) = block_grouping(block, number) {
-            return Some(grouping);
+        if let Some(found) = block_use(block, number) {
+            return Some(found);
         }
     }
     None
 }
 
 /// What the query above the leaves does with all rows of a leaf, whose place among them is counted from 0. None where no block of the query's
-/// own groups them, and the query does not put them in order. Only how fast the query is answered rests on it.
+/// own groups them or takes each once, and the query does not put them in order. Only how fast the query is answered rests on it.
 pub fn leaf_use(top: &BoundQuery, place: usize) -> Option<LeafUse<'_>> {
     let number = place.saturating_add(1);
-    if let Some(grouping) = table_grouping(top, number) {
-        return Some(LeafUse::Group(grouping));
+    if let Some(found) = use_by_block(top, number) {
+        return Some(found);
     }
     match ordered_table(top) {
         Some(table) if table == number => Some(LeafUse::Order(top)),

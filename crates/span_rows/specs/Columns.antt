@@ -4,9 +4,15 @@ use Rattle.std.specs.Option.{option_map}
 use Rattle.span_expr.specs.declared.expr.Expr.{Expr}
 use Rattle.span_expr.specs.Forms.{as_column}
 use Rattle.span_query.specs.declared.query.SortKey.{SortKey}
+use Rattle.span_query.specs.Rows.{Row}
+use Rattle.span_query.specs.Groups.{columns_at, distinct}
 
 abbrev pub AreColumns : List Expr → List ℕ → Type 0
 AreColumns outputs columns = map as_column outputs ≡ map (λ column. Some column) columns
+
+-- the values of rows at some columns, each once, at its first place
+abbrev pub distinct_at : List ℕ → List Row → List Row
+distinct_at columns rows = distinct (map (columns_at columns) rows)
 
 -- the key of a row, where it is one of the row's columns
 abbrev pub key_over : List ℕ → SortKey → Option SortKey

@@ -75,7 +75,7 @@ fn add_column(
 }
 
 /// Makes a buffer the values of a row at the columns.
-fn put_columns(
+pub(crate) fn put_columns(
     alloc: Global,
     columns: &[usize],
     row: &[Value],

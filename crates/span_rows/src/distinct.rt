@@ -3,8 +3,10 @@ ghost use Rattle.std.specs.Prelude.{◌≡◌, IfOk, Some};
 ghost use Rattle.span_expr.specs.Operators.{column_of};
 ghost use Rattle.span_query.specs.Groups.{is_equal, are_equal, distinct, columns_at};
 ghost use Rattle.span_rows.specs.Answers.{Gives};
+ghost use Rattle.span_rows.specs.Columns.{distinct_at};
+ghost use Rattle.span_rows.specs.LentRows.{lent_rows};
 
-use super::key::RowKey;
+use super::key::{LentKey, RowKey};
 use super::row_list::RowList;
 use indexmap::IndexSet;
 use span_expr::cell::Failure;
@@ -60,4 +62,45 @@ pub fn distinct(alloc: Global, rows: &RowList) -> Result<RowList, Failure>
     ensures { Gives result (Some (distinct rows.now)) }
 {
     Ok(first_occurrences(alloc, rows)?)
+}
+
+/// The values of the rows at some columns, each once.
+fn columns_seen<'a>(
+    alloc: Global,
+    columns: &'a [usize],
+    rows: &[&'a [Value]],
+) -> Result<IndexSet<LentKey<'a>>, AllocError>
+    ensures { IfOk result (λ seen. seen.keys ≡ distinct_at columns.now (lent_rows rows.now)) }
+{
+    let mut seen = IndexSet::new(alloc);
+    for row in rows {
+        seen.insert(LentKey::new(*row, columns))?;
+    }
+    Ok(seen)
+}
+
+/// Copies of the values of a set, in its order.
+fn copies_of(alloc: Global, seen: IndexSet<LentKey<'_>>) -> Result<RowList, AllocError>
+    ensures { IfOk result (λ rows. rows ≡ seen.entry.keys) }
+{
+    let mut rows = RowList::new(alloc);
+    let mut values = Vec::new(alloc);
+    for key in seen {
+        key.put_values(alloc, &mut values)?;
+        rows.push(&mut values)?;
+    }
+    Ok(rows)
+}
+
+/// Copies of the values of the rows at some columns, each once, at its first place; NULL equals NULL. The only error is out of memory.
+pub fn distinct_columns<'a>(
+    alloc: Global,
+    columns: &'a [usize],
+    rows: &[&'a [Value]],
+) -> Result<RowList, AllocError>
+    ensures { IfOk result (λ found. found ≡ distinct_at columns.now (lent_rows rows.now)) }
+{
+    let seen = columns_seen(alloc, columns, rows)?;
+    let found = copies_of(alloc, seen)?;
+    Ok(found)
 }

@@ -1,5 +1,5 @@
 //! Rows as the keys of an index by hash: a whole row, and the values of a lent row at some places. NULL equals NULL.
-ghost use Rattle.std.specs.Prelude.{◌≡◌, fold};
+ghost use Rattle.std.specs.Prelude.{◌≡◌, OnOk, fold};
 ghost use Rattle.std.specs.Ordering.{is_gt};
 ghost use Rattle.span_value.specs.Orders.{value_order};
 ghost use Rattle.span_expr.specs.Operators.{column_of};
@@ -7,9 +7,11 @@ ghost use Rattle.span_query.specs.Groups.{is_equal, are_equal, columns_at};
 ghost use Rattle.span_rows.specs.Hashes.{value_writes, row_writes};
 ghost use Rattle.span_rows.specs.KeyRuns.{values_order};
 
+use super::columns::put_columns;
 use super::distinct::{are_equal, is_equal};
 use span_value::order::compare;
 use span_value::value::Value;
+use std::alloc::{AllocError, Global};
 use std::cmp::Ordering;
 use std::hash::{Hash, Hasher};
 use std::marker::Model;
@@ -209,6 +211,17 @@ impl<'a> LentKey<'a> {
         ensures { result ≡ columns_at places.now row.now }
     {
         LentKey { row, places }
+    }
+
+    /// Makes a buffer copies of these values.
+    pub(crate) fn put_values(
+        &self,
+        alloc: Global,
+        values: &mut Vec<Value>,
+    ) -> Result<(), AllocError>
+        ensures { OnOk result (values.new.items ≡ self.now) }
+    {
+        put_columns(alloc, self.places, self.row, values)
     }
 
     /// Whether these values are those of a row at some places.

@@ -1,12 +1,11 @@
 //! Rows with their order by some keys, made where the rows are read, so that several threads can put their parts in order.
-ghost use Rattle.std.specs.Prelude.{◌≡◌, ◌<◌, ◌++◌, IfOk, IfSome, IsTrue, OnOk, length};
-ghost use Rattle.std.specs.List.{All};
+ghost use Rattle.std.specs.Prelude.{◌≡◌, ◌++◌, IfOk, IfSome, IsTrue, OnOk};
 ghost use Rattle.span_query.specs.Sorting.{sorted};
 ghost use Rattle.span_rows.specs.LentRows.{lent_rows};
-ghost use Rattle.span_rows.specs.RowPlaces.{ArePlacesBy, rows_at};
+ghost use Rattle.span_rows.specs.RowPlaces.{ArePlacesBy};
 
 use super::placed::order_places;
-use super::row_list::{RowList, lend_rows};
+use super::row_list::{RowList, lend_places, lend_rows};
 use span_query::query::SortKey;
 use span_value::value::Value;
 use std::alloc::{AllocError, Global};
@@ -119,22 +118,6 @@ impl OrderedRows {
             None => lend_rows(&self.rows, all),
         }
     }
-}
-
-/// Lends the rows at some places, after others.
-fn lend_places<'a>(
-    rows: &'a RowList,
-    places: &[usize],
-    all: &mut Vec<&'a [Value]>,
-) -> Result<(), AllocError>
-    requires { All (λ place. place < length rows.now) places.now }
-    ensures { OnOk result (lent_rows all.new.items ≡ lent_rows all.old.items ++ rows_at rows.now places.now) }
-{
-    all.reserve(places.len())?;
-    for place in places {
-        all.push(rows.row(*place))?;
-    }
-    Ok(())
 }
 
 /// Lends the rows at their places in the order of the keys, after others.

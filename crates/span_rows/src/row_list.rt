@@ -1,9 +1,11 @@
 //! Rows in one buffer: no row has an allocation of its own.
 ghost use Rattle.std.specs.Prelude.{◌≡◌, ◌==◌, ◌<◌, ◌≤◌, ◌-◌, ◌++◌, ◌∷◌, [], IfOk, OnOk, OnErr, drop, length, slice_index_or, take};
 ghost use Rattle.std.specs.Cmp.Lexicographic.{pointwise};
+ghost use Rattle.std.specs.List.{All};
 ghost use Rattle.span_query.specs.Groups.{are_equal};
 ghost use Rattle.span_rows.specs.Cuts.{AreEnds, cut_at, shift, start_at};
 ghost use Rattle.span_rows.specs.LentRows.{lent_rows};
+ghost use Rattle.span_rows.specs.RowPlaces.{rows_at};
 
 use super::distinct::are_equal;
 use super::row::extend_row;
@@ -191,12 +193,28 @@ pub fn lent_rows(alloc: Global, rows: &RowList) -> Result<Vec<&[Value]>, AllocEr
 }
 
 /// Lends the rows of a list after others, in their order.
-pub(crate) fn lend_rows<'a>(more: &'a RowList, all: &mut Vec<&'a [Value]>) -> Result<(), AllocError>
+pub fn lend_rows<'a>(more: &'a RowList, all: &mut Vec<&'a [Value]>) -> Result<(), AllocError>
     ensures { OnOk result (lent_rows all.new.items ≡ lent_rows all.old.items ++ more.now) }
 {
     all.reserve(more.len())?;
     for at in 0..more.len() {
         all.push(more.row(at))?;
+    }
+    Ok(())
+}
+
+/// Lends the rows at some places, after others.
+pub fn lend_places<'a>(
+    rows: &'a RowList,
+    places: &[usize],
+    all: &mut Vec<&'a [Value]>,
+) -> Result<(), AllocError>
+    requires { All (λ place. place < length rows.now) places.now }
+    ensures { OnOk result (lent_rows all.new.items ≡ lent_rows all.old.items ++ rows_at rows.now places.now) }
+{
+    all.reserve(places.len())?;
+    for place in places {
+        all.push(rows.row(*place))?;
     }
     Ok(())
 }

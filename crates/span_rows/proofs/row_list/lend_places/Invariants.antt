@@ -1,7 +1,7 @@
 use Rattle.std.proofs.Common.{◌≡◌, ◌++◌, drop}
 use Rattle.span_rows.specs.LentRows.{lent_rows}
 use Rattle.span_rows.specs.RowPlaces.{rows_at}
-use Rattle.span_rows.proofs.ordered_rows.lend_places.Given as goal
+use Rattle.span_rows.proofs.row_list.lend_places.Given as goal
 
 -- the rows so far, and those at the places that are left
 abbrev pub invariant-loop-place : goal.invariant-loop-place

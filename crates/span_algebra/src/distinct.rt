@@ -1,0 +1,35 @@
+//! SELECT DISTINCT of columns of one table: its rows are lent, and the columns of those that are left are all that is copied.
+ghost use Rattle.std.specs.Prelude.{◌≡◌, IfOk, IfSome};
+ghost use Rattle.span_algebra.specs.BlockMeaning.{TakesDistinct};
+
+use super::ordered::only_table;
+use super::part_rows::PartRows;
+use span_query::query::{Block, BoundQuery};
+use span_rows::columns::columns_of;
+use span_rows::row_list::RowList;
+use std::alloc::{AllocError, Global};
+
+/// The table at all rows of which a block takes its select list, each row of this once, where it is such a block.
+pub fn distinct_table(block: &Block<BoundQuery>) -> Option<usize>
+    ensures { IfSome result (λ number. TakesDistinct block.now number) }
+{
+    match (&block.filter, &block.grouping) {
+        (None, None) if block.is_distinct => only_table(block),
+        _ => None,
+    }
+}
+
+/// Rows of the table of a SELECT DISTINCT, with the first of them by the columns of its select list where this is columns alone. The only
+/// error is out of memory.
+pub fn distinct_part(
+    alloc: Global,
+    block: &Block<BoundQuery>,
+    rows: RowList,
+) -> Result<PartRows, AllocError>
+    ensures { IfOk result (λ made. made ≡ rows) }
+{
+    match columns_of(alloc, block.outputs.as_slice())? {
+        Some(columns) => PartRows::with_firsts(alloc, columns.as_slice(), rows),
+        None => Ok(PartRows::new(rows)),
+    }
+}
