@@ -68,7 +68,7 @@ rows_of_table tables b n h =
     ap (λ (i : Item BoundQuery). from tables (map_item (meaning_over tables) i) (map (map_join (meaning_over tables)) b.joins)) h.from
     ∙ ap (λ (js : List (Join BoundQuery)). from tables (item.Table n) (map (map_join (meaning_over tables)) js)) h.joins
 
--- rows that these rows may stand for where they are sorted, as those of the FROM
+-- rows that are the same as those of the FROM once sorted, put in order
 pub sorts_columns : (q : BoundQuery-F BoundQuery) (order : ColumnOrder) (rows : List Row) (o : Rows) → SortsAs order.keys.items rows o
     → (o >>= (λ found. Some (columns_first q order found))) ≡ Some (columns_first q order rows)
 sorts_columns q order rows None h = absurd h

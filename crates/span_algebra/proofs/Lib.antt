@@ -7,6 +7,7 @@ pub mod InOrder
 pub mod Absorbed
 pub mod Shown
 pub mod Passes
+pub mod FirstRows
 pub mod Merging
 pub mod MergedGroups
 pub mod Measuring

@@ -32,12 +32,12 @@ abbrev pub IsGivenBy : Option TableSource → Rows → Type 0
 IsGivenBy None o = o ≡ Some []
 IsGivenBy (Some source) o = o ≡ source_result source
 
--- they are rows that these rows may stand for where all are sorted by the keys
+-- sorted by the keys, these rows and those are the same
 abbrev pub SortsAs : List SortKey → List Row → Rows → Type 0
 SortsAs keys rows None = ⊥
 SortsAs keys rows (Some all) = sorted keys rows ≡ sorted keys all
 
--- they are rows that these rows may stand for where each of the values at the columns is wanted once
+-- the values of these rows at the columns, each once, are those of those
 abbrev pub HasSameValues : List ℕ → List Row → Rows → Type 0
 HasSameValues columns rows None = ⊥
 HasSameValues columns rows (Some all) = distinct_at columns rows ≡ distinct_at columns all

@@ -1,6 +1,6 @@
 //! The rows of a list at which the values of some columns appear first. They are found where the rows are read, so that several threads can
 //! find those of their parts, and DISTINCT has less to do.
-ghost use Rattle.std.specs.Prelude.{◌≡◌, ◌×◌, ◌++◌, IfOk, IfSome, OnOk};
+ghost use Rattle.std.specs.Prelude.{◌≡◌, ◌++◌, IfOk, IfSome, OnOk};
 ghost use Rattle.span_rows.specs.Columns.{distinct_at};
 ghost use Rattle.span_rows.specs.LentRows.{lent_rows};
 ghost use Rattle.span_algebra.specs.FirstRows.{AreFirstsAt, AreFirstsOf};

@@ -14,8 +14,8 @@ use super::group::{Group, groups_where};
 use span_expr::cell::Failure;
 use span_expr::expr::Expr;
 use span_query::query::{Aggregate, Function, Grouping, SortKey};
-use span_rows::ordered_rows::OrderedRows;
 use span_rows::row_list::{RowList, lend_rows};
+use span_rows::rows_with_order::RowsWithOrder;
 use span_value::value::Value;
 use std::alloc::{AllocError, Global};
 use std::marker::Model;
@@ -92,7 +92,7 @@ struct Groups {
 /// Rows, and the groups that they fall into, their order, or the first of them by some columns, where these were made. Contracts see the rows.
 #[derive(Debug, Drop)]
 pub struct PartRows {
-    rows: OrderedRows,
+    rows: RowsWithOrder,
     groups: Option<Groups>,
     firsts: Option<FirstPlaces>,
 }
@@ -135,8 +135,8 @@ fn groups_of(
     }))
 }
 
-/// Whether there are so many groups of rows that those of several parts are sooner made of all rows than put together. Only how fast a query
-/// is answered rests on it.
+/// Whether there are more than half as many groups as rows: it then takes less time to make the groups of all rows than to put those of parts
+/// together. Only how fast a query is answered rests on it.
 fn are_many(groups: usize, rows: usize) -> bool {
     groups > rows / 2
 }
@@ -147,7 +147,7 @@ impl PartRows {
         ensures { result ≡ rows }
     {
         PartRows {
-            rows: OrderedRows::new(rows),
+            rows: RowsWithOrder::new(rows),
             groups: None,
             firsts: None,
         }
@@ -162,7 +162,7 @@ impl PartRows {
         ensures { IfOk result (λ ordered. ordered ≡ rows) }
     {
         Ok(PartRows {
-            rows: OrderedRows::with_order(alloc, keys, rows)?,
+            rows: RowsWithOrder::with_order(alloc, keys, rows)?,
             groups: None,
             firsts: None,
         })
@@ -179,7 +179,7 @@ impl PartRows {
     {
         let groups = groups_of(alloc, grouping, &rows)?;
         Ok(PartRows {
-            rows: OrderedRows::new(rows),
+            rows: RowsWithOrder::new(rows),
             groups,
             firsts: None,
         })
@@ -195,7 +195,7 @@ impl PartRows {
     {
         let firsts = FirstPlaces::find(alloc, columns, &rows)?;
         Ok(PartRows {
-            rows: OrderedRows::new(rows),
+            rows: RowsWithOrder::new(rows),
             groups: None,
             firsts: Some(firsts),
         })

@@ -6,7 +6,7 @@ use Rattle.span_query.specs.Rows.{Row}
 use Rattle.span_query.specs.Sorting.{sorted}
 use Rattle.span_rows.specs.declared.coded.CodedRow.{CodedRow}
 use Rattle.span_rows.specs.declared.placed.PlacedRow.{PlacedRow}
-use Rattle.span_rows.specs.declared.ordered_rows.RowOrder.{RowOrder}
+use Rattle.span_rows.specs.declared.rows_with_order.RowOrder.{RowOrder}
 use Rattle.span_rows.specs.Codes.{IsCodedAs}
 
 -- the rows of a list at some places

@@ -5,7 +5,7 @@ use Rattle.span_rows.specs.LentRows.{lent_rows}
 use Rattle.span_rows.specs.RowPlaces.{rows_at}
 use Rattle.span_rows.proofs.RowOrder.{rows_ranked}
 use Rattle.span_rows.proofs.Sorting.{sorted_again, sorted_both}
-use Rattle.span_rows.proofs.ordered_rows.lend_sorted.Goals as goal
+use Rattle.span_rows.proofs.rows_with_order.lend_sorted.Goals as goal
 
 pub returns : goal.returns
 returns c =

@@ -41,12 +41,12 @@ fn are_same_keys(left: &[SortKey], right: &[SortKey]) -> bool
 
 /// Rows, and their order by some keys where it was made. Contracts see the rows.
 #[derive(Debug, Drop)]
-pub struct OrderedRows {
+pub struct RowsWithOrder {
     rows: RowList,
     order: Option<RowOrder>,
 }
 
-impl Model for OrderedRows {
+impl Model for RowsWithOrder {
     ghost use Rattle.std.specs.Prelude.{IfSome, List};
     ghost use Rattle.span_query.specs.Rows.{Row};
     ghost use Rattle.span_rows.specs.RowPlaces.{IsOrderOf};
@@ -58,12 +58,12 @@ impl Model for OrderedRows {
     ghost invariant = { λ a. IfSome a.order (IsOrderOf a.rows) };
 }
 
-impl OrderedRows {
+impl RowsWithOrder {
     /// Rows without their order.
-    pub fn new(rows: RowList) -> OrderedRows
+    pub fn new(rows: RowList) -> RowsWithOrder
         ensures { result ≡ rows }
     {
-        OrderedRows { rows, order: None }
+        RowsWithOrder { rows, order: None }
     }
 
     /// Rows with their order by the keys. The only error is out of memory.
@@ -71,12 +71,12 @@ impl OrderedRows {
         alloc: Global,
         keys: &[SortKey],
         rows: RowList,
-    ) -> Result<OrderedRows, AllocError>
+    ) -> Result<RowsWithOrder, AllocError>
         ensures { IfOk result (λ ordered. ordered ≡ rows) }
     {
         let places = order_places(alloc, keys, &rows)?;
         let keys = keys.to_vec(alloc)?;
-        Ok(OrderedRows {
+        Ok(RowsWithOrder {
             rows,
             order: Some(RowOrder { keys, places }),
         })
