@@ -1,4 +1,4 @@
-/* Stands before the C library's read and write under a proved program, by LD_PRELOAD.
+/* Loaded before the C library's read and write under a proved program, by LD_PRELOAD.
  * FAIL_READ=N fails the Nth read and all later ones, FAIL_WRITE=N the Nth write to the standard output and all later ones. At the end it
  * writes how many there were, on standard error. */
 #define _GNU_SOURCE
@@ -16,7 +16,7 @@ __attribute__((constructor)) static void set_up(void)
     fail_write = getenv("FAIL_WRITE") ? atol(getenv("FAIL_WRITE")) : 0;
 }
 
-__attribute__((destructor)) static void tell(void)
+__attribute__((destructor)) static void report(void)
 {
     fprintf(stderr, "\nreads %ld writes %ld\n", reads, writes);
 }

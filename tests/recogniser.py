@@ -28,7 +28,7 @@ class Part:
 
 
 def grammar_of(page):
-    """Under the name of each rule: what it stands for."""
+    """Each rule's choice of rows, by the rule's name."""
     lines = " ".join(page.split("```")[1].split("\n"))
     rules = re.split(r"(\w+) += ", lines)
     return {name: choice(re.findall(r'"[^"]+"|\w+|[][{}()|]', body)) for name, body in zip(rules[1::2], rules[2::2])}

@@ -126,7 +126,7 @@ class Derivations:
         return found and (found[0], found[1] | opened)
 
     def structural(self, term, part):
-        """The same where term and part are made alike."""
+        """The same where term and part are of one form."""
         shape, operands = self.grammar.shape(part)
         special = self.special(term, shape, operands)
         if special or term[0] != shape:

@@ -29,13 +29,13 @@ int main(void) {
     static char *texts[MOST];
     static int lengths[MOST];
     int count = 0;
-    size_t room = 0;
+    size_t capacity = 0;
     ssize_t length;
-    while (count < MOST && (length = getline(&texts[count], &room, stdin)) > 0) {
+    while (count < MOST && (length = getline(&texts[count], &capacity, stdin)) > 0) {
         if (texts[count][length - 1] == '\n')
             texts[count][--length] = 0;
         lengths[count++] = (int)length;
-        room = 0;
+        capacity = 0;
     }
     sqlite3 *database;
     if (sqlite3_open(":memory:", &database) != SQLITE_OK || sqlite3_exec(database, SCHEMA, NULL, NULL, NULL) != SQLITE_OK)

@@ -78,8 +78,8 @@ int main(int count, char **words) {
     ask("VACUUM ANALYZE");
     ask("SET max_parallel_workers_per_gather = 0");
     char *line = 0;
-    size_t room = 0;
-    for (long length; (length = getline(&line, &room, stdin)) > 0;) {
+    size_t capacity = 0;
+    for (long length; (length = getline(&line, &capacity, stdin)) > 0;) {
         line[length - 1] = 0;
         char *text = strchr(line, '\t');
         *text++ = 0;

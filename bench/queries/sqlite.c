@@ -37,13 +37,13 @@ static void bind(sqlite3_stmt *statement, int at, const char *cell, int is_text)
 // Loads a file of rows into its table, whose column TEXT (from 1) has texts.
 static void load(const char *folder, const char *table, int columns, int text) {
     char path[4096], insert[200], *line = 0;
-    size_t room = 0;
+    size_t capacity = 0;
     snprintf(path, sizeof path, "%s/%s", folder, table);
     snprintf(insert, sizeof insert, "INSERT INTO %s VALUES (?%s)", table, columns == 4 ? ", ?, ?, ?" : ", ?, ?, ?, ?");
     FILE *file = fopen(path, "r");
     sqlite3_stmt *statement;
     if (!file || sqlite3_prepare_v2(db, insert, -1, &statement, 0)) stop(path);
-    for (long length; (length = getline(&line, &room, file)) > 0;) {
+    for (long length; (length = getline(&line, &capacity, file)) > 0;) {
         line[length - 1] = 0;
         char *cell = line;
         for (int at = 1; at <= columns; at++) {
@@ -97,8 +97,8 @@ int main(int count, char **words) {
     printf("load\t%.3f\t0\n", now() - start);
     execute("ANALYZE");
     char *line = 0;
-    size_t room = 0;
-    for (long length; (length = getline(&line, &room, stdin)) > 0;) {
+    size_t capacity = 0;
+    for (long length; (length = getline(&line, &capacity, stdin)) > 0;) {
         line[length - 1] = 0;
         char *text = strchr(line, '\t');
         if (!text) return 2;

@@ -2,7 +2,7 @@
 
 A text goes over token by token, so SQLite parses it by its own grammar and finds names by its own rules; only literals, parameters and the
 calls that SQLite spells otherwise are rewritten. Tables are made in the order of their primary keys by SQLite itself. Joins are
-written CROSS JOIN, which SQLite never turns round. Of refused texts it is told whether SQLite refuses them too.
+written CROSS JOIN, which SQLite never turns round. Of refused texts it reports whether SQLite refuses them too.
 """
 import collections
 import re
