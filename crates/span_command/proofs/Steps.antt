@@ -3,7 +3,7 @@ use Rattle.std.proofs.Common.{◌≡◌, ◌∙◌, ◌⊎◌, ℕ, ◌+◌, ◌
 use Rattle.std.specs.Io.KnownBytes.{Consumes, Keeps, IsAtEnd}
 use Rattle.span_command.specs.declared.line.Lines.{Lines}
 use Rattle.span_command.specs.Texts.{HasNoLf, NextLine}
-use Rattle.span_command.specs.Unread.{held, Advances, TakesNext, IsTooLong, IsGone, HasParts, Stands, IsKept, HoldsSame}
+use Rattle.span_command.specs.Unread.{held, Advances, TakesNext, IsTooLong, IsGone, HasParts, IsStillToCome, IsKept, HoldsSame}
 use Rattle.span_command.proofs.Ranges.{none_in_both, joined, same_front, cut_at_lf, stands_in, not_in}
 
 -- what a step does to the parts of the text it does for any bytes that are known to be still to come
@@ -12,7 +12,7 @@ each None P Q step s = s
 each (Some rest) P Q step s = step rest s
 
 -- what is held stays, and so does the text
-pub stays : (old new : Lines) → HoldsSame old new → (known : Option (List ℕ)) (text : List ℕ) → Stands old known text → Stands new known text
+pub stays : (old new : Lines) → HoldsSame old new → (known : Option (List ℕ)) (text : List ℕ) → IsStillToCome old known text → IsStillToCome new known text
 stays old new same None text s = s
 stays old new same (Some rest) text s = record {
   gone = s.gone;
@@ -154,7 +154,7 @@ takes_last is_cut front rest text none some s =
 -- what taking a line leads to, once its parts are known
 pub takes_next : (old new : Lines) (is_cut has_ended : Bool) (kept back : List ℕ) (known : Option (List ℕ)) (text : List ℕ) → new.taken_is_cut ≡ is_cut
     → slice_range new.buffer.items new.taken_from new.taken_to ≡ kept → held new ≡ back → new.is_cut ≡ false → new.has_ended ≡ has_ended
-    → ((rest : List ℕ) → Stands old (Some rest) text → TakesParts is_cut has_ended kept back rest text) → Stands old known text → TakesNext new known text
+    → ((rest : List ℕ) → IsStillToCome old (Some rest) text → TakesParts is_cut has_ended kept back rest text) → IsStillToCome old known text → TakesNext new known text
 takes_next old new is_cut has_ended kept back None text cut line left whole ended taken s = absurd s
 takes_next old new is_cut has_ended kept back (Some rest) text cut line left whole ended taken s =
     let p = taken rest s in

@@ -34,8 +34,8 @@ pub record HasParts (is_cut has_ended : Bool) (held rest text : List ℕ) : Type
 
 -- The text, the part of a script from the next line on, is what the lines hold and then the rest, the bytes that are
 -- known to be still to come. It is so of no text where these are not known.
-abbrev pub Stands : Lines → Option (List ℕ) → List ℕ → Type 0
-Stands lines known text = IsSomeAnd known (λ rest. HasParts lines.is_cut lines.has_ended (held lines) rest text)
+abbrev pub IsStillToCome : Lines → Option (List ℕ) → List ℕ → Type 0
+IsStillToCome lines known text = IsSomeAnd known (λ rest. HasParts lines.is_cut lines.has_ended (held lines) rest text)
 
 -- A read went on: the input has ended now, or fewer bytes are still to come than before. Nothing is said where these
 -- are not known.
@@ -63,7 +63,7 @@ pub record TakesNext (lines : Lines) (known : Option (List ℕ)) (text : List �
   pub following : List ℕ
   pub is_next : NextLine text line following
   pub is_taken : IsTaken lines line
-  pub stands : Stands lines known following
+  pub stands : IsStillToCome lines known following
 
 -- what is held, and what is known about it, stays
 pub record HoldsSame (old new : Lines) : Type 0 where

@@ -14,7 +14,6 @@ use Rattle.span_value.specs.declared.value.Kind.{Kind}
 use Rattle.span_value.specs.declared.value.Kind.TheVariants as kind
 use Rattle.span_value.specs.declared.truth.Outcome.{Outcome}
 use Rattle.span_value.specs.declared.truth.Outcome.TheVariants.{Val}
-use Rattle.span_value.specs.declared.truth.Truth.{Truth}
 use Rattle.span_value.specs.declared.truth.Truth.TheVariants.{False, True, Unknown}
 use Rattle.span_schema.specs.declared.table.Table.{Table}
 use Rattle.span_schema.specs.Fitting.{Fits}
@@ -323,33 +322,17 @@ known_and c d true b (inl first) second = subst (λ (x : Condition). IsKnown x b
 known_and c d true b (inr null) second = absurd (let bad : true ≡ false = null.1 in cc)
 
 both_again : (a b c : Condition) → both (both a b) c ≡ both a (both b c)
-both_again (condition.Known False) (condition.Known b) (condition.Known c) = by_values b c
-  where
-    by_values : (b c : Truth) → both (both (condition.Known False) (condition.Known b)) (condition.Known c) ≡ both (condition.Known False) (both (condition.Known b) (condition.Known c))
-    by_values False False = refl
-    by_values False True = refl
-    by_values False Unknown = refl
-    by_values True False = refl
-    by_values True True = refl
-    by_values True Unknown = refl
-    by_values Unknown False = refl
-    by_values Unknown True = refl
-    by_values Unknown Unknown = refl
-both_again (condition.Known Unknown) (condition.Known b) (condition.Known c) = by_values b c
-  where
-    by_values : (b c : Truth) → both (both (condition.Known Unknown) (condition.Known b)) (condition.Known c) ≡ both (condition.Known Unknown) (both (condition.Known b) (condition.Known c))
-    by_values False False = refl
-    by_values False True = refl
-    by_values False Unknown = refl
-    by_values True False = refl
-    by_values True True = refl
-    by_values True Unknown = refl
-    by_values Unknown False = refl
-    by_values Unknown True = refl
-    by_values Unknown Unknown = refl
 both_again (condition.Known True) b c = ap (λ (x : Condition). both x c) (true_first b) ∙ sym (true_first (both b c))
 both_again a (condition.Known True) c = ap (λ (x : Condition). both x c) (true_second a) ∙ ap (both a) (sym (true_first c))
 both_again a b (condition.Known True) = true_second (both a b) ∙ ap (both a) (sym (true_second b))
+both_again (condition.Known False) (condition.Known False) (condition.Known False) = refl
+both_again (condition.Known False) (condition.Known False) (condition.Known Unknown) = refl
+both_again (condition.Known False) (condition.Known Unknown) (condition.Known False) = refl
+both_again (condition.Known False) (condition.Known Unknown) (condition.Known Unknown) = refl
+both_again (condition.Known Unknown) (condition.Known False) (condition.Known False) = refl
+both_again (condition.Known Unknown) (condition.Known False) (condition.Known Unknown) = refl
+both_again (condition.Known Unknown) (condition.Known Unknown) (condition.Known False) = refl
+both_again (condition.Known Unknown) (condition.Known Unknown) (condition.Known Unknown) = refl
 both_again (condition.Known False) (condition.Known False) condition.Faulted = refl
 both_again (condition.Known False) (condition.Known Unknown) condition.Faulted = refl
 both_again (condition.Known False) condition.Faulted (condition.Known False) = refl

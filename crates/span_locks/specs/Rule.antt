@@ -21,7 +21,7 @@ name_of (Keeper b) = 0
 name_of (Holder i vs) = 2 * i + 1
 name_of (Client o seen mine) = 2 * o + 2
 
--- a role is what the known and the log say
+-- a role agrees with what the rule knows of the journal
 abbrev pub Fits : ℕ → Known → Role → Type 0
 Fits n known (Keeper b) = b ≡ known
 Fits n known (Holder i vs) = (i < length known.slots) × (vs ≡ kept known i)

@@ -1,4 +1,4 @@
-//! The table that all share: its rule, and what each step tells.
+//! The table that all share: its rule, and what each step ensures.
 ghost use Rattle.std.specs.Prelude.{◌≡◌};
 
 use atomic_table::{Join, Play, Seat, Split, Table, TableRule};
@@ -28,7 +28,7 @@ impl Naming for Brand {
     ghost schema = { no_schema };
 }
 
-/// The log and the books, as the rule knows them. No value of it is made.
+/// The log and what each slot is to have, as the rule knows them. No value of it is made.
 pub struct Account;
 
 impl Model for Account {

@@ -6,14 +6,14 @@ ghost use Rattle.span_machine.specs.Machine.{holds, root_at};
 ghost use Rattle.span_machine.specs.Pieces.{machine_of};
 ghost use Rattle.span_locks.specs.Replies.{IsNext};
 
-use span_journal::journal::Journal;
+use span_journal::journal::{Journal, MOST_SLOTS};
 use span_machine::slot::SlotState;
 use span_mutate::mutation::CheckedMutation;
 use span_mutate::root_key::is_in_range;
 use span_schema::schema::Schema;
 
 /// How many slots there may be.
-pub const SLOTS: usize = 16;
+pub const SLOTS: usize = MOST_SLOTS;
 
 /// The limit is the one that the machine's definition names.
 pub fn limit_is_stated()

@@ -33,10 +33,10 @@ pub(crate) fn grow<J: Naming>(
     ensures client { seat.new.me ≡ (Client owner ((known_at keeper.views).commits ++ commit ∷ []) (mine_of seat.old.me.0 ++ commit ∷ []) ∷ [], []) }
     ensures keeper { result.views ≡ (Keeper (grown (known_at keeper.views) commit) ∷ []) ∷ [] }
 {
-    let said = Change::Grown(commit);
+    let change = Change::Grown(commit);
     let shared = &board.table.shared;
     shared.join_seat::<Meet>(seat, keeper.into_seat());
-    shared.compare_exchange_with::<Publish>(seat, 0, count, count + 1, &said);
+    shared.compare_exchange_with::<Publish>(seat, 0, count, count + 1, &change);
     shared.split_seat::<Meet>(seat).into_badge()
 }
 
@@ -100,11 +100,11 @@ pub(crate) fn restate<J: Naming>(
     ensures shard { result.1 ≡ shard }
 {
     let shared = &board.table.shared;
-    let said = Change::Restated(shard);
+    let change = Change::Restated(shard);
     shared.join_seat::<Meet>(seat, keeper.into_seat());
-    shared.compare_exchange_with::<Restate>(seat, 0, 0, 0, &said);
+    shared.compare_exchange_with::<Restate>(seat, 0, 0, 0, &change);
     let keeper = shared.split_seat::<Meet>(seat).into_badge();
-    (keeper, shard_in(said, board.alloc))
+    (keeper, shard_in(change, board.alloc))
 }
 
 /// The seats of a slot that was cut and of the new slot, and the keeper's, take over what the shards are now, one after the other.

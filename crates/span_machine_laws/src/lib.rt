@@ -4,8 +4,9 @@
 //! the keys, also after a Split (Splits, Ranges), that what is at or below a slot's safe time is final (Sealed), that the commits of a
 //! directory rise along the log, in whichever slot has it (InPlace, Claims, Placed), that what a query is to see in the pieces that cover
 //! its leaves is final (Pieces, Sound, FamilyRows, RangeRows), that the plan of a query gives what the query means, also by pieces
-//! (PlanLaws, LeafTiled), that the log is just what the replies commit (Known), and so that every run of the machine is a history; that each transaction is decided once (Decisions), and so that a history is externally consistent under an
-//! honest clock (Consistent). The crates with code cite these laws.
+//! (PlanLaws, LeafTiled), that the log is just what the replies commit (Known), and so that every run of the machine is a history; that
+//! each transaction is decided once (Decisions), and so that a history is externally consistent under an honest clock (Consistent). The
+//! crates with code cite these laws.
 #![tactic(auto)]
 
 ghost use Rattle.std.specs.Prelude.{List};
@@ -31,8 +32,8 @@ pub trait Understanding {
 
 /// The theorem of the headline, for any language: whatever the machine may reply to steps from its start is a history. Its log
 /// holds just the commits that were answered, each applies at its place, and every answer has exactly the rows that its query means on
-/// the tables of all of them. The schema meets its rules, each statement that a query text is understood as can be planned, the transactions that are begun were checked against it, and the keys at which
-/// slots are cut are of values.
+/// the tables of all of them. The schema meets its rules, each statement that a query text is understood as can be planned, the
+/// transactions that are begun were checked against it, and the keys at which slots are cut are of values.
 pub fn runs_are_histories<U: Understanding>()
     ensures { (schema : List Table)
         → MeetsRules schema

@@ -1,8 +1,9 @@
 -- A block above its leaves gives what the block gives on whole tables, where each derived table does so.
-use Rattle.std.proofs.Common.{◌≡◌, ℕ, ◌+◌, ◌==◌, suc, zero, Bool, true, false, ◌&&◌, List, [], ◌∷◌, ◌++◌, map, take, drop, length, Option, Some, None, refl, ap, sym, ◌∙◌, subst, arith}
+use Rattle.std.proofs.Common.{◌≡◌, ℕ, ◌+◌, ◌==◌, suc, zero, Bool, true, false, List, [], ◌∷◌, ◌++◌, map, take, drop, length, Option, Some, None, refl, ap, sym, ◌∙◌, subst, arith}
 use Rattle.std.specs.Prelude.{filter as filter_list, if◌then◌else◌}
 use Rattle.std.specs.List.{AllByRecursion, fold}
 use Rattle.std.proofs.lemmas.Bool.Decides.{nat_tests}
+use Rattle.std.proofs.lemmas.Bool.{and_parts}
 use Rattle.span_schema.specs.declared.table.Table.{Table}
 use Rattle.span_expr.specs.declared.expr.Expr.{Expr}
 use Rattle.span_expr.specs.Meaning.{is_total}
@@ -25,10 +26,6 @@ use Rattle.span_planner.specs.Results.{as_join, join_tables, leaf_rows}
 use Rattle.span_planner.proofs.Joins.{Joined, run_join, run_joins, run_where, AreGiven, AreTotal, AllGiven, all_map}
 use Rattle.span_planner.proofs.Pushing.{is_kept, AreOfWidth, filter_where-all_true, left_out_below}
 use Rattle.span_planner.proofs.Narrowing.{own, are_on, all_total, refused_by, narrowing, Further, narrow_item, narrow, joined_of, IsWide, AreWide, wide_join, wide_filter, narrowed_below, some_of}
-
-both : (a b : Bool) → (a && b) ≡ true → (a ≡ true) × (b ≡ true)
-both true b is = (refl, is)
-both false b is = cc
 
 bind-same : {A B : Type 0} (o : OrFault A) (g h : A → OrFault B) → ((x : A) → g x ≡ h x) → (o >>= g) ≡ (o >>= h)
 bind-same (Some x) g h same = same x
@@ -210,7 +207,7 @@ module _ (schema : List Table) (tables : List ℕ) (w : ℕ → List Row) (f0 f 
 
   all_total_ons : (joins : List (Join Q)) → have_total_ons (map planned_join joins) ≡ true → AreTotal (joined_of (map further joins))
   all_total_ons [] is = tt {0}
-  all_total_ons (j ∷ joins) is = let parts = both (is_total j.on) (have_total_ons (map planned_join joins)) is in (parts.0, all_total_ons joins parts.1)
+  all_total_ons (j ∷ joins) is = let parts = and_parts (is_total j.on) (have_total_ons (map planned_join joins)) is in (parts.0, all_total_ons joins parts.1)
 
   abbrev width_of_items : List (Join Q) → ℕ
   width_of_items joins = widths (map planned_join joins)

@@ -9,6 +9,7 @@ use Rattle.std.specs.Ordering.{bool_cmp, ordering_reverse}
 use Rattle.std.specs.declared.cmp.Ordering.{Ordering}
 use Rattle.std.specs.declared.cmp.Ordering.TheVariants.{Less, Equal, Greater}
 use Rattle.std.proofs.lemmas.Bool.Decides.{nat_tests}
+use Rattle.std.proofs.lemmas.Bool.{and_from, and_parts}
 use Rattle.std.proofs.lemmas.Str.{IsUtf8-from_is_utf8}
 use Rattle.span_value.specs.declared.value.Kind.{Kind}
 use Rattle.span_value.specs.declared.value.Kind.TheVariants as kind
@@ -44,13 +45,9 @@ use Rattle.span_planner.specs.Ranges.{KeyBound, bound_of, exchanged, bound_at, b
 
 -- ---- values of a type
 
-both : (a b : Bool) → (a && b) ≡ true → (a ≡ true) × (b ≡ true)
-both true b is = (refl, is)
-both false b is = cc
-
 bytes_are : (bs : List ℕ) → are_bytes bs ≡ true → AreBytes bs
 bytes_are [] is = tt {0}
-bytes_are (b ∷ bs) is = let parts = both (nat_lt b 256) (are_bytes bs) is in ((let e : nat_lt b 256 ≡ true = parts.0 in grind (arith, nat_tests)), bytes_are bs parts.1)
+bytes_are (b ∷ bs) is = let parts = and_parts (nat_lt b 256) (are_bytes bs) is in ((let e : nat_lt b 256 ≡ true = parts.0 in grind (arith, nat_tests)), bytes_are bs parts.1)
 
 number_fits : (i : ℤ) → is_number i ≡ true → FitsSigned w64 i
 number_fits (pos n) is = record { sfits = grind (arith, nat_tests) }
@@ -60,7 +57,7 @@ number_fits (negsuc n) is = record { sfits = grind (arith, nat_tests) }
 pub fits_type : (k : Kind) (v : Value) → is_of_type k v ≡ true → Fits k v
 fits_type k value.Null is = tt {0}
 fits_type kind.Int (value.Int i) is = number_fits i is
-fits_type kind.Str (value.Str bs) is = let parts = both (is_utf8 bs) (are_bytes bs) is in (IsUtf8-from_is_utf8 bs parts.0, bytes_are bs parts.1)
+fits_type kind.Str (value.Str bs) is = let parts = and_parts (is_utf8 bs) (are_bytes bs) is in (IsUtf8-from_is_utf8 bs parts.0, bytes_are bs parts.1)
 fits_type kind.Bytes (value.Bytes bs) is = bytes_are bs is
 fits_type kind.Bool (value.Bool b) is = tt {0}
 fits_type kind.Int (value.Str bs) is = cc
@@ -344,16 +341,13 @@ module _ (test : ℕ → Bool) where
   abbrev LayerOnly : Expr-F Expr → Type 0
   LayerOnly y = (total_at (map-Expr Expr Bool is_total y) ≡ true) × (reads_at test (map-Expr Expr Bool (reads_only test) y) ≡ true)
 
-  and_both : (a b : Bool) → a ≡ true → b ≡ true → (a && b) ≡ true
-  and_both a b ea eb = ap (λ (c : Bool). c && b) ea ∙ eb
-
   two_only : (c : Comparison) (a b : Expr) → IsOnly a → IsOnly b → LayerOnly (Expr-F.Compare a c b)
-  two_only c a b ia ib = (and_both (is_total a) (is_total b) ia.0 ib.0, and_both (reads_only test a) (reads_only test b) ia.1 ib.1)
+  two_only c a b ia ib = (and_from (is_total a) (is_total b) ia.0 ib.0, and_from (reads_only test a) (reads_only test b) ia.1 ib.1)
 
   three_only : (a b c : Expr) → IsOnly a → IsOnly b → IsOnly c → LayerOnly (Expr-F.Between a b c)
   three_only a b c ia ib ic = (
-    and_both (is_total a && is_total b) (is_total c) (and_both (is_total a) (is_total b) ia.0 ib.0) ic.0,
-    and_both (reads_only test a && reads_only test b) (reads_only test c) (and_both (reads_only test a) (reads_only test b) ia.1 ib.1) ic.1,
+    and_from (is_total a && is_total b) (is_total c) (and_from (is_total a) (is_total b) ia.0 ib.0) ic.0,
+    and_from (reads_only test a && reads_only test b) (reads_only test c) (and_from (reads_only test a) (reads_only test b) ia.1 ib.1) ic.1,
   )
 
   compared_only : (c : Comparison) (a b : Expr) (xs ys : List KeyBound) → OnlyIf xs (IsOnly a × IsOnly b) → OnlyIf ys (IsOnly b × IsOnly a) → OnlyIf (xs ++ ys) (LayerOnly (Expr-F.Compare a c b))

@@ -1,6 +1,7 @@
 -- How much of a FROM belongs to its first leaf, item by item.
 use Rattle.std.proofs.Common.{◌≡◌, ◌∙◌, ℕ, ◌+◌, ◌-◌, ◌<◌, ◌≤◌, ◌==◌, zero, suc, Bool, true, false, ◌&&◌, List, [], ◌∷◌, map, take, drop, length, get_or, refl, ap, sym, arith, add-one}
 use Rattle.std.specs.List.{list_all}
+use Rattle.std.proofs.lemmas.Bool.{and_parts}
 use Rattle.span_schema.specs.declared.table.Table.{Table}
 use Rattle.span_expr.specs.declared.expr.Expr.{Expr}
 use Rattle.span_expr.specs.Conjuncts.{all_true}
@@ -16,14 +17,10 @@ use Rattle.span_planner.specs.Numbered.{is_numbered_join, are_numbered_joins}
 
 -- ---- lists
 
-and_true : (a b : Bool) → (a && b) ≡ true → (a ≡ true) × (b ≡ true)
-and_true true b is = (refl, is)
-and_true false b is = cc
-
 -- an item of a list, all of which pass, and the items after it
 all_after : {A : Type 0} (p : A → Bool) (xs : List A) (i : ℕ) (x : A) → i < length xs → x ≡ get_or xs i x → list_all p (drop i xs) ≡ true → (p x ≡ true) × (list_all p (drop (suc i) xs) ≡ true)
 all_after p [] i x below is all = absurd (omega arith)
-all_after p (y ∷ xs) zero x below is all = let parts = and_true (p y) (list_all p xs) all in (ap p is ∙ parts.0, parts.1)
+all_after p (y ∷ xs) zero x below is all = let parts = and_parts (p y) (list_all p xs) all in (ap p is ∙ parts.0, parts.1)
 all_after p (y ∷ xs) (suc i) x below is all = all_after p xs i x (omega arith) is all
 
 pub all_next : {A : Type 0} (p : A → Bool) (xs : List A) (i : ℕ) (x : A) → i < length xs → x ≡ get_or xs i x → list_all p (drop i xs) ≡ true → (p x ≡ true) × (list_all p (drop (i + 1) xs) ≡ true)
@@ -32,12 +29,12 @@ all_next p xs i x below is all = rw (add-one i) (all_after p xs i x below is all
 all_taken : {A : Type 0} (p : A → Bool) (n : ℕ) (xs : List A) → list_all p xs ≡ true → list_all p (take n xs) ≡ true
 all_taken p zero xs all = refl
 all_taken p (suc n) [] all = refl
-all_taken p (suc n) (x ∷ xs) all = let parts = and_true (p x) (list_all p xs) all in ap (λ (b : Bool). b && list_all p (take n xs)) parts.0 ∙ all_taken p n xs parts.1
+all_taken p (suc n) (x ∷ xs) all = let parts = and_parts (p x) (list_all p xs) all in ap (λ (b : Bool). b && list_all p (take n xs)) parts.0 ∙ all_taken p n xs parts.1
 
 pub all_dropped : {A : Type 0} (p : A → Bool) (n : ℕ) (xs : List A) → list_all p xs ≡ true → list_all p (drop n xs) ≡ true
 all_dropped p zero xs all = all
 all_dropped p (suc n) [] all = refl
-all_dropped p (suc n) (x ∷ xs) all = all_dropped p n xs (and_true (p x) (list_all p xs) all).1
+all_dropped p (suc n) (x ∷ xs) all = all_dropped p n xs (and_parts (p x) (list_all p xs) all).1
 
 pub all_sizes_dropped : {A B : Type 0} (size : B → ℕ) (f : A → B) (n : ℕ) (xs : List A) → all_sizes size (map f (drop n xs)) ≤ all_sizes size (map f xs)
 all_sizes_dropped size f zero xs = omega arith

@@ -1,7 +1,8 @@
 -- Every leaf of a plan is known, where the sizes in the query are right.
-use Rattle.std.proofs.Common.{◌≡◌, ◌∙◌, ℕ, ◌<◌, Bool, true, false, ◌&&◌, List, [], ◌∷◌, map, length, refl, ap, sym, subst}
+use Rattle.std.proofs.Common.{◌≡◌, ◌∙◌, ℕ, ◌<◌, true, List, [], ◌∷◌, map, length, ap, sym, subst}
 use Rattle.std.specs.Prelude.{◌==◌}
 use Rattle.std.specs.List.{AllByRecursion, list_all}
+use Rattle.std.proofs.lemmas.Bool.{and_parts}
 use Rattle.span_schema.specs.declared.table.Table.{Table}
 use Rattle.span_schema.specs.Numbers.{key_places}
 use Rattle.span_query.specs.declared.query.BoundQuery.{BoundQuery}
@@ -40,10 +41,6 @@ module _ (schema : List Table) (tables : List ℕ) (keyed : (t : ℕ) → AllByR
   knows_blocks [] = tt {0}
   knows_blocks (b ∷ bs) = (record { first = knows_item b.from; rest = knows_joins b.joins }, knows_blocks bs)
 
-  both : (a c : Bool) → (a && c) ≡ true → (a ≡ true) × (c ≡ true)
-  both true c is = (refl, is)
-  both false c is = cc
-
   layer_known : (y : BoundQuery-F Told) → AreLeavesKnown (roll-BoundQuery (map-BoundQuery Told BoundQuery told_query y))
   layer_known y sized =
       let d : BoundQuery-F BoundQuery = map-BoundQuery Told BoundQuery told_query y in
@@ -51,7 +48,7 @@ module _ (schema : List Table) (tables : List ℕ) (keyed : (t : ℕ) → AllByR
       fold-roll-BoundQuery Planned (planned_query schema tables) d ∙ ap (planned_query schema tables) (layer_twice told_query (planned schema tables) y) in
       let shape_is : shape schema tables (roll-BoundQuery d) ≡ query_shape schema tables (map_layer (λ t. shape schema tables (told_query t)) y) =
       fold-roll-BoundQuery Shape (query_shape schema tables) d ∙ ap (query_shape schema tables) (layer_twice told_query (shape schema tables) y) in
-      let parts = both (list_all (is_sized_block schema tables) (map (map_block (λ t. shape schema tables (told_query t))) (y.first ∷ y.others)))
+      let parts = and_parts (list_all (is_sized_block schema tables) (map (map_block (λ t. shape schema tables (told_query t))) (y.first ∷ y.others)))
       (list_all (λ (b : Block Shape). length b.outputs == length y.first.outputs) (map (map_block (λ t. shape schema tables (told_query t))) y.others)) (ap (λ (s : Shape). s.is_sized) (sym shape_is) ∙ sized) in
       subst (λ (p : Planned). AllByRecursion (IsPlanned schema) p.leaves) (sym planned_is) (blocks_planned schema tables keyed told_query (y.first ∷ y.others) (knows_blocks (y.first ∷ y.others)) parts.0)
 

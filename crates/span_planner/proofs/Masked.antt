@@ -1,6 +1,7 @@
 -- A mask changes no value of an expression that reads within it; how wide joined and filtered rows are.
 use Rattle.std.proofs.Common.{◌≡◌, ℕ, ◌+◌, suc, zero, Bool, true, false, List, [], ◌∷◌, ◌++◌, map, length, replicate, Option, Some, None, refl, ap, ◌∙◌, length-append, arith}
 use Rattle.std.specs.List.{AllByRecursion}
+use Rattle.std.proofs.lemmas.List.{length-replicate}
 use Rattle.span_value.specs.declared.value.Value.TheVariants.{Null}
 use Rattle.span_expr.specs.declared.expr.Expr.{Expr}
 use Rattle.span_expr.specs.Operators.{column_of}
@@ -63,10 +64,6 @@ wide_filter_rows n e rows wide =
 pub wide_filter_where : (n : ℕ) (w : Option Expr) (rows : List Row) → AreOfWidth n rows → IsWide n (filter_where w rows)
 wide_filter_where n None rows wide = wide
 wide_filter_where n (Some e) rows wide = wide_filter_rows n e rows wide
-
-length-replicate : {A : Type 0} (n : ℕ) (x : A) → length (replicate n x) ≡ n
-length-replicate zero x = refl
-length-replicate (suc n) x = ap suc (length-replicate n x)
 
 wide_pairs : (at width : ℕ) (l : Row) → length l ≡ at → (right : List Row) → AreOfWidth width right → AreOfWidth (at + width) (map (λ (r : Row). l ++ r) right)
 wide_pairs at width l is [] wide = tt {0}

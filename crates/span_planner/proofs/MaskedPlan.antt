@@ -1,5 +1,5 @@
 -- The law of a plan whose leaves give rows of the columns that are read.
-use Rattle.std.proofs.Common.{◌≡◌, ◌∙◌, ℕ, zero, suc, ◌+◌, Bool, true, false, ◌&&◌, List, [], ◌∷◌, ◌++◌, map, take, drop, length, Option, Some, None, refl, ap, sym, subst, add-one, arith}
+use Rattle.std.proofs.Common.{◌≡◌, ◌∙◌, ℕ, zero, suc, ◌+◌, Bool, true, List, [], ◌∷◌, ◌++◌, map, take, drop, length, Option, Some, None, refl, ap, sym, subst, add-one, arith}
 use Rattle.std.specs.Prelude.{slice_get, ◌<◌}
 use Rattle.std.specs.List.{AllByRecursion}
 use Rattle.std.specs.Option.{unwrap_or}
@@ -26,10 +26,6 @@ use Rattle.span_planner.proofs.Planned.{AreRooted, IsPlanned}
 use Rattle.span_planner.proofs.Pushing.{AreOfWidth}
 use Rattle.span_planner.proofs.Queries.{query_above}
 use Rattle.span_planner.proofs.ReadAbove.{MasksAt, top_within}
-
-both : (a b : Bool) → (a && b) ≡ true → (a ≡ true) × (b ≡ true)
-both true b is = (refl, is)
-both false b is = cc
 
 -- ---- leaves, by numbers
 

@@ -1,9 +1,10 @@
 -- The tables of a query have numbers of the statement's tables where those of its parts have.
-use Rattle.std.proofs.Common.{◌≡◌, ◌∙◌, ℕ, zero, suc, ◌<◌, Bool, true, false, ◌&&◌, List, [], ◌∷◌, map, length, refl, ap, sym, arith}
+use Rattle.std.proofs.Common.{◌≡◌, ◌∙◌, ℕ, zero, suc, ◌<◌, Bool, true, ◌&&◌, List, [], ◌∷◌, map, length, refl, ap, sym, arith}
 use Rattle.std.specs.Prelude.{nat_le, slice_get}
 use Rattle.std.specs.Option.{unwrap_or}
 use Rattle.std.specs.List.{list_all, AllByRecursion}
 use Rattle.std.proofs.lemmas.Bool.Decides.{nat_tests}
+use Rattle.std.proofs.lemmas.Bool.{and_parts}
 use Rattle.span_schema.specs.declared.table.Table.{Table}
 use Rattle.span_schema.specs.Numbers.{IsTable}
 use Rattle.span_query.specs.declared.query.BoundQuery.{BoundQuery}
@@ -16,10 +17,6 @@ use Rattle.span_query.proofs.Layers.{layer_mapped}
 use Rattle.span_planner.specs.Numbered.{is_number, numbered_join, numbered_block, numbered_query, is_numbered, is_numbered_item, is_numbered_block, are_numbered_blocks}
 use Rattle.span_planner.specs.Leaves.{table_of}
 use Rattle.span_planner.proofs.Loops.{list_all-map}
-
-both : (a b : Bool) → (a && b) ≡ true → (a ≡ true) × (b ≡ true)
-both true b is = (refl, is)
-both false b is = cc
 
 module _ (tables : List ℕ) where
   abbrev test : BoundQuery → Bool
@@ -43,12 +40,12 @@ module _ (tables : List ℕ) where
       ∙ ap (λ (t : Bool). is_numbered_block tables d.first && t) (blocks_are d.others)
 
   pub numbered_blocks : (q : BoundQuery) → is_numbered tables q ≡ true → (is_numbered_block tables (out-BoundQuery q).first ≡ true) × (are_numbered_blocks tables (out-BoundQuery q).others ≡ true)
-  numbered_blocks q is = both (is_numbered_block tables (out-BoundQuery q).first) (are_numbered_blocks tables (out-BoundQuery q).others) (sym (query_is q) ∙ is)
+  numbered_blocks q is = and_parts (is_numbered_block tables (out-BoundQuery q).first) (are_numbered_blocks tables (out-BoundQuery q).others) (sym (query_is q) ∙ is)
 
 -- the table with a number of the statement's tables is one of the schema
 pub table_is : (schema : List Table) (tables : List ℕ) (n : ℕ) → AllByRecursion (IsTable schema) tables → is_number tables n ≡ true → IsTable schema (table_of tables n)
 table_is schema tables zero all is = cc
-table_is schema tables (suc n) all is = at tables n all (let below : nat_le (suc n) (length tables) ≡ true = (both (nat_le 1 (suc n)) (nat_le (suc n) (length tables)) is).1 in grind (arith, nat_tests)) where
+table_is schema tables (suc n) all is = at tables n all (let below : nat_le (suc n) (length tables) ≡ true = (and_parts (nat_le 1 (suc n)) (nat_le (suc n) (length tables)) is).1 in grind (arith, nat_tests)) where
   at : (ts : List ℕ) (k : ℕ) → AllByRecursion (IsTable schema) ts → k < length ts → IsTable schema (unwrap_or (slice_get ts k) 0)
   at [] k all below = absurd (omega arith)
   at (t ∷ ts) zero all below = all.0

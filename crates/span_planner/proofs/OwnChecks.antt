@@ -1,20 +1,13 @@
 -- A leaf reads within its mask where it reads none of the columns that the mask leaves out.
-use Rattle.std.proofs.Common.{◌≡◌, ◌∙◌, ℕ, zero, suc, ◌+◌, ◌<◌, ◌==◌, Bool, true, false, not, ◌&&◌, List, [], ◌∷◌, length, get_or, Option, Some, None, refl, ap, sym, arith}
+use Rattle.std.proofs.Common.{◌≡◌, ◌∙◌, ℕ, zero, suc, ◌+◌, ◌<◌, ◌==◌, Bool, true, false, not, List, [], ◌∷◌, length, get_or, Option, Some, None, refl, ap, sym, arith}
 use Rattle.std.specs.List.{list_all}
 use Rattle.std.proofs.lemmas.Bool.Decides.{nat_tests}
+use Rattle.std.proofs.lemmas.Bool.{and_from, and_parts}
 use Rattle.span_expr.specs.declared.expr.Expr.{Expr}
 use Rattle.span_expr.proofs.Places.{reads_only-wider}
 use Rattle.span_planner.specs.declared.leaf.LeafJoin.{LeafJoin}
 use Rattle.span_planner.specs.Reads.{has_place, is_not, condition_reads, leaf_on_reads, leaf_reads}
 use Rattle.span_planner.proofs.Reading.{ByPlace, expr_by, by_both, by_list, condition_by, everywhere}
-
-both : (a b : Bool) → (a && b) ≡ true → (a ≡ true) × (b ≡ true)
-both true b is = (refl, is)
-both false b is = cc
-
-together : (a b : Bool) → a ≡ true → b ≡ true → (a && b) ≡ true
-together true b p q = q
-together false b p q = cc
 
 leaf_by : (joins : List LeafJoin) (filter : Option Expr) → ByPlace (λ t. leaf_reads t joins filter)
 leaf_by joins filter =
@@ -23,13 +16,13 @@ leaf_by joins filter =
 
 leaf_wider : (test wider : ℕ → Bool) → ((k : ℕ) → test k ≡ true → wider k ≡ true) → (joins : List LeafJoin) (filter : Option Expr) → leaf_reads test joins filter ≡ true → leaf_reads wider joins filter ≡ true
 leaf_wider test wider follows joins filter is =
-    let parts = both (list_all (leaf_on_reads test) joins) (condition_reads test filter) is in
-    together (list_all (leaf_on_reads wider) joins) (condition_reads wider filter) (ons joins parts.0) (condition filter parts.1) where
+    let parts = and_parts (list_all (leaf_on_reads test) joins) (condition_reads test filter) is in
+    and_from (list_all (leaf_on_reads wider) joins) (condition_reads wider filter) (ons joins parts.0) (condition filter parts.1) where
       ons : (js : List LeafJoin) → list_all (leaf_on_reads test) js ≡ true → list_all (leaf_on_reads wider) js ≡ true
       ons [] is = refl
       ons (j ∷ js) is =
-          let parts = both (leaf_on_reads test j) (list_all (leaf_on_reads test) js) is in
-          together (leaf_on_reads wider j) (list_all (leaf_on_reads wider) js) (reads_only-wider test wider j.on follows parts.0) (ons js parts.1)
+          let parts = and_parts (leaf_on_reads test j) (list_all (leaf_on_reads test) js) is in
+          and_from (leaf_on_reads wider j) (list_all (leaf_on_reads wider) js) (reads_only-wider test wider j.on follows parts.0) (ons js parts.1)
 
       condition : (w : Option Expr) → condition_reads test w ≡ true → condition_reads wider w ≡ true
       condition None is = refl

@@ -3,6 +3,7 @@ use Rattle.std.proofs.Common.{◌≡◌, ◌∙◌, ℕ, zero, suc, ◌+◌, ◌
 use Rattle.std.specs.Prelude.{flat_map, if◌then◌else◌}
 use Rattle.std.specs.List.{AllByRecursion, list_all}
 use Rattle.std.proofs.lemmas.Bool.Decides.{nat_tests}
+use Rattle.std.proofs.lemmas.Bool.{and_from, and_parts}
 use Rattle.span_schema.specs.declared.table.Table.{Table}
 use Rattle.span_expr.specs.declared.expr.Expr.{Expr}
 use Rattle.span_expr.specs.Conjuncts.{all_true}
@@ -25,14 +26,6 @@ use Rattle.span_planner.specs.Leaves.{Planned, table_of, width_of, widths, leaf_
 use Rattle.span_planner.specs.Reads.{has_place, is_not, condition_reads, on_reads, selection_reads, leaf_on_reads, reads_own}
 use Rattle.span_planner.proofs.Queries.{layer_twice}
 use Rattle.span_planner.proofs.Reading.{expr_by, covered}
-
-both : (a b : Bool) → (a && b) ≡ true → (a ≡ true) × (b ≡ true)
-both true b is = (refl, is)
-both false b is = cc
-
-together : (a b : Bool) → a ≡ true → b ≡ true → (a && b) ≡ true
-together true b p q = q
-together false b p q = cc
 
 -- ---- lists
 
@@ -97,15 +90,15 @@ own_reads : (at width : ℕ) (rs : List Bool) (es : List Expr) → list_all (rea
     → list_all (reads_only (has_place (take width (drop at rs)))) (map (moved (λ place. place - at)) (conjuncts_on at (at + width) es)) ≡ true
 own_reads at width rs [] is = refl
 own_reads at width rs (e ∷ es) is =
-    let parts = both (reads_only (has_place rs) e) (list_all (reads_only (has_place rs)) es) is in of_test (is_total e && reads_only (is_in at (at + width)) e) refl parts.0 (own_reads at width rs es parts.1) where
+    let parts = and_parts (reads_only (has_place rs) e) (list_all (reads_only (has_place rs)) es) is in of_test (is_total e && reads_only (is_in at (at + width)) e) refl parts.0 (own_reads at width rs es parts.1) where
       of_test : (b : Bool) → (is_total e && reads_only (is_in at (at + width)) e) ≡ b → reads_only (has_place rs) e ≡ true
           → list_all (reads_only (has_place (take width (drop at rs)))) (map (moved (λ place. place - at)) (conjuncts_on at (at + width) es)) ≡ true
           → list_all (reads_only (has_place (take width (drop at rs)))) (map (moved (λ place. place - at)) (cond b (e ∷ conjuncts_on at (at + width) es) (conjuncts_on at (at + width) es))) ≡ true
       of_test false test reads rest = rest
       of_test true test reads rest =
-          let inside = (both (is_total e) (reads_only (is_in at (at + width)) e) test).1 in
+          let inside = (and_parts (is_total e) (reads_only (is_in at (at + width)) e) test).1 in
           let ms : List Bool = take width (drop at rs) in
-          together (reads_only (has_place ms) (moved (λ place. place - at) e)) (list_all (reads_only (has_place ms)) (map (moved (λ place. place - at)) (conjuncts_on at (at + width) es)))
+          and_from (reads_only (has_place ms) (moved (λ place. place - at) e)) (list_all (reads_only (has_place ms)) (map (moved (λ place. place - at)) (conjuncts_on at (at + width) es)))
           (reads_only-moved (λ place. place - at) (has_place ms) e
           ∙ expr_by e (λ k. has_place ms (k - at)) (λ k out. has_place-part at width rs k (reads_place (has_place rs) e k reads out) (reads_place (is_in at (at + width)) e k inside out))) rest
 
@@ -113,11 +106,11 @@ own_reads at width rs (e ∷ es) is =
 first_reads : (width : ℕ) (rs : List Bool) (es : List Expr) → list_all (reads_only (has_place rs)) es ≡ true → list_all (reads_only (has_place (take width rs))) (conjuncts_on 0 width es) ≡ true
 first_reads width rs [] is = refl
 first_reads width rs (e ∷ es) is =
-    let parts = both (reads_only (has_place rs) e) (list_all (reads_only (has_place rs)) es) is in
+    let parts = and_parts (reads_only (has_place rs) e) (list_all (reads_only (has_place rs)) es) is in
     of_test (is_total e && reads_only (is_in 0 width) e) (reads_only-wider (has_place rs) (has_place (take width rs)) e (has_place-take width rs) parts.0) (first_reads width rs es parts.1) where
       of_test : (b : Bool) → reads_only (has_place (take width rs)) e ≡ true → list_all (reads_only (has_place (take width rs))) (conjuncts_on 0 width es) ≡ true
           → list_all (reads_only (has_place (take width rs))) (cond b (e ∷ conjuncts_on 0 width es) (conjuncts_on 0 width es)) ≡ true
-      of_test true here rest = together (reads_only (has_place (take width rs)) e) (list_all (reads_only (has_place (take width rs))) (conjuncts_on 0 width es)) here rest
+      of_test true here rest = and_from (reads_only (has_place (take width rs)) e) (list_all (reads_only (has_place (take width rs))) (conjuncts_on 0 width es)) here rest
       of_test false here rest = rest
 
 -- ---- leaves
@@ -130,8 +123,8 @@ module _ (schema : List Table) (tables : List ℕ) where
   joins_own zero width rs js is = refl
   joins_own (suc n) width rs [] is = refl
   joins_own (suc n) width rs (j ∷ js) is =
-      let parts = both (reads_only (has_place rs) j.on) (list_all (on_reads (has_place rs)) js) is in
-      together (reads_only (has_place (take width rs)) j.on) (list_all (leaf_on_reads (has_place (take width rs))) (map leaf_join (take n js)))
+      let parts = and_parts (reads_only (has_place rs) j.on) (list_all (on_reads (has_place rs)) js) is in
+      and_from (reads_only (has_place (take width rs)) j.on) (list_all (leaf_on_reads (has_place (take width rs))) (map leaf_join (take n js)))
       (reads_only-wider (has_place rs) (has_place (take width rs)) j.on (has_place-take width rs) parts.0) (joins_own n width rs js parts.1)
 
   filter_own : (b : Block Planned) (len width : ℕ) (rs : List Bool) → condition_reads (has_place rs) b.filter ≡ true → (whole : Bool)
@@ -175,8 +168,8 @@ module _ (schema : List Table) (tables : List ℕ) where
   block_parts : (b : Block Planned) (width : ℕ) → (list_all (on_reads (has_place (reads_of width b))) b.joins ≡ true) × (condition_reads (has_place (reads_of width b)) b.filter ≡ true)
   block_parts b width =
       let test : ℕ → Bool = has_place (reads_of width b) in
-      let outer = both (list_all (on_reads test) b.joins && condition_reads test b.filter) (selection_reads test b.grouping b.outputs) (covered width b (reads_of width b) (λ k has. has)) in
-      both (list_all (on_reads test) b.joins) (condition_reads test b.filter) outer.0
+      let outer = and_parts (list_all (on_reads test) b.joins && condition_reads test b.filter) (selection_reads test b.grouping b.outputs) (covered width b (reads_of width b) (λ k has. has)) in
+      and_parts (list_all (on_reads test) b.joins) (condition_reads test b.filter) outer.0
 
   from_own : (b : Block Planned) (i : Item Planned) → IsOwnItem i → AllByRecursion IsOwnJoin b.joins → AllByRecursion ReadsOwn (leaves_from schema tables b i)
   from_own b (item.Table n) is are =
@@ -185,7 +178,7 @@ module _ (schema : List Table) (tables : List ℕ) where
       let all : ℕ = width + widths (take len b.joins) in
       let rs : List Bool = reads_of width b in
       let parts = block_parts b width in (
-        together (list_all (leaf_on_reads (has_place (take all rs))) (map leaf_join (take len b.joins))) (condition_reads (has_place (take all rs)) (first_filter b len all (pushable b)))
+        and_from (list_all (leaf_on_reads (has_place (take all rs))) (map leaf_join (take len b.joins))) (condition_reads (has_place (take all rs)) (first_filter b len all (pushable b)))
             (joins_own len all rs b.joins parts.0) (filter_own b len all rs parts.1 (len == length b.joins)),
         rest_own rs (pushable b) all (drop len b.joins) (pushable_reads (has_place rs) b parts.1) (all_drop IsOwnJoin len b.joins are),
       )

@@ -1,10 +1,11 @@
 -- A query over tables whose rows have the columns alone that masks have means what the query means on the tables, where it reads within the masks.
-use Rattle.std.proofs.Common.{◌≡◌, ◌∙◌, ℕ, ◌+◌, ◌==◌, suc, zero, Bool, true, ◌&&◌, List, [], ◌∷◌, ◌++◌, map, length, replicate, Option, Some, None, refl, ap, sym, subst, append_assoc, length-append, arith}
+use Rattle.std.proofs.Common.{◌≡◌, ◌∙◌, ℕ, ◌+◌, ◌==◌, Bool, true, ◌&&◌, List, [], ◌∷◌, ◌++◌, map, length, replicate, Option, Some, None, refl, ap, sym, subst, append_assoc, length-append, arith}
 use Rattle.std.specs.Prelude.{flat_map}
 use Rattle.std.specs.List.{AllByRecursion, list_all, fold}
 use Rattle.std.specs.Option.{option_map}
 use Rattle.std.proofs.lemmas.Bool.{and_parts}
 use Rattle.std.proofs.lemmas.Bool.Decides.{nat_tests}
+use Rattle.std.proofs.lemmas.List.{length-replicate}
 use Rattle.span_expr.specs.declared.expr.Expr.{Expr}
 use Rattle.span_expr.specs.Places.{moved, rank}
 use Rattle.span_query.specs.declared.query.BoundQuery.{BoundQuery}
@@ -32,10 +33,6 @@ use Rattle.span_planner.specs.Picks.{picked, picked_width, pick_rows}
 use Rattle.span_planner.specs.Narrow.{moved_grouping, moved_outputs, NarrowQuery, item_columns, join_columns, from_columns, narrow_join, narrow_with, narrow_block, narrow_layer, narrow, narrowed}
 use Rattle.span_planner.proofs.Picked.{Agrees, agrees, IsNarrowJoin, picked-all, filter_where-picked, join_rows-picked}
 use Rattle.span_planner.proofs.PickedGroups.{selection-picked}
-
-length-replicate : {A : Type 0} (n : ℕ) (x : A) → length (replicate n x) ≡ n
-length-replicate zero x = refl
-length-replicate (suc n) x = ap suc (length-replicate n x)
 
 -- all columns are read
 unpicked : (n : ℕ) (o : Rows) → IsWide n o → pick_rows (replicate n true) o ≡ o

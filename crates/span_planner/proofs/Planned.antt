@@ -3,7 +3,9 @@ use Rattle.std.proofs.Common.{◌≡◌, ◌∙◌, ℕ, ◌+◌, ◌<◌, ◌�
 use Rattle.std.specs.Prelude.{filter, flat_map, replicate, if◌then◌else◌}
 use Rattle.std.specs.List.{AllByRecursion, list_all}
 use Rattle.std.proofs.lemmas.Bool.Decides.{nat_tests}
+use Rattle.std.proofs.lemmas.Bool.{and_parts}
 use Rattle.std.proofs.lemmas.List.FromFn.{length-map-range_with_len}
+use Rattle.std.proofs.lemmas.List.{length-replicate}
 use Rattle.span_value.specs.declared.value.Value.TheVariants.{Null}
 use Rattle.span_schema.specs.declared.table.Table.{Table}
 use Rattle.span_schema.specs.declared.layout.KeyPart.{KeyPart}
@@ -134,7 +136,7 @@ module _ (schema : List Table) (tables : List ℕ) where
       → IsLost (all_true (own at (conjuncts_on at (at + width) es))) x
   table_lost k at width place es short x within fits out rest =
       let front : Row = replicate at Null in
-      let front_len : length front ≡ at = length-replicate at in
+      let front_len : length front ≡ at = length-replicate at Null in
       let row : Row = front ++ (x ++ rest) in
       let at_place : column_of row (at + place) ≡ column_of x place =
       (let e : at + place ≡ length front + place = omega arith in ap (column_of row) e ∙ column_of-after front (x ++ rest) place ∙ column_of-append x rest place within) in
@@ -142,10 +144,6 @@ module _ (schema : List Table) (tables : List ℕ) where
       let left : is_left_out (conjuncts_on at (at + width) es) row ≡ true =
       left_out_of_bounds k.kind row (at + place) at (at + width) (subst (Fits k.kind) (sym at_place) fits) passes es (ap (is_in_bounds (bounds_by k.kind (at + place) es)) at_place ∙ out) in
       refused_all_true (own at (conjuncts_on at (at + width) es)) (x ++ rest) (left_out-own at width (conjuncts_on at (at + width) es) (are_on at (at + width) es) front (x ++ rest) front_len ∙ left) where
-        length-replicate : (n : ℕ) → length (replicate n Null) ≡ n
-        length-replicate zero = refl
-        length-replicate (suc n) = ap suc (length-replicate n)
-
         inside : (at width place : ℕ) → place < width → is_in at (at + width) (at + place) ≡ true
         inside at width place h = grind (arith, nat_tests)
 
@@ -211,14 +209,10 @@ module _ (schema : List Table) (tables : List ℕ) where
       all_take P (suc n) [] all = tt {0}
       all_take P (suc n) (x ∷ xs) all = (all.0, all_take P n xs all.1)
 
-      both : (a c : Bool) → (a && c) ≡ true → (a ≡ true) × (c ≡ true)
-      both true c is = (refl, is)
-      both false c is = cc
-
       total_joins : (js : List (Join Planned)) → have_total_ons js ≡ true → (n : ℕ) → AreTotalJoins (map leaf_join (take n js))
       total_joins js total zero = tt {0}
       total_joins [] total (suc n) = tt {0}
-      total_joins (j ∷ js) total (suc n) = let parts = both (is_total j.on) (have_total_ons js) total in (parts.0, total_joins js parts.1 n)
+      total_joins (j ∷ js) total (suc n) = let parts = and_parts (is_total j.on) (have_total_ons js) total in (parts.0, total_joins js parts.1 n)
 
       abbrev first_range : List Expr → KeyRange
       first_range es = leaf_range schema t 0 es
@@ -272,10 +266,6 @@ module _ (schema : List Table) (tables : List ℕ) where
       abbrev pub KnowsLeaves : T → Type 0
       KnowsLeaves t = is_sized schema tables (query t) ≡ true → AllByRecursion (IsPlanned schema) (plan_t t).leaves
 
-      both_true : (a c : Bool) → (a && c) ≡ true → (a ≡ true) × (c ≡ true)
-      both_true true c is = (refl, is)
-      both_true false c is = cc
-
       abbrev planned_joins : List (Join T) → List (Join Planned)
       planned_joins js = map (map_join plan_t) js
 
@@ -290,7 +280,7 @@ module _ (schema : List Table) (tables : List ℕ) where
           → (b : Bool) → is_joined_table schema first at on (table_of tables n) ≡ b → RootedSo first at (if b then suc k else 0) (record { is_left = is_left; item = item.Table n; width = width; on = on } ∷ js)
       one_rooted first at is_left n width on js k same rest false is = tt {0}
       one_rooted first at is_left n width on js k same rest true is =
-          let parts = both_true (root_of schema first == root_of schema (table_of tables n)) (equates_all on (root_places schema first) at (root_places schema (table_of tables n))) is in
+          let parts = and_parts (root_of schema first == root_of schema (table_of tables n)) (equates_all on (root_places schema first) at (root_places schema (table_of tables n))) is in
           ((let e : (root_of schema first == root_of schema (table_of tables n)) ≡ true = parts.0 in grind (arith, nat_tests)), parts.1, grind (arith, nat_tests), rest)
 
       item_rooted : (first at : ℕ) (is_left : Bool) (i : Item T) (width : ℕ) (on : Expr) (js : List (Join T)) → (width == (item_shape schema tables (map_item shape_t i)).width) ≡ true
@@ -302,8 +292,8 @@ module _ (schema : List Table) (tables : List ℕ) where
       leaf_rooted : (first at : ℕ) (js : List (Join T)) → are_sized js ≡ true → RootedSo first at (leaf_len schema tables first at (planned_joins js)) js
       leaf_rooted first at [] sized = tt {0}
       leaf_rooted first at (j ∷ js) sized =
-          let parts = both_true (is_sized_join schema tables (map_join shape_t j)) (are_sized js) sized in
-          let here = both_true (j.width == (item_shape schema tables (map_item shape_t j.item)).width) ((item_shape schema tables (map_item shape_t j.item)).is_sized) parts.0 in
+          let parts = and_parts (is_sized_join schema tables (map_join shape_t j)) (are_sized js) sized in
+          let here = and_parts (j.width == (item_shape schema tables (map_item shape_t j.item)).width) ((item_shape schema tables (map_item shape_t j.item)).is_sized) parts.0 in
           item_rooted first at j.is_left j.item j.width j.on js here.0 (leaf_rooted first (at + j.width) js parts.1)
 
       -- what is known of derived tables
@@ -331,7 +321,7 @@ module _ (schema : List Table) (tables : List ℕ) where
       sized_drop : (n : ℕ) (js : List (Join T)) → are_sized js ≡ true → are_sized (drop n js) ≡ true
       sized_drop zero js sized = sized
       sized_drop (suc n) [] sized = sized
-      sized_drop (suc n) (j ∷ js) sized = sized_drop n js (both_true (is_sized_join schema tables (map_join shape_t j)) (are_sized js) sized).1
+      sized_drop (suc n) (j ∷ js) sized = sized_drop n js (and_parts (is_sized_join schema tables (map_join shape_t j)) (are_sized js) sized).1
 
       item_leaves : (rs : List Bool) (at : ℕ) (es : List Expr) (is_left : Bool) (width : ℕ) (i : Item T) → at + width ≤ length rs → KnowsItem i → (width == (item_shape schema tables (map_item shape_t i)).width) ≡ true → (item_shape schema tables (map_item shape_t i)).is_sized ≡ true
           → AllByRecursion (IsPlanned schema) (join_leaves schema tables rs at es is_left width (map_item plan_t i))
@@ -341,8 +331,8 @@ module _ (schema : List Table) (tables : List ℕ) where
       rest_planned : (rs : List Bool) (es : List Expr) (at : ℕ) (js : List (Join T)) → at + widths (planned_joins js) ≤ length rs → AllByRecursion KnowsJoin js → are_sized js ≡ true → AllByRecursion (IsPlanned schema) (rest_leaves schema tables rs es at (planned_joins js))
       rest_planned rs es at [] fits knows sized = tt {0}
       rest_planned rs es at (j ∷ js) fits knows sized =
-          let parts = both_true (is_sized_join schema tables (map_join shape_t j)) (are_sized js) sized in
-          let here = both_true (j.width == (item_shape schema tables (map_item shape_t j.item)).width) ((item_shape schema tables (map_item shape_t j.item)).is_sized) parts.0 in
+          let parts = and_parts (is_sized_join schema tables (map_join shape_t j)) (are_sized js) sized in
+          let here = and_parts (j.width == (item_shape schema tables (map_item shape_t j.item)).width) ((item_shape schema tables (map_item shape_t j.item)).is_sized) parts.0 in
           all_append (IsPlanned schema) (join_leaves schema tables rs at es j.is_left j.width (map_item plan_t j.item)) (rest_leaves schema tables rs es (at + j.width) (planned_joins js))
           (item_leaves rs at es j.is_left j.width j.item (omega arith) knows.0 here.0 here.1) (rest_planned rs es (at + j.width) js (omega arith) knows.1 parts.1)
 
@@ -381,11 +371,11 @@ module _ (schema : List Table) (tables : List ℕ) where
 
       block_planned : (b : Block T) → KnowsBlock b → is_sized_block schema tables (map_block shape_t b) ≡ true → AllByRecursion (IsPlanned schema) (block_leaves schema tables (map_block plan_t b))
       block_planned b knows sized =
-          let parts = both_true ((item_shape schema tables (map_item shape_t b.from)).is_sized) (are_sized b.joins) sized in
+          let parts = and_parts ((item_shape schema tables (map_item shape_t b.from)).is_sized) (are_sized b.joins) sized in
           from_planned b b.from knows.first parts.0 knows.rest parts.1
 
       pub blocks_planned : (bs : List (Block T)) → AllByRecursion KnowsBlock bs → list_all (is_sized_block schema tables) (map (map_block shape_t) bs) ≡ true → AllByRecursion (IsPlanned schema) (flat_map (block_leaves schema tables) (map (map_block plan_t) bs))
       blocks_planned [] knows sized = tt {0}
       blocks_planned (b ∷ bs) knows sized =
-          let parts = both_true (is_sized_block schema tables (map_block shape_t b)) (list_all (is_sized_block schema tables) (map (map_block shape_t) bs)) sized in
+          let parts = and_parts (is_sized_block schema tables (map_block shape_t b)) (list_all (is_sized_block schema tables) (map (map_block shape_t) bs)) sized in
           all_append (IsPlanned schema) (block_leaves schema tables (map_block plan_t b)) (flat_map (block_leaves schema tables) (map (map_block plan_t) bs)) (block_planned b knows.0 parts.0) (blocks_planned bs knows.1 parts.1)

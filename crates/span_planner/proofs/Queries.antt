@@ -1,8 +1,9 @@
 -- A query above its leaves means what it means on whole tables.
-use Rattle.std.proofs.Common.{◌≡◌, ◌∙◌, ℕ, ◌+◌, ◌==◌, Bool, true, false, ◌&&◌, List, [], ◌∷◌, map, length, Some, refl, ap, sym, subst, arith}
+use Rattle.std.proofs.Common.{◌≡◌, ◌∙◌, ℕ, ◌+◌, ◌==◌, true, List, [], ◌∷◌, map, length, Some, refl, ap, sym, subst, arith}
 use Rattle.std.specs.Prelude.{flat_map}
 use Rattle.std.specs.List.{AllByRecursion, list_all}
 use Rattle.std.proofs.lemmas.Bool.Decides.{nat_tests}
+use Rattle.std.proofs.lemmas.Bool.{and_parts}
 use Rattle.span_schema.specs.declared.table.Table.{Table}
 use Rattle.span_query.specs.declared.query.BoundQuery.{BoundQuery}
 use Rattle.span_query.specs.declared.query.BoundQuery.TheOpen.{BoundQuery-F}
@@ -23,10 +24,6 @@ use Rattle.span_planner.proofs.Pushing.{AreOfWidth}
 use Rattle.span_planner.proofs.Narrowing.{IsWide, AreWide}
 use Rattle.span_planner.proofs.Blocks.{AgreesAt, agrees_front, agrees_rest, KeepsItem, KeepsJoin, further, IsSizedFirst, block_above}
 use Rattle.span_planner.proofs.Widths.{wide_query}
-
-both : (a b : Bool) → (a && b) ≡ true → (a ≡ true) × (b ≡ true)
-both true b is = (refl, is)
-both false b is = cc
 
 -- ---- a layer of queries with what is known of them
 
@@ -98,12 +95,12 @@ module _ (schema : List Table) (tables : List ℕ) (w : ℕ → List Row) (f0 f 
         → AllByRecursion (λ (b : Block Rows). length b.outputs ≡ n) (map (map_block mean_t) bs)
     outputs_are n [] is = tt {0}
     outputs_are n (b ∷ bs) is =
-        let parts = both (length b.outputs == n) (list_all (λ (b : Block Shape). length b.outputs == n) (map (map_block shape_t) bs)) is in
+        let parts = and_parts (length b.outputs == n) (list_all (λ (b : Block Shape). length b.outputs == n) (map (map_block shape_t) bs)) is in
         ((let e : (length b.outputs == n) ≡ true = parts.0 in grind (arith, nat_tests)), outputs_are n bs parts.1)
 
     layer_sized : (y : BoundQuery-F T) → (query_shape schema tables (map_layer shape_t y)).is_sized ≡ true
         → (list_all (is_sized_block schema tables) (map (map_block shape_t) (y.first ∷ y.others)) ≡ true) × (list_all (λ (b : Block Shape). length b.outputs == length y.first.outputs) (map (map_block shape_t) y.others) ≡ true)
-    layer_sized y is = both (list_all (is_sized_block schema tables) (map (map_block shape_t) (y.first ∷ y.others))) (list_all (λ (b : Block Shape). length b.outputs == length y.first.outputs) (map (map_block shape_t) y.others)) is
+    layer_sized y is = and_parts (list_all (is_sized_block schema tables) (map (map_block shape_t) (y.first ∷ y.others))) (list_all (λ (b : Block Shape). length b.outputs == length y.first.outputs) (map (map_block shape_t) y.others)) is
 
     layer_wide : (y : BoundQuery-F T) → is_sized schema tables (query_with y) ≡ true → IsWide (plan_q (query_with y)).width (mean (query_with y))
     layer_wide y sized =
@@ -165,15 +162,15 @@ module _ (schema : List Table) (tables : List ℕ) (w : ℕ → List Row) (f0 f 
       → AllByRecursion (KeepsJoin schema tables w f0 f Told told_plan told_mean) js × AreWide (map (further schema tables w f0 f Told told_plan told_mean) js)
   joins_known [] sized = (tt {0}, tt {0})
   joins_known (j ∷ js) sized =
-      let parts = both (is_sized_join schema tables (map_join told_shape j)) (list_all (is_sized_join schema tables) (map (map_join told_shape) js)) sized in
-      let here = both (j.width == (item_shape schema tables (map_item told_shape j.item)).width) ((item_shape schema tables (map_item told_shape j.item)).is_sized) parts.0 in
+      let parts = and_parts (is_sized_join schema tables (map_join told_shape j)) (list_all (is_sized_join schema tables) (map (map_join told_shape) js)) sized in
+      let here = and_parts (j.width == (item_shape schema tables (map_item told_shape j.item)).width) ((item_shape schema tables (map_item told_shape j.item)).is_sized) parts.0 in
       let rest = joins_known js parts.1 in
       ((keeps_item j.item here.1, rest.0), (wide_item j.item j.width here.0 here.1, rest.1))
 
   one_block : (b : Block Told) → is_sized_block schema tables (map_block told_shape b) ≡ true → (before : ℕ) → AgreesAt w before (block_leaves schema tables (map_block told_plan b)) f
       → block_rows f (map_block (meaning_over f) (top_block schema tables before (map_block told_plan b))) ≡ block_rows f0 (map_block told_mean b)
   one_block b sized before agrees =
-      let parts = both ((item_shape schema tables (map_item told_shape b.from)).is_sized) (list_all (is_sized_join schema tables) (map (map_join told_shape) b.joins)) sized in
+      let parts = and_parts ((item_shape schema tables (map_item told_shape b.from)).is_sized) (list_all (is_sized_join schema tables) (map (map_join told_shape) b.joins)) sized in
       let joins = joins_known b.joins parts.1 in
       block_above schema tables w f0 f Told told_plan told_mean table_given b (record { first = keeps_item b.from parts.0; rest = joins.0 }) (record { first = first_sized b.from parts.0; rest = joins.1 }) before agrees
 
@@ -182,7 +179,7 @@ module _ (schema : List Table) (tables : List ℕ) (w : ℕ → List Row) (f0 f 
       → concat_map (block_rows f) (map (map_block (meaning_over f)) (top_blocks schema tables before (map (map_block told_plan) bs))) ≡ concat_map (block_rows f0) (map (map_block told_mean) bs)
   all_blocks [] sized before agrees = refl
   all_blocks (b ∷ bs) sized before agrees =
-      let parts = both (is_sized_block schema tables (map_block told_shape b)) (list_all (is_sized_block schema tables) (map (map_block told_shape) bs)) sized in
+      let parts = and_parts (is_sized_block schema tables (map_block told_shape b)) (list_all (is_sized_block schema tables) (map (map_block told_shape) bs)) sized in
       let own : List Leaf = block_leaves schema tables (map_block told_plan b) in
       let rest : List Leaf = flat_map (block_leaves schema tables) (map (map_block told_plan) bs) in
       let later : List (Block BoundQuery) = top_blocks schema tables (before + length own) (map (map_block told_plan) bs) in

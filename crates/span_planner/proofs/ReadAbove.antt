@@ -3,6 +3,8 @@ use Rattle.std.proofs.Common.{◌≡◌, ◌∙◌, ℕ, zero, suc, ◌+◌, ◌
 use Rattle.std.specs.Prelude.{flat_map, if◌then◌else◌}
 use Rattle.std.specs.List.{list_all}
 use Rattle.std.proofs.lemmas.Bool.Decides.{nat_tests}
+use Rattle.std.proofs.lemmas.Bool.{and_from, and_parts}
+use Rattle.std.proofs.lemmas.List.{length-replicate}
 use Rattle.span_schema.specs.declared.table.Table.{Table}
 use Rattle.span_expr.specs.declared.expr.Expr.{Expr}
 use Rattle.span_expr.specs.Places.{reads_only}
@@ -25,20 +27,8 @@ use Rattle.span_planner.proofs.Planned.{part_len, widths_split, reads_of_len}
 use Rattle.span_planner.proofs.Queries.{layer_twice}
 use Rattle.span_planner.proofs.Reading.{Covers, covers_part, covers_all, drop_more, covered}
 
-both : (a b : Bool) → (a && b) ≡ true → (a ≡ true) × (b ≡ true)
-both true b is = (refl, is)
-both false b is = cc
-
-together : (a b : Bool) → a ≡ true → b ≡ true → (a && b) ≡ true
-together true b p q = q
-together false b p q = cc
-
 is_itself : (n k : ℕ) → n ≡ k → (n == k) ≡ true
 is_itself n k same = grind (arith, nat_tests)
-
-length-replicate : {A : Type 0} (n : ℕ) (x : A) → length (replicate n x) ≡ n
-length-replicate zero x = refl
-length-replicate (suc n) x = ap suc (length-replicate n x)
 
 drop_map : {A B : Type 0} (g : A → B) (n : ℕ) (xs : List A) → drop n (map g xs) ≡ map g (drop n xs)
 drop_map g zero xs = refl
@@ -76,8 +66,8 @@ module _ (masks : ℕ → List Bool) where
 
     block_parts : (b : Block Planned) → block_reads test b ≡ true → (list_all (on_reads test) b.joins ≡ true) × (condition_reads test b.filter ≡ true) × (selection_reads test b.grouping b.outputs ≡ true)
     block_parts b is =
-        let outer = both (list_all (on_reads test) b.joins && condition_reads test b.filter) (selection_reads test b.grouping b.outputs) is in
-        let inner = both (list_all (on_reads test) b.joins) (condition_reads test b.filter) outer.0 in
+        let outer = and_parts (list_all (on_reads test) b.joins && condition_reads test b.filter) (selection_reads test b.grouping b.outputs) is in
+        let inner = and_parts (list_all (on_reads test) b.joins) (condition_reads test b.filter) outer.0 in
         (inner.0, inner.1, outer.1)
 
     -- the joins after the first leaf and the rest of the block read no more than the block
@@ -86,14 +76,14 @@ module _ (masks : ℕ → List Bool) where
         let parts = block_parts b is in
         let len : ℕ = leaf_len schema tables (table_of tables n) (width_of schema (table_of tables n)) b.joins in
         let top : List (Join BoundQuery) = top_joins (before + 1) (drop len b.joins) in
-        together (list_all (on_reads test) (map (map_join (reading masks)) top) && condition_reads test (filter_above b len)) (selection_reads test b.grouping b.outputs)
-        (together (list_all (on_reads test) (map (map_join (reading masks)) top)) (condition_reads test (filter_above b len))
+        and_from (list_all (on_reads test) (map (map_join (reading masks)) top) && condition_reads test (filter_above b len)) (selection_reads test b.grouping b.outputs)
+        (and_from (list_all (on_reads test) (map (map_join (reading masks)) top)) (condition_reads test (filter_above b len))
         (ons_above (before + 1) (drop len b.joins) ∙ all_dropped (on_reads test) len b.joins parts.0) (condition_above (len == length b.joins) b.filter parts.1)) parts.2
     reads_above schema tables before b (item.Derived p) is =
         let parts = block_parts b is in
         let top : List (Join BoundQuery) = top_joins (before + length p.leaves) b.joins in
-        together (list_all (on_reads test) (map (map_join (reading masks)) top) && condition_reads test b.filter) (selection_reads test b.grouping b.outputs)
-        (together (list_all (on_reads test) (map (map_join (reading masks)) top)) (condition_reads test b.filter) (ons_above (before + length p.leaves) b.joins ∙ parts.0) parts.1) parts.2
+        and_from (list_all (on_reads test) (map (map_join (reading masks)) top) && condition_reads test b.filter) (selection_reads test b.grouping b.outputs)
+        (and_from (list_all (on_reads test) (map (map_join (reading masks)) top)) (condition_reads test b.filter) (ons_above (before + length p.leaves) b.joins ∙ parts.0) parts.1) parts.2
 
   module _ (schema : List Table) (tables : List ℕ) where
     abbrev pub IsReadAbove : BoundQuery → Type 0
@@ -168,8 +158,8 @@ module _ (masks : ℕ → List Bool) where
         → (list_all (join_within masks) (joins_above before (planned_joins js)) ≡ true) × Covers (drop at rs) (flat_map (join_mask masks) (joins_above before (planned_joins js)))
     joins_read rs es at before [] sized fits masks_at = (refl, λ k has. refl)
     joins_read rs es at before (j ∷ js) sized fits masks_at =
-        let parts = both (is_sized_join schema tables (map_join told_shape j)) (are_sized js) sized in
-        let here = both (j.width == (item_shape schema tables (map_item told_shape j.item)).width) ((item_shape schema tables (map_item told_shape j.item)).is_sized) parts.0 in
+        let parts = and_parts (is_sized_join schema tables (map_join told_shape j)) (are_sized js) sized in
+        let here = and_parts (j.width == (item_shape schema tables (map_item told_shape j.item)).width) ((item_shape schema tables (map_item told_shape j.item)).is_sized) parts.0 in
         let own : List Leaf = join_leaves schema tables rs at es j.is_left j.width (map_item told_plan j.item) in
         let later : List Leaf = rest_leaves schema tables rs es (at + j.width) (planned_joins js) in
         let count : ℕ = count_leaves (map_item told_plan j.item) in
@@ -177,8 +167,8 @@ module _ (masks : ℕ → List Bool) where
         let rest = joins_read rs es (at + j.width) (before + count) js parts.1 (omega arith)
         (subst (λ (n : ℕ). MasksAt (before + n) later) (counted rs es at j.is_left j.width (map_item told_plan j.item)) (masks_rest before own later masks_at)) in
         let mask : List Bool = item_mask masks (item_above before j.item) in (
-          together (join_within masks (record { is_left = j.is_left; item = item_above before j.item; width = j.width; on = j.on })) (list_all (join_within masks) (joins_above (before + count) (planned_joins js)))
-              (together (j.width == length mask) (item_within (item_above before j.item)) (is_itself j.width (length mask) one.1) one.0) rest.0,
+          and_from (join_within masks (record { is_left = j.is_left; item = item_above before j.item; width = j.width; on = j.on })) (list_all (join_within masks) (joins_above (before + count) (planned_joins js)))
+              (and_from (j.width == length mask) (item_within (item_above before j.item)) (is_itself j.width (length mask) one.1) one.0) rest.0,
           one.2 (flat_map (join_mask masks) (joins_above (before + count) (planned_joins js))) rest.1,
         )
 
@@ -206,13 +196,13 @@ module _ (masks : ℕ → List Bool) where
         let covers : Covers rs (masks (before + 1) ++ flat_map (join_mask masks) later) =
         subst (λ (l : List Bool). Covers rs (l ++ flat_map (join_mask masks) later)) (sym masks_at.0) (covers_part at rs (flat_map (join_mask masks) later) rest.1) in
         let top : Block Reading = map_block read (top_from schema tables before p (item.Table n)) in
-        together (true && list_all (join_within masks) later) (block_reads (has_place (from_mask masks top)) top) rest.0
+        and_from (true && list_all (join_within masks) later) (block_reads (has_place (from_mask masks top)) top) rest.0
         (reads_above (has_place (from_mask masks top)) schema tables before p (item.Table n) (covered width p (from_mask masks top) covers))
       where
         sized_drop : (n : ℕ) (js : List (Join Told)) → are_sized js ≡ true → are_sized (drop n js) ≡ true
         sized_drop zero js is = is
         sized_drop (suc n) [] is = is
-        sized_drop (suc n) (j ∷ js) is = sized_drop n js (both (is_sized_join schema tables (map_join told_shape j)) (are_sized js) is).1
+        sized_drop (suc n) (j ∷ js) is = sized_drop n js (and_parts (is_sized_join schema tables (map_join told_shape j)) (are_sized js) is).1
     from_read b (item.Derived t) before first_sized sized masks_at =
         let p : Block Planned = map_block told_plan b in
         let width : ℕ = (told_plan t).width in
@@ -226,19 +216,19 @@ module _ (masks : ℕ → List Bool) where
         let covers : Covers rs (replicate (read ((told_plan t).top before)).width true ++ flat_map (join_mask masks) above) =
         subst (λ (n : ℕ). Covers rs (replicate n true ++ flat_map (join_mask masks) above)) (sym known.1) (covers_all width rs (flat_map (join_mask masks) above) rest.1) in
         let top : Block Reading = map_block read (top_from schema tables before p (item.Derived (told_plan t))) in
-        together ((read ((told_plan t).top before)).is_within && list_all (join_within masks) above) (block_reads (has_place (from_mask masks top)) top)
-        (together ((read ((told_plan t).top before)).is_within) (list_all (join_within masks) above) known.0 rest.0)
+        and_from ((read ((told_plan t).top before)).is_within && list_all (join_within masks) above) (block_reads (has_place (from_mask masks top)) top)
+        (and_from ((read ((told_plan t).top before)).is_within) (list_all (join_within masks) above) known.0 rest.0)
         (reads_above (has_place (from_mask masks top)) schema tables before p (item.Derived (told_plan t)) (covered width p (from_mask masks top) covers))
 
     blocks_read : (bs : List (Block Told)) (before : ℕ) → list_all (is_sized_block schema tables) (map (map_block told_shape) bs) ≡ true
         → MasksAt before (flat_map (block_leaves schema tables) (map (map_block told_plan) bs)) → list_all (block_within masks) (map (map_block read) (top_blocks schema tables before (map (map_block told_plan) bs))) ≡ true
     blocks_read [] before sized masks_at = refl
     blocks_read (b ∷ bs) before sized masks_at =
-        let parts = both (is_sized_block schema tables (map_block told_shape b)) (list_all (is_sized_block schema tables) (map (map_block told_shape) bs)) sized in
-        let here = both ((item_shape schema tables (map_item told_shape b.from)).is_sized) (are_sized b.joins) parts.0 in
+        let parts = and_parts (is_sized_block schema tables (map_block told_shape b)) (list_all (is_sized_block schema tables) (map (map_block told_shape) bs)) sized in
+        let here = and_parts ((item_shape schema tables (map_item told_shape b.from)).is_sized) (are_sized b.joins) parts.0 in
         let own : List Leaf = block_leaves schema tables (map_block told_plan b) in
         let later : List Leaf = flat_map (block_leaves schema tables) (map (map_block told_plan) bs) in
-        together (block_within masks (block_read before b)) (list_all (block_within masks) (map (map_block read) (top_blocks schema tables (before + length own) (map (map_block told_plan) bs))))
+        and_from (block_within masks (block_read before b)) (list_all (block_within masks) (map (map_block read) (top_blocks schema tables (before + length own) (map (map_block told_plan) bs))))
         (from_read b b.from before here.0 here.1 (masks_front before own later masks_at)) (blocks_read bs (before + length own) parts.1 (masks_rest before own later masks_at))
 
     -- ---- select lists stay as they are
@@ -251,17 +241,17 @@ module _ (masks : ℕ → List Bool) where
         → list_all (λ (b : Block Reading). length b.outputs == n) (map (map_block read) (top_blocks schema tables before bs)) ≡ true
     outputs_above n [] before is = refl
     outputs_above n (b ∷ bs) before is =
-        let parts = both (length b.outputs == n) (list_all (λ (b : Block Planned). length b.outputs == n) bs) is in
+        let parts = and_parts (length b.outputs == n) (list_all (λ (b : Block Planned). length b.outputs == n) bs) is in
         let after : ℕ = before + length (block_leaves schema tables b) in
-        together (length (top_block schema tables before b).outputs == n) (list_all (λ (b : Block Reading). length b.outputs == n) (map (map_block read) (top_blocks schema tables after bs)))
+        and_from (length (top_block schema tables before b).outputs == n) (list_all (λ (b : Block Reading). length b.outputs == n) (map (map_block read) (top_blocks schema tables after bs)))
         (ap (λ (es : List Expr). length es == n) (outputs_from b.from b before) ∙ parts.0) (outputs_above n bs after parts.1)
 
     outputs_planned : (n : ℕ) (bs : List (Block Told)) → list_all (λ (b : Block Shape). length b.outputs == n) (map (map_block told_shape) bs) ≡ true
         → list_all (λ (b : Block Planned). length b.outputs == n) (map (map_block told_plan) bs) ≡ true
     outputs_planned n [] is = refl
     outputs_planned n (b ∷ bs) is =
-        let parts = both (length b.outputs == n) (list_all (λ (b : Block Shape). length b.outputs == n) (map (map_block told_shape) bs)) is in
-        together (length b.outputs == n) (list_all (λ (b : Block Planned). length b.outputs == n) (map (map_block told_plan) bs)) parts.0 (outputs_planned n bs parts.1)
+        let parts = and_parts (length b.outputs == n) (list_all (λ (b : Block Shape). length b.outputs == n) (map (map_block told_shape) bs)) is in
+        and_from (length b.outputs == n) (list_all (λ (b : Block Planned). length b.outputs == n) (map (map_block told_plan) bs)) parts.0 (outputs_planned n bs parts.1)
 
     -- ---- queries
 
@@ -276,7 +266,7 @@ module _ (masks : ℕ → List Bool) where
         fold-roll-BoundQuery Shape (query_shape schema tables) d ∙ ap (query_shape schema tables) (layer_twice told_query (shape schema tables) y) in (
           ap (λ (p : Planned). p.width) planned_is ∙ sym (ap (λ (s : Shape). s.width) shape_is),
           λ sized before masks_at.
-              (let parts = both (list_all (is_sized_block schema tables) (map (map_block told_shape) (y.first ∷ y.others)))
+              (let parts = and_parts (list_all (is_sized_block schema tables) (map (map_block told_shape) (y.first ∷ y.others)))
               (list_all (λ (b : Block Shape). length b.outputs == length y.first.outputs) (map (map_block told_shape) y.others)) (ap (λ (s : Shape). s.is_sized) (sym shape_is) ∙ sized) in
               let top : BoundQuery-F BoundQuery = record {
                 first = top_block schema tables before layer.first;
@@ -292,7 +282,7 @@ module _ (masks : ℕ → List Bool) where
               subst (λ (es : List Expr). list_all (λ (b : Block Reading). length b.outputs == length es) (map (map_block read) top.others) ≡ true) (sym first_is)
               (outputs_above (length y.first.outputs) layer.others (before + length (block_leaves schema tables layer.first)) (outputs_planned (length y.first.outputs) y.others parts.1)) in
               let within : (query_reading masks (map_layer read top)).is_within ≡ true =
-              together (list_all (block_within masks) (map (map_block read) (top.first ∷ top.others))) (list_all (λ (b : Block Reading). length b.outputs == length top.first.outputs) (map (map_block read) top.others))
+              and_from (list_all (block_within masks) (map (map_block read) (top.first ∷ top.others))) (list_all (λ (b : Block Reading). length b.outputs == length top.first.outputs) (map (map_block read) top.others))
               (blocks_read (y.first ∷ y.others) before parts.0 (subst (λ (ls : List Leaf). MasksAt before ls) leaves_are masks_at)) outputs in (
                 ap (λ (r : Reading). r.is_within) read_is ∙ within,
                 ap (λ (r : Reading). r.width) read_is ∙ ap length first_is ∙ sym (ap (λ (p : Planned). p.width) planned_is),

@@ -2,6 +2,7 @@
 use Rattle.std.proofs.Common.{◌≡◌, ◌∙◌, ℕ, zero, suc, ◌+◌, ◌==◌, Bool, true, false, not, ◌&&◌, List, [], ◌∷◌, ◌++◌, map, take, drop, replicate, Option, Some, None, refl, ap, sym, subst, arith}
 use Rattle.std.specs.List.{AllByRecursion, list_all, range_with_len}
 use Rattle.std.proofs.lemmas.Bool.Decides.{nat_tests}
+use Rattle.std.proofs.lemmas.Bool.{and_from}
 use Rattle.span_expr.specs.declared.expr.Expr.{Expr}
 use Rattle.span_expr.specs.declared.expr.Expr.TheOpen.{Expr-F}
 use Rattle.span_expr.specs.declared.expr.Expr.TheViews.{roll-Expr}
@@ -18,14 +19,6 @@ use Rattle.span_query.specs.declared.query.Join.{Join}
 use Rattle.span_planner.specs.Leaves.{widths, reads_of}
 use Rattle.span_planner.specs.Reads.{has_place, is_not, is_read, condition_reads, on_reads, aggregate_reads, selection_reads, block_reads}
 
-both : (a b : Bool) → (a && b) ≡ true → (a ≡ true) × (b ≡ true)
-both true b is = (refl, is)
-both false b is = cc
-
-together : (a b : Bool) → a ≡ true → b ≡ true → (a && b) ≡ true
-together true b p q = q
-together false b p q = cc
-
 -- ---- tests of the places that something reads
 
 -- what reads only places that pass: a test passes where it has each place without which there would be something else to read
@@ -40,7 +33,7 @@ by_place p test all = all p (let e : (p == p) ≡ true = grind (arith, nat_tests
 
 pub by_both : (f g : (ℕ → Bool) → Bool) → ByPlace f → ByPlace g → ByPlace (λ t. f t && g t)
 by_both f g first second test all =
-    together (f test) (g test) (first test (λ k out. all k (first_false (f (is_not k)) (g (is_not k)) out))) (second test (λ k out. all k (second_false (f (is_not k)) (g (is_not k)) out))) where
+    and_from (f test) (g test) (first test (λ k out. all k (first_false (f (is_not k)) (g (is_not k)) out))) (second test (λ k out. all k (second_false (f (is_not k)) (g (is_not k)) out))) where
       first_false : (a b : Bool) → a ≡ false → (a && b) ≡ false
       first_false true b is = cc
       first_false false b is = refl

@@ -1,6 +1,7 @@
 -- Where the sizes in a query are right, its tables have numbers of the statement's tables.
-use Rattle.std.proofs.Common.{◌≡◌, ◌∙◌, ℕ, Bool, true, false, ◌&&◌, ◌==◌, List, [], ◌∷◌, map, length, refl, ap, sym, subst}
+use Rattle.std.proofs.Common.{◌≡◌, ◌∙◌, ℕ, Bool, true, ◌==◌, List, [], ◌∷◌, map, length, refl, ap, sym, subst}
 use Rattle.std.specs.List.{list_all}
+use Rattle.std.proofs.lemmas.Bool.{and_from, and_parts}
 use Rattle.span_schema.specs.declared.table.Table.{Table}
 use Rattle.span_query.specs.declared.query.BoundQuery.{BoundQuery}
 use Rattle.span_query.specs.declared.query.BoundQuery.TheFolds.{map-BoundQuery, ind-BoundQuery, fold-roll-BoundQuery}
@@ -14,14 +15,6 @@ use Rattle.span_query.proofs.Layers.{map_item, map_join, map_block, map_layer}
 use Rattle.span_planner.specs.Numbered.{numbered_item, numbered_join, numbered_block, numbered_query, is_numbered}
 use Rattle.span_planner.specs.Sizes.{Shape, item_shape, is_sized_join, is_sized_block, query_shape, shape, is_sized}
 use Rattle.span_planner.proofs.Queries.{layer_twice}
-
-both : (a b : Bool) → (a && b) ≡ true → (a ≡ true) × (b ≡ true)
-both true b is = (refl, is)
-both false b is = cc
-
-together : (a b : Bool) → a ≡ true → b ≡ true → (a && b) ≡ true
-together true b p q = q
-together false b p q = cc
 
 module _ (schema : List Table) (tables : List ℕ) where
   abbrev pub IsNumberedToo : BoundQuery → Type 0
@@ -46,20 +39,20 @@ module _ (schema : List Table) (tables : List ℕ) where
   joins_too : (js : List (Join Told)) → list_all (is_sized_join schema tables) (map (map_join told_shape) js) ≡ true → list_all (numbered_join tables) (map (map_join told_test) js) ≡ true
   joins_too [] is = refl
   joins_too (j ∷ js) is =
-      let parts = both (is_sized_join schema tables (map_join told_shape j)) (list_all (is_sized_join schema tables) (map (map_join told_shape) js)) is in
-      let here = both (j.width == (item_shape schema tables (map_item told_shape j.item)).width) ((item_shape schema tables (map_item told_shape j.item)).is_sized) parts.0 in
-      together (numbered_join tables (map_join told_test j)) (list_all (numbered_join tables) (map (map_join told_test) js)) (item_too j.item here.1) (joins_too js parts.1)
+      let parts = and_parts (is_sized_join schema tables (map_join told_shape j)) (list_all (is_sized_join schema tables) (map (map_join told_shape) js)) is in
+      let here = and_parts (j.width == (item_shape schema tables (map_item told_shape j.item)).width) ((item_shape schema tables (map_item told_shape j.item)).is_sized) parts.0 in
+      and_from (numbered_join tables (map_join told_test j)) (list_all (numbered_join tables) (map (map_join told_test) js)) (item_too j.item here.1) (joins_too js parts.1)
 
   block_too : (b : Block Told) → is_sized_block schema tables (map_block told_shape b) ≡ true → numbered_block tables (map_block told_test b) ≡ true
   block_too b is =
-      let parts = both ((item_shape schema tables (map_item told_shape b.from)).is_sized) (list_all (is_sized_join schema tables) (map (map_join told_shape) b.joins)) is in
-      together (numbered_item tables (map_item told_test b.from)) (list_all (numbered_join tables) (map (map_join told_test) b.joins)) (item_too b.from parts.0) (joins_too b.joins parts.1)
+      let parts = and_parts ((item_shape schema tables (map_item told_shape b.from)).is_sized) (list_all (is_sized_join schema tables) (map (map_join told_shape) b.joins)) is in
+      and_from (numbered_item tables (map_item told_test b.from)) (list_all (numbered_join tables) (map (map_join told_test) b.joins)) (item_too b.from parts.0) (joins_too b.joins parts.1)
 
   blocks_too : (bs : List (Block Told)) → list_all (is_sized_block schema tables) (map (map_block told_shape) bs) ≡ true → list_all (numbered_block tables) (map (map_block told_test) bs) ≡ true
   blocks_too [] is = refl
   blocks_too (b ∷ bs) is =
-      let parts = both (is_sized_block schema tables (map_block told_shape b)) (list_all (is_sized_block schema tables) (map (map_block told_shape) bs)) is in
-      together (numbered_block tables (map_block told_test b)) (list_all (numbered_block tables) (map (map_block told_test) bs)) (block_too b parts.0) (blocks_too bs parts.1)
+      let parts = and_parts (is_sized_block schema tables (map_block told_shape b)) (list_all (is_sized_block schema tables) (map (map_block told_shape) bs)) is in
+      and_from (numbered_block tables (map_block told_test b)) (list_all (numbered_block tables) (map (map_block told_test) bs)) (block_too b parts.0) (blocks_too bs parts.1)
 
   layer_too : (y : BoundQuery-F Told) → IsNumberedToo (roll-BoundQuery (map-BoundQuery Told BoundQuery told_query y))
   layer_too y sized =
@@ -68,7 +61,7 @@ module _ (schema : List Table) (tables : List ℕ) where
       fold-roll-BoundQuery Shape (query_shape schema tables) d ∙ ap (query_shape schema tables) (layer_twice told_query (shape schema tables) y) in
       let test_is : is_numbered tables (roll-BoundQuery d) ≡ numbered_query tables (map_layer told_test y) =
       fold-roll-BoundQuery Bool (numbered_query tables) d ∙ ap (numbered_query tables) (layer_twice told_query (is_numbered tables) y) in
-      let parts = both (list_all (is_sized_block schema tables) (map (map_block told_shape) (y.first ∷ y.others)))
+      let parts = and_parts (list_all (is_sized_block schema tables) (map (map_block told_shape) (y.first ∷ y.others)))
       (list_all (λ (b : Block Shape). length b.outputs == length y.first.outputs) (map (map_block told_shape) y.others)) (ap (λ (s : Shape). s.is_sized) (sym shape_is) ∙ sized) in
       test_is ∙ blocks_too (y.first ∷ y.others) parts.0
 

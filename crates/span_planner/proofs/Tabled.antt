@@ -1,7 +1,8 @@
 -- The tables of the leaves of a plan are tables of the schema.
-use Rattle.std.proofs.Common.{◌≡◌, ◌∙◌, ℕ, ◌+◌, ◌==◌, suc, zero, Bool, true, false, ◌&&◌, List, [], ◌∷◌, ◌++◌, map, take, drop, length, refl, ap, sym, subst}
+use Rattle.std.proofs.Common.{◌≡◌, ◌∙◌, ℕ, ◌+◌, ◌==◌, suc, zero, Bool, true, false, List, [], ◌∷◌, ◌++◌, map, take, drop, length, refl, ap, sym, subst}
 use Rattle.std.specs.Prelude.{flat_map, if◌then◌else◌}
 use Rattle.std.specs.List.{AllByRecursion, list_all}
+use Rattle.std.proofs.lemmas.Bool.{and_parts}
 use Rattle.span_schema.specs.declared.table.Table.{Table}
 use Rattle.span_schema.specs.Numbers.{IsTable}
 use Rattle.span_expr.specs.declared.expr.Expr.{Expr}
@@ -20,10 +21,6 @@ use Rattle.span_planner.specs.Leaves.{Planned, table_of, width_of, widths, reads
 use Rattle.span_planner.specs.Sizes.{Shape, item_shape, is_sized_join, is_sized_block, query_shape, shape, is_sized}
 use Rattle.span_planner.proofs.Numbering.{table_is}
 use Rattle.span_planner.proofs.Queries.{layer_twice}
-
-both : (a b : Bool) → (a && b) ≡ true → (a ≡ true) × (b ≡ true)
-both true b is = (refl, is)
-both false b is = cc
 
 all_append : {A : Type 0} (P : A → Type 0) (xs ys : List A) → AllByRecursion P xs → AllByRecursion P ys → AllByRecursion P (xs ++ ys)
 all_append P [] ys a b = b
@@ -61,8 +58,8 @@ module _ (schema : List Table) (tables : List ℕ) (are : AllByRecursion (IsTabl
 
   join_sized : (j : Join Told) (js : List (Join Told)) → are_sized (j ∷ js) ≡ true → ((item_shape schema tables (map_item told_shape j.item)).is_sized ≡ true) × (are_sized js ≡ true)
   join_sized j js is =
-      let parts = both (is_sized_join schema tables (map_join told_shape j)) (are_sized js) is in
-      ((both (j.width == (item_shape schema tables (map_item told_shape j.item)).width) ((item_shape schema tables (map_item told_shape j.item)).is_sized) parts.0).1, parts.1)
+      let parts = and_parts (is_sized_join schema tables (map_join told_shape j)) (are_sized js) is in
+      ((and_parts (j.width == (item_shape schema tables (map_item told_shape j.item)).width) ((item_shape schema tables (map_item told_shape j.item)).is_sized) parts.0).1, parts.1)
 
   item_tabled : (rs : List Bool) (at : ℕ) (es : List Expr) (is_left : Bool) (width : ℕ) (i : Item Told) → (item_shape schema tables (map_item told_shape i)).is_sized ≡ true → AllByRecursion HasTables (join_leaves schema tables rs at es is_left width (map_item told_plan i))
   item_tabled rs at es is_left width (item.Table n) is = ((table_is schema tables n are is, tt {0}), tt {0})
@@ -116,8 +113,8 @@ module _ (schema : List Table) (tables : List ℕ) (are : AllByRecursion (IsTabl
   blocks_tabled : (bs : List (Block Told)) → list_all (is_sized_block schema tables) (map (map_block told_shape) bs) ≡ true → AllByRecursion HasTables (flat_map (block_leaves schema tables) (map (map_block told_plan) bs))
   blocks_tabled [] is = tt {0}
   blocks_tabled (b ∷ bs) is =
-      let parts = both (is_sized_block schema tables (map_block told_shape b)) (list_all (is_sized_block schema tables) (map (map_block told_shape) bs)) is in
-      let here = both ((item_shape schema tables (map_item told_shape b.from)).is_sized) (are_sized b.joins) parts.0 in
+      let parts = and_parts (is_sized_block schema tables (map_block told_shape b)) (list_all (is_sized_block schema tables) (map (map_block told_shape) bs)) is in
+      let here = and_parts ((item_shape schema tables (map_item told_shape b.from)).is_sized) (are_sized b.joins) parts.0 in
       all_append HasTables (block_leaves schema tables (map_block told_plan b)) (flat_map (block_leaves schema tables) (map (map_block told_plan) bs)) (from_tabled b b.from here.0 here.1) (blocks_tabled bs parts.1)
 
   layer_tabled : (y : BoundQuery-F Told) → AreTabled (roll-BoundQuery (map-BoundQuery Told BoundQuery told_query y))
@@ -127,7 +124,7 @@ module _ (schema : List Table) (tables : List ℕ) (are : AllByRecursion (IsTabl
       fold-roll-BoundQuery Planned (planned_query schema tables) d ∙ ap (planned_query schema tables) (layer_twice told_query (planned schema tables) y) in
       let shape_is : shape schema tables (roll-BoundQuery d) ≡ query_shape schema tables (map_layer told_shape y) =
       fold-roll-BoundQuery Shape (query_shape schema tables) d ∙ ap (query_shape schema tables) (layer_twice told_query (shape schema tables) y) in
-      let parts = both (list_all (is_sized_block schema tables) (map (map_block told_shape) (y.first ∷ y.others)))
+      let parts = and_parts (list_all (is_sized_block schema tables) (map (map_block told_shape) (y.first ∷ y.others)))
       (list_all (λ (b : Block Shape). length b.outputs == length y.first.outputs) (map (map_block told_shape) y.others)) (ap (λ (s : Shape). s.is_sized) (sym shape_is) ∙ sized) in
       subst (λ (p : Planned). AllByRecursion HasTables p.leaves) (sym planned_is) (blocks_tabled (y.first ∷ y.others) parts.0)
 

@@ -32,13 +32,16 @@ pub struct Opened {
 impl Model for Opened {
     ghost use Rattle.std.specs.Prelude.{◌≡◌, []};
     ghost use Rattle.atomic_table.specs.Seated.{table_id_coded};
+    ghost use Rattle.span_locks.specs.declared.places.TheConstants.{SLOTS};
     ghost use Rattle.span_locks.specs.Rule.{Named, opening_roles};
 
     ghost Value = { Named };
 
     ghost view = { λ o. record { table = o.table.shared.table_id; schema = o.schema; sessions = o.sessions } };
 
-    ghost invariant = { λ o. (o.first.table_id ≡ o.table.shared.table_id) × (o.first.me ≡ (opening_roles o.sessions 16, [])) × (o.table.shared.table_id.words ≡ 1) };
+    ghost invariant = { λ o. (o.first.table_id ≡ o.table.shared.table_id)
+        × (o.first.me ≡ (opening_roles o.sessions SLOTS, []))
+        × (o.table.shared.table_id.words ≡ 1) };
 }
 
 impl Opened {

@@ -3,7 +3,7 @@ ghost use Rattle.std.specs.Prelude.{◌≡◌, ◌⊎◌, ◌≤◌, ◌<◌, �
 ghost use Rattle.std.specs.Bool.{OnFalse};
 ghost use Rattle.std.specs.Io.KnownBytes.{Consumes, IsAtEnd, Keeps};
 ghost use Rattle.span_command.specs.Device.{risen};
-ghost use Rattle.span_command.specs.Unread.{held, Advances, HoldsSame, IsReady, IsTaken, ReadsAs, Stands, TakesNext};
+ghost use Rattle.span_command.specs.Unread.{held, Advances, HoldsSame, IsReady, IsStillToCome, IsTaken, ReadsAs, TakesNext};
 
 use super::{LONGEST_LINE, Line, Lines};
 use crate::device::Input;
@@ -17,7 +17,7 @@ const FIRST_ROOM: usize = 65_536;
 impl Lines {
     /// No lines: nothing is held. It takes no memory.
     pub fn new(alloc: Global) -> Lines
-        ensures { (rest : List ℕ) → Stands result (Some rest) rest }
+        ensures { (rest : List ℕ) → IsStillToCome result (Some rest) rest }
     {
         Lines {
             buffer: Vec::new(alloc),
@@ -35,7 +35,7 @@ impl Lines {
     /// Whether `take` answers without a further read: a whole line was read, or the script to its end.
     pub fn is_ready(&mut self) -> bool
         ensures ready { IsTrue result ↔ IsReady self.new }
-        ensures stands { (known : Option (List ℕ)) (text : List ℕ) → Stands self.old known text → Stands self.new known text }
+        ensures stands { (known : Option (List ℕ)) (text : List ℕ) → IsStillToCome self.old known text → IsStillToCome self.new known text }
     {
         self.search();
         if self.searched < self.end {
@@ -60,8 +60,8 @@ impl Lines {
     /// can't grow; what was held is then held still.
     pub fn read<I: Input>(&mut self, input: &mut I) -> Result<(), Refusal>
         ensures stands { (text : List ℕ)
-            → Stands self.old (I.remaining input.old) text
-            → Stands self.new (I.remaining input.new) text }
+            → IsStillToCome self.old (I.remaining input.old) text
+            → IsStillToCome self.new (I.remaining input.new) text }
         ensures advances { OnOk result (Advances self.new.has_ended (I.remaining input.old) (I.remaining input.new)) }
         ensures ok { OnOk result (I.failures input.new ≡ I.failures input.old) }
         ensures err { IfErr result
@@ -83,7 +83,7 @@ impl Lines {
 
     /// Lets the bytes of a line go that is too long already.
     fn let_go(&mut self)
-        ensures { (known : Option (List ℕ)) (text : List ℕ) → Stands self.old known text → Stands self.new known text }
+        ensures { (known : Option (List ℕ)) (text : List ℕ) → IsStillToCome self.old known text → IsStillToCome self.new known text }
     {
         if self.searched - self.start > LONGEST_LINE {
             self.is_cut = true;
@@ -122,11 +122,11 @@ impl Lines {
 
     /// Moves on to the next line, for `line` to lend. False where there is none any more, or where none is ready: nothing is taken then.
     pub fn take(&mut self) -> bool
-        ensures next { (known : Option (List ℕ)) (text : List ℕ) → IsReady self.old → Stands self.old known text
+        ensures next { (known : Option (List ℕ)) (text : List ℕ) → IsReady self.old → IsStillToCome self.old known text
             → MatchBool result (TakesNext self.new known text) (text ≡ []) }
         ensures waits { ¬ IsReady self.old → result ≡ false }
         ensures stays { OnFalse result
-            ((known : Option (List ℕ)) (text : List ℕ) → Stands self.old known text → Stands self.new known text) }
+            ((known : Option (List ℕ)) (text : List ℕ) → IsStillToCome self.old known text → IsStillToCome self.new known text) }
     {
         self.search();
         if self.searched < self.end {

@@ -1,13 +1,13 @@
 use Rattle.std.proofs.Common.{◌<◌, ◌≤◌, ◌+◌, List, ℕ, Option, true, length, take, drop, refl, inl, inr, length-drop, length-take-le, arith}
 use Rattle.span_command.specs.declared.line.Lines.{Lines}
-use Rattle.span_command.specs.Unread.{HoldsSame, Stands}
+use Rattle.span_command.specs.Unread.{HoldsSame, IsStillToCome}
 use Rattle.span_command.proofs.Steps.{stays, came, failed, still_none, ends, goes_on}
 use Rattle.span_command.proofs.line.Lines.read.Goals as goal
 
 -- what was held before the read is held once there is capacity
 with_room : (old less front wide : Lines) (known : Option (List ℕ)) (text : List ℕ)
-    → ((known : Option (List ℕ)) (text : List ℕ) → Stands old known text → Stands less known text) → HoldsSame less front → HoldsSame front wide
-    → Stands old known text → Stands wide known text
+    → ((known : Option (List ℕ)) (text : List ℕ) → IsStillToCome old known text → IsStillToCome less known text) → HoldsSame less front → HoldsSame front wide
+    → IsStillToCome old known text → IsStillToCome wide known text
 with_room old less front wide known text gone moved grown stood =
     stays front wide grown known text (stays less front moved known text (gone known text stood))
 
