@@ -12,3 +12,4 @@ pub mod Plain
 pub mod Refusing
 pub mod Commas
 pub mod Lent
+pub mod Numerals

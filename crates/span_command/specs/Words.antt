@@ -1,5 +1,5 @@
 -- The words of a line.
-use Rattle.std.specs.Prelude.{◌≡◌, ◌≢◌, ℕ, ◌<◌, ◌^◌, List, [], ◌∷◌, ◌++◌, codes, get_or, length, Bool, ◌&&◌, nat_le, is_none}
+use Rattle.std.specs.Prelude.{◌≡◌, ◌≢◌, ℕ, ◌<◌, ◌^◌, List, [], ◌∷◌, ◌++◌, codes, get_or, length, Bool, ◌&&◌, ◌||◌, ◌==◌, not, nat_le, nat_lt, is_none}
 use Rattle.std.specs.Fmt.{decimal}
 use Rattle.span_lexer.specs.Spellings.{reserved_word}
 use Rattle.span_lexer.specs.Characters.{begins, is_letter, is_word}
@@ -25,6 +25,10 @@ spaced word rest = word ++ 32 ∷ rest
 -- the word writes the number: decimal digits without leading zeros, up to 2^64 - 1
 abbrev pub IsNumber : List ℕ → ℕ → Type 0
 IsNumber word n = (n < 2 ^ 64) × (word ≡ decimal n)
+
+-- no plus and no zero is at the front, but where it is all
+abbrev pub begins_plainly : List ℕ → Bool
+begins_plainly bs = nat_lt (length bs) 2 || (not (get_or bs 0 0 == 48) && not (get_or bs 0 0 == 43))
 
 -- two words write these numbers
 abbrev pub AreTwo : List ℕ → ℕ → ℕ → Type 0

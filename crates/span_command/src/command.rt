@@ -97,19 +97,48 @@ pub fn read_command(line: &str) -> Option<Command<'_>>
 {
     match word_and_rest(line) {
         None => read_lone_word(line),
-        Some((word, rest)) => match word {
-            "param" => read_param(rest),
-            "insert" => read_write(MutationKind::Insert, rest),
-            "update" => read_write(MutationKind::Update, rest),
-            "upsert" => read_write(MutationKind::InsertOrUpdate, rest),
-            "delete" => read_delete(rest),
-            "split" => read_split(rest),
-            "load" => read_load(rest),
-            "open" => read_open(rest),
-            "query" => read_query(rest),
-            "explain" => Some(Command::Explain { text: rest }),
-            word => read_numbered(word, rest),
-        },
+        Some((word, rest)) => read_words(word, rest),
+    }
+}
+
+/// The command of a word and what follows its space. Most commands of a script have only numbers after their word, so that these are
+/// looked for first where a digit follows.
+fn read_words<'a>(word: &str, rest: &'a str) -> Option<Command<'a>>
+    requires { IsWord word.now }
+    ensures { IsReadAs (spaced word.now rest.now) result }
+{
+    if begins_with_digit(rest) {
+        if let Some(command) = read_numbered(word, rest) {
+            return Some(command);
+        }
+    }
+    read_named(word, rest)
+}
+
+fn begins_with_digit(text: &str) -> bool {
+    match text.as_bytes().first() {
+        Some(first) => first.is_ascii_digit(),
+        None => false,
+    }
+}
+
+/// The command of a word and what follows its space, by the word alone.
+fn read_named<'a>(word: &str, rest: &'a str) -> Option<Command<'a>>
+    requires { IsWord word.now }
+    ensures { IsReadAs (spaced word.now rest.now) result }
+{
+    match word {
+        "param" => read_param(rest),
+        "insert" => read_write(MutationKind::Insert, rest),
+        "update" => read_write(MutationKind::Update, rest),
+        "upsert" => read_write(MutationKind::InsertOrUpdate, rest),
+        "delete" => read_delete(rest),
+        "split" => read_split(rest),
+        "load" => read_load(rest),
+        "open" => read_open(rest),
+        "query" => read_query(rest),
+        "explain" => Some(Command::Explain { text: rest }),
+        word => read_numbered(word, rest),
     }
 }
 
@@ -134,8 +163,8 @@ fn read_numbered<'a>(word: &str, numbers: &str) -> Option<Command<'a>>
         "clock" => read_clock(numbers),
         "prepare" => read_prepare(numbers),
         "decide" => read_decide(numbers),
-        "abort" => read_abort(numbers),
         "apply" => read_apply(numbers),
+        "abort" => read_abort(numbers),
         "advance" => read_advance(numbers),
         "scan" => read_scan(numbers),
         "finish" => read_finish(numbers),

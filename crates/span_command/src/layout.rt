@@ -11,7 +11,7 @@ ghost use Rattle.span_schema.specs.Numbers.{IsTable, columns_of, column_named, n
 ghost use Rattle.span_command.specs.Columns.{AreBelow, ArePlaces, AreNamed, IsUnplaced, NamesNone};
 ghost use Rattle.span_command.specs.Layouts.{IsFieldCell, IsKeyCell, IsColumnCell, IsColumnValue, IsOfRecord, IsRowOf, column_names, heading_of, IsKeyField, IsCellField, outside_key, AreWithin, IsLayout, IsLayoutOf, IsKeyLayoutOf, LacksKey, HasNoLayout};
 
-use crate::record_reader::{at_comma, lent_fields, plain_fields, read_fields};
+use crate::record_reader::{Texts, at_comma, lent_fields, push_plain_fields, read_fields};
 use csv::StringRecord;
 use span_mutate::batch::{BatchRow, Heading};
 use span_mutate::mutation::{Mutation, MutationKind, NamedValue};
@@ -124,13 +124,12 @@ impl Layout {
             ⊎ ((why ≡ Refusal.WrongType)
             × ((m : Mutation) → ¬ IsOfRecord self.now kind (record_fields text.now) m))) }
     {
-        match plain_fields(alloc, text)? {
-            Some(pieces) => self.mutation_of(alloc, kind, pieces.as_slice()),
-            None => {
-                read_fields(alloc, text, fields)?;
-                self.mutation(alloc, kind, fields)
-            }
+        let mut pieces = Texts::new(alloc);
+        if push_plain_fields(text, &mut pieces)? {
+            return self.mutation_of(alloc, kind, pieces.as_slice());
         }
+        read_fields(alloc, text, fields)?;
+        self.mutation(alloc, kind, fields)
     }
 
     /// The row of the record that a text is: under the layout's heading it is the mutation that `read_mutation` makes, without the names.
@@ -148,13 +147,12 @@ impl Layout {
             ⊎ ((why ≡ Refusal.WrongType)
             × ((kind : MutationKind) (m : Mutation) → ¬ IsOfRecord self.now kind (record_fields text.now) m))) }
     {
-        match plain_fields(alloc, text)? {
-            Some(pieces) => self.row_of(alloc, pieces.as_slice()),
-            None => {
-                read_fields(alloc, text, fields)?;
-                self.row(alloc, fields)
-            }
+        let mut pieces = Texts::new(alloc);
+        if push_plain_fields(text, &mut pieces)? {
+            return self.row_of(alloc, pieces.as_slice());
         }
+        read_fields(alloc, text, fields)?;
+        self.row(alloc, fields)
     }
 
     /// What the mutations have in common that rows of the layout's records are. The names are moved. `OutOfMemory` is the only refusal.

@@ -43,32 +43,38 @@ pub fn read_fields(alloc: Global, text: &str, fields: &mut StringRecord) -> Resu
     }
 }
 
-/// The fields of the record that a text is, where they are its pieces between commas; None where the text is empty or has a quote, a CR,
-/// an LF, or a byte order mark at its front. Up to 16 fields take no memory.
-pub(crate) fn plain_fields(alloc: Global, text: &str) -> Result<Option<Texts<'_>>, AllocError>
-    ensures { IfOk result (λ found. IfSome found (λ fields. texts fields.items ≡ record_fields text.now)) }
+/// Adds the fields of the record that a text is, where they are its pieces between commas, to those that are lent. False where the text is
+/// empty or has a quote, a CR, an LF, or a byte order mark at its front: what was added then means nothing. Up to 16 fields take no memory,
+/// and none is moved after it was added.
+pub(crate) fn push_plain_fields<'a>(
+    text: &'a str,
+    found: &mut Texts<'a>,
+) -> Result<bool, AllocError>
+    ensures { IfOk result
+        (λ is_plain. is_plain ≡ true → texts found.new.items ≡ texts found.old.items ++ record_fields text.now) }
 {
     if text.is_empty() || may_be_marked(text.as_bytes()) {
-        return Ok(None);
+        return Ok(false);
     }
-    pieces_of(alloc, text)
+    push_pieces(text, found)
 }
 
-/// The pieces of the text between its commas, one more than it has commas; None where it has a quote, a CR or an LF.
-fn pieces_of(alloc: Global, text: &str) -> Result<Option<Texts<'_>>, AllocError>
-    ensures { IfOk result (λ found. IfSome found (λ fields. (texts fields.items ≡ pieces text.now) × IsUnmarked text.now)) }
+/// Adds the pieces of the text between its commas, one more than it has commas. False where it has a quote, a CR or an LF.
+fn push_pieces<'a>(text: &'a str, found: &mut Texts<'a>) -> Result<bool, AllocError>
+    ensures { IfOk result
+        (λ is_plain. is_plain ≡ true
+        → (texts found.new.items ≡ texts found.old.items ++ pieces text.now) × IsUnmarked text.now) }
 {
-    let mut found = SmallVec::new(alloc);
     let mut rest = text;
     while let Some((piece, following)) = at_plain_comma(rest) {
         found.push(piece)?;
         rest = following;
     }
     if !is_piece(rest) {
-        return Ok(None);
+        return Ok(false);
     }
     found.push(rest)?;
-    Ok(Some(found))
+    Ok(true)
 }
 
 /// Whether the text has no comma, no quote, no CR and no LF.

@@ -5,9 +5,8 @@ ghost use Rattle.span_lexer.specs.Characters as character;
 ghost use Rattle.span_lexer.specs.Characters.{begins};
 ghost use Rattle.span_truetime.specs.declared.bound.Bound.{Bound};
 ghost use Rattle.span_value.specs.declared.value.Kind.{Kind};
-ghost use Rattle.span_command.specs.Words.{IsWord, IsNumber, AreTwo, AreThree, IsBound, is_name_text, type_name, spaced};
+ghost use Rattle.span_command.specs.Words.{IsWord, IsNumber, begins_plainly, AreTwo, AreThree, IsBound, is_name_text, type_name, spaced};
 
-use itoa::Buffer;
 use span_lexer::character::{is_letter, is_word};
 use span_lexer::lexer::LONGEST_WORD;
 use span_lexer::word::reserved_word;
@@ -22,11 +21,21 @@ pub fn number_of(word: &str) -> Option<u64>
         return None;
     };
     // The library's reader also takes a plus and leading zeros.
-    if Buffer::new().format(number) == word {
+    if begins_plainly(word.as_bytes()) {
         Some(number)
     } else {
         None
     }
+}
+
+/// Whether a number, as the library reads it, is written without a plus and without a leading zero.
+fn begins_plainly(digits: &[u8]) -> bool
+    ensures { result ≡ begins_plainly digits.now }
+{
+    if digits.len() < 2 {
+        return true;
+    }
+    digits[0] != b'0' && digits[0] != b'+'
 }
 
 /// The two numbers that two words write.

@@ -1,8 +1,10 @@
+use Rattle.std.proofs.Common.{refl}
+use Rattle.span_command.specs.Words.{spaced}
 use Rattle.span_command.proofs.Refusing.{numbered}
-use Rattle.span_command.proofs.command.read_command.Goals as goal
+use Rattle.span_command.proofs.command.read_named.Goals as goal
 
 pub returns-in_default : goal.returns-in_default
-returns-in_default c = numbered c.args.line.now c.in-Some.word.now c.in-Some.rest.now c.in-Some.ensures.0 c.in-Some.ensures.1 (record {
+returns-in_default c = numbered (spaced c.args.word.now c.args.rest.now) c.args.word.now c.args.rest.now c.requires refl (record {
   param = c.in_default.not-param;
   insert = c.in_default.not-insert;
   update = c.in_default.not-update;
