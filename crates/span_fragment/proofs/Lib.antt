@@ -15,3 +15,4 @@ mod Placing
 mod ShortKeys
 mod TargetRows
 mod Along
+mod WholeKeys

@@ -1,9 +1,12 @@
 -- Comparisons of numbers with literals, at packed rows.
 use Rattle.std.proofs.Common.{◌≡◌, inl, inr, ◌∙◌, ℕ, ℤ, zero, suc, ◌+◌, ◌<◌, ◌≤◌, ◌^◌, ◌==◌, Bool, true, false, not, List, [], ◌∷◌, ◌++◌, Option, Some, None, length, map, take, drop, get_or, refl, sym, ap, subst, arith, if◌then◌else◌}
-use Rattle.std.specs.Prelude.{◌&&◌}
+use Rattle.std.specs.Prelude.{◌&&◌, ◌||◌, IfSome}
 use Rattle.std.specs.Int.{to_be_bytes, cast_unsigned, w64}
 use Rattle.std.specs.List.{AllByRecursion, fold, list_all}
 use Rattle.std.specs.Option.{unwrap_or, option_or}
+use Rattle.std.specs.Ordering.{ordering_reverse}
+use Rattle.std.specs.declared.cmp.Ordering.{Ordering}
+use Rattle.std.specs.declared.cmp.Ordering.TheVariants as order
 use Rattle.std.proofs.lemmas.Bool.{and_parts, not-true}
 use Rattle.std.proofs.Math.Seq.{take-suc}
 use Rattle.std.proofs.lemmas.List.{drop_more, drop-drop, map-append, take_all}
@@ -13,8 +16,10 @@ use Rattle.span_value.specs.declared.value.Value.TheVariants.{Null, Int, Str, By
 use Rattle.span_value.specs.declared.value.Kind.{Kind}
 use Rattle.span_value.specs.declared.value.Kind.TheVariants as kind
 use Rattle.span_value.specs.declared.truth.Outcome.{Outcome}
-use Rattle.span_value.specs.declared.truth.Outcome.TheVariants.{Val}
+use Rattle.span_value.specs.declared.truth.Outcome.TheVariants.{Val, Fault}
 use Rattle.span_value.specs.declared.truth.Truth.TheVariants.{False, True, Unknown}
+use Rattle.span_value.specs.Orders.{value_order}
+use Rattle.span_value.proofs.Total.{value_order_total}
 use Rattle.span_schema.specs.declared.table.Table.{Table}
 use Rattle.span_schema.specs.Fitting.{Fits}
 use Rattle.span_schema.specs.Numbers.{key_places, other_places, other_kinds}
@@ -29,15 +34,16 @@ use Rattle.span_expr.specs.declared.expr.Expr.TheVariants.{And, Between, Column,
 use Rattle.span_expr.specs.declared.expr.Expr.TheFolds.{fold-roll-Expr}
 use Rattle.span_expr.specs.declared.expr.Expr.TheOpen.{Expr-F}
 use Rattle.span_expr.specs.declared.expr.Comparison.{Comparison}
+use Rattle.span_expr.specs.declared.expr.Comparison.TheVariants as comparison
 use Rattle.span_expr.specs.declared.condition.Condition.{Condition}
 use Rattle.span_expr.specs.declared.condition.Condition.TheVariants as condition
 use Rattle.span_expr.specs.Meaning.{all_of, and_also, at_operands, between, val}
 use Rattle.span_expr.specs.Operators as operators
-use Rattle.span_expr.specs.Outcomes.{both, condition_of, outcome_of, strict}
+use Rattle.span_expr.specs.Outcomes.{both, condition_of, is_null, outcome_of, strict}
 use Rattle.span_query.specs.Rows.{Row}
 use Rattle.span_fragment.specs.declared.number_test.NumberTest.{NumberTest}
 use Rattle.span_fragment.specs.Meaning.{value_for, declared_row}
-use Rattle.span_fragment.specs.NumberTests.{meets_value, meets, AddsNeeded, AddsTests, AreMoreTests, AreNeededFor, AreSomeTests, AreTestsOf, IsKnown, IsNumberAt, IsNumberCell, IsRestOf, IsTestOf, number_or_null, IsNumberFound, IsWhetherPass, and_all, between_at, comparison_at, condition_at}
+use Rattle.span_fragment.specs.NumberTests.{meets_value, meets, AddsNeeded, AddsTests, AreMoreTests, AreNeededFor, AreSomeTests, AreTestsOf, IsKnown, IsNumberAt, IsNumberCell, IsRestOf, IsTestOf, number_or_null, IsNumberFound, IsWhetherPass, and_all, between_at, comparison_at, condition_at, exchanged}
 use Rattle.span_fragment.proofs.KeyPlaces.{ArePlacesApart}
 use Rattle.span_fragment.proofs.DeclaredRows.{column_at}
 use Rattle.span_fragment.proofs.PlacedRows.{others_placed, others_apart}
@@ -267,6 +273,64 @@ comparison_test schema n place left right test column literal cell = record {
       let fits = number_or_null_at (other_kinds schema n) t.cells test.cell (subst P (ap (other_kinds schema) own) typed.1.0) cell.number in
       subst (λ (c : Condition). IsKnown c (meets t.cells test)) (sym all) (value_known test v fits);
 }
+
+-- ---- a literal on the left
+
+holds_exchanged : (c : Comparison) (o : Ordering) → operators.holds c (ordering_reverse o) ≡ operators.holds (exchanged c) o
+holds_exchanged comparison.Equal order.Less = refl
+holds_exchanged comparison.Equal order.Equal = refl
+holds_exchanged comparison.Equal order.Greater = refl
+holds_exchanged comparison.NotEqual order.Less = refl
+holds_exchanged comparison.NotEqual order.Equal = refl
+holds_exchanged comparison.NotEqual order.Greater = refl
+holds_exchanged comparison.Less order.Less = refl
+holds_exchanged comparison.Less order.Equal = refl
+holds_exchanged comparison.Less order.Greater = refl
+holds_exchanged comparison.AtMost order.Less = refl
+holds_exchanged comparison.AtMost order.Equal = refl
+holds_exchanged comparison.AtMost order.Greater = refl
+holds_exchanged comparison.Greater order.Less = refl
+holds_exchanged comparison.Greater order.Equal = refl
+holds_exchanged comparison.Greater order.Greater = refl
+holds_exchanged comparison.AtLeast order.Less = refl
+holds_exchanged comparison.AtLeast order.Equal = refl
+holds_exchanged comparison.AtLeast order.Greater = refl
+
+compare_exchanged : (c : Comparison) (v w : Value) → operators.compare_values c v w ≡ operators.compare_values (exchanged c) w v
+compare_exchanged c v w = by_nulls (is_null v) (is_null w)
+  where
+    same : operators.holds c (value_order v w) ≡ operators.holds (exchanged c) (value_order w v)
+    same = ap (operators.holds c) (value_order_total.antisymm v w) ∙ holds_exchanged c (value_order w v)
+
+    by_nulls : (a b : Bool) → (if a || b then Val Null else Val (Flag (operators.holds c (value_order v w)))) ≡ (if b || a then Val Null else Val (Flag (operators.holds (exchanged c) (value_order w v))))
+    by_nulls true true = refl
+    by_nulls true false = refl
+    by_nulls false true = refl
+    by_nulls false false = ap (λ (b : Bool). Val (Flag b)) same
+
+strict_exchanged : (c : Comparison) (a b : Outcome) → strict (operators.compare_values c) a b ≡ strict (operators.compare_values (exchanged c)) b a
+strict_exchanged c (Val v) (Val w) = compare_exchanged c v w
+strict_exchanged c (Val v) Fault = refl
+strict_exchanged c Fault (Val w) = refl
+strict_exchanged c Fault Fault = refl
+
+-- the test of a comparison with its sides exchanged is that of the comparison
+exchanged_test : (schema : List Table) (n : ℕ) (left right : Expr) (c : Comparison) (test : NumberTest) → IsTestOf schema n (comparison_at schema right (exchanged c) left) test
+    → IsTestOf schema n (comparison_at schema left c right) test
+exchanged_test schema n left right c test is = record {
+  number = is.number;
+  judged = λ t typed own.
+      let row : Row = declared_row schema t in
+      let same : comparison_at schema left c right t ≡ comparison_at schema right (exchanged c) left t = ap condition_of (strict_exchanged c (val row left) (val row right)) in
+      subst (λ (d : Condition). IsKnown d (meets t.cells test)) (sym same) (is.judged t typed own);
+}
+
+pub exchanged_found : (schema : List Table) (n : ℕ) (left right : Expr) (c d : Comparison) (found : Option NumberTest) → d ≡ exchanged c → IfSome found (λ test. IsTestOf schema n (comparison_at schema right d left) test)
+    → IfSome found (λ test. IsTestOf schema n (comparison_at schema left c right) test)
+exchanged_found schema n left right c d None is none = none
+exchanged_found schema n left right c d (Some test) is so =
+    let P : Comparison → Type 0 = λ e. IsTestOf schema n (comparison_at schema right e left) test in
+    exchanged_test schema n left right c test (subst P is so)
 
 -- ---- what an AND comes to
 

@@ -11,3 +11,4 @@ pub mod LeafReaders
 pub mod NumberTests
 pub mod Scans
 pub mod Steps
+pub mod WholeKeys

@@ -15,7 +15,7 @@ use Rattle.span_mutate.specs.declared.row.TableRow.{TableRow}
 use Rattle.span_mutate.specs.Typed.{IsTyped}
 use Rattle.span_expr.specs.declared.expr.Expr.{Expr}
 use Rattle.span_expr.specs.declared.expr.Comparison.{Comparison}
-use Rattle.span_expr.specs.declared.expr.Comparison.TheVariants.{AtLeast, AtMost}
+use Rattle.span_expr.specs.declared.expr.Comparison.TheVariants.{Equal, NotEqual, Less, AtMost, Greater, AtLeast}
 use Rattle.span_expr.specs.declared.condition.Condition.{Condition}
 use Rattle.span_expr.specs.declared.condition.Condition.TheVariants as condition
 use Rattle.span_expr.specs.Meaning.{and_also, val}
@@ -55,6 +55,15 @@ condition_at schema e t = condition_of (val (declared_row schema t) e)
 abbrev pub comparison_at : List Table → Expr → Comparison → Expr → TableRow → Condition
 comparison_at schema left c right t =
     condition_of (strict (compare_values c) (val (declared_row schema t) left) (val (declared_row schema t) right))
+
+-- the comparison with its sides exchanged
+abbrev pub exchanged : Comparison → Comparison
+exchanged Equal = Equal
+exchanged NotEqual = NotEqual
+exchanged Less = Greater
+exchanged AtMost = AtLeast
+exchanged Greater = Less
+exchanged AtLeast = AtMost
 
 -- what `operand BETWEEN low AND high` comes to
 abbrev pub between_at : List Table → Expr → Expr → Expr → TableRow → Condition

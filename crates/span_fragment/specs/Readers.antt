@@ -1,5 +1,5 @@
 -- Reading of a table's rows, of the columns alone that a mask has.
-use Rattle.std.specs.Prelude.{◌≡◌, ℕ, ◌≤◌, List, Bool, true, not, length, drop, map, replicate, if◌then◌else◌}
+use Rattle.std.specs.Prelude.{◌≡◌, ℕ, ◌≤◌, List, Bool, true, not, length, IfSome, drop, map, replicate, if◌then◌else◌}
 use Rattle.span_value.specs.declared.value.Value.{Value}
 use Rattle.span_schema.specs.declared.table.Table.{Table}
 use Rattle.span_schema.specs.Numbers.{key_places, other_places}
@@ -15,6 +15,7 @@ use Rattle.span_fragment.specs.Meaning.{declared_row}
 use Rattle.span_fragment.specs.Longest.{IsLongest}
 use Rattle.span_fragment.specs.Placed.{is_wanted, wants_none}
 use Rattle.span_fragment.specs.Steps.{key_steps}
+use Rattle.span_fragment.specs.WholeKeys.{IsTableByLength}
 
 -- the place of a column among those that the mask has, or a place after all of them
 abbrev pub target : List Bool → ℕ → ℕ
@@ -24,6 +25,7 @@ target ms place = if is_wanted ms place then rank ms place else length ms
 pub record IsReader (schema : List Table) (r : TableReader) : Type 0 where
   pub narrow : length r.mask ≤ width_of schema r.table
   pub longest : IsLongest schema r.table r.most
+  pub by_length : IfSome r.by_length (IsTableByLength schema r.table)
   pub steps : r.steps ≡ key_steps schema r.table
   pub all : r.all ≡ replicate (picked_width r.mask) true
   pub key : r.key ≡ map (target r.mask) (key_places schema r.table)

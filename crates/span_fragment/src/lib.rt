@@ -18,3 +18,4 @@ pub mod run;
 mod scan;
 mod short;
 mod steps;
+mod whole_key;

@@ -83,8 +83,23 @@ fn literal_number(expr: &Expr) -> Option<i64>
     }
 }
 
-/// The test that a comparison is. None where it is not of a column of numbers outside the key with a number.
-fn number_test(
+/// The comparison with its sides exchanged.
+fn exchanged(comparison: Comparison) -> Comparison
+    ensures { result ≡ spec.exchanged comparison }
+{
+    match comparison {
+        Comparison::Equal => Comparison::Equal,
+        Comparison::NotEqual => Comparison::NotEqual,
+        Comparison::Less => Comparison::Greater,
+        Comparison::AtMost => Comparison::AtLeast,
+        Comparison::Greater => Comparison::Less,
+        Comparison::AtLeast => Comparison::AtMost,
+    }
+}
+
+/// The test that a comparison is whose left side is a column. None where that is not one of numbers outside the key, or the right side is
+/// no number.
+fn column_test(
     schema: &Schema,
     table: usize,
     left: &Expr,
@@ -105,6 +120,24 @@ fn number_test(
         comparison,
         number,
     })
+}
+
+/// The test that a comparison is. None where it is not of a column of numbers outside the key with a number, on either side.
+fn number_test(
+    schema: &Schema,
+    table: usize,
+    left: &Expr,
+    comparison: Comparison,
+    right: &Expr,
+) -> Option<NumberTest>
+    requires { IsTable schema.now table }
+    ensures { IfSome result
+        (λ test. spec.IsTestOf schema.now table (comparison_at schema.now left.now comparison right.now) test) }
+{
+    match literal_number(left) {
+        None => column_test(schema, table, left, comparison, right),
+        Some(_) => column_test(schema, table, right, exchanged(comparison), left),
+    }
 }
 
 /// The tests of packed cells that a condition has.

@@ -14,6 +14,7 @@ use super::keys::put_key;
 use super::longest::longest_key;
 use super::place::{is_wanted, wants_none};
 use super::steps::{KeyStep, goes_along, key_steps};
+use super::whole_key::{WholeKey, is_own_by_length, table_by_length};
 use span_expr::rank::rank;
 use span_planner::narrow::picked_width;
 use span_planner::table::width_of;
@@ -29,6 +30,8 @@ pub(crate) struct TableReader {
     pub table: usize,
     /// A number of bytes that no coded key of the table exceeds.
     pub most: usize,
+    /// Its keys without NULL, where the length of a key decides whether it is one of the table.
+    by_length: Option<WholeKey>,
     /// The steps of its coded keys.
     steps: Seq<KeyStep>,
     /// The columns that are read.
@@ -125,6 +128,7 @@ pub(crate) fn table_reader(
     Ok(TableReader {
         table,
         most: longest_key(schema, table),
+        by_length: table_by_length(schema, table),
         steps: key_steps(alloc, schema, table)?,
         mask: copy_mask(alloc, front)?,
         all,
@@ -155,6 +159,11 @@ impl TableReader {
     {
         if key.len() > self.most {
             return false;
+        }
+        if let Some(at) = &self.by_length {
+            if let Some(is_own) = is_own_by_length(schema, self.table, at, key) {
+                return is_own;
+            }
         }
         goes_along(schema, self.table, self.steps.as_slice(), key)
     }
