@@ -117,18 +117,30 @@ pub(crate) fn row_under<'a>(
 }
 
 /// The row at a key: what the mutations left there, and else what is there now.
-pub(crate) fn row_over<'a>(
+fn row_over<'a>(store: &'a Lookups<'a>, changes: &'a Changes, key: &Key) -> Option<&'a Seq<u8>>
+    requires { AreInOrder store.now }
+    ensures { option_copied result ≡ row_over store.now changes.now key.now }
+{
+    match changes.made.get(key) {
+        Some(row) => Some(row.row()),
+        None if changes.removed.contains(key) => None,
+        None => store.row_now(key.as_slice()),
+    }
+}
+
+/// The same, where the search in the store begins at `near`, a chain from `Lookups::near`.
+pub(crate) fn row_over_near<'a>(
     store: &'a Lookups<'a>,
     changes: &'a Changes,
     key: &Key,
+    near: u32,
 ) -> Option<&'a Seq<u8>>
     requires { AreInOrder store.now }
     ensures { option_copied result ≡ row_over store.now changes.now key.now }
 {
     match changes.made.get(key) {
         Some(made) => Some(made.row()),
-        None if changes.removed.contains(key) => None,
-        None => store.row_now(key.as_slice()),
+        None => row_under(store, changes, key, near),
     }
 }
 

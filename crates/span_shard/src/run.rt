@@ -15,7 +15,7 @@ ghost use Rattle.span_shard.specs.Reading.{IsFault, IsPrepareRefusal};
 use super::ahead::Ahead;
 use super::lookups::Lookups;
 use super::merge::pack_merged;
-use super::overlay::{Changes, has_row, keys_under, row_over, row_under};
+use super::overlay::{Changes, has_row, keys_under, row_over_near, row_under};
 use span_keycode::decode::decode_key;
 use span_keycode::encode::encode_key;
 use span_keycode::key::Key;
@@ -149,6 +149,7 @@ fn row_put(
     known: Option<&CheckedMutation>,
     mutation: &CheckedMutation,
     key: &Key,
+    near: u32,
 ) -> Result<Seq<u8>, Refusal>
     requires order { AreInOrder store.now }
     requires typed { IsTypedMutation schema.now mutation.now }
@@ -158,7 +159,7 @@ fn row_put(
         (IsPutRow schema.now store.now changes.now mutation.now)
         (IsNoPut schema.now store.now changes.now mutation.now) }
 {
-    let before = row_over(store, changes, key);
+    let before = row_over_near(store, changes, key, near);
     check_presence(mutation.kind, before.is_some())?;
     if lacks_parent(alloc, schema, store, changes, known, mutation)? {
         return Err(Refusal::ParentMissing);
@@ -248,7 +249,7 @@ fn run_put(
     match row_alone(alloc, schema, store, changes, known, mutation, &key, near)? {
         Some(row) => add_row(changes, key, row, near),
         None => {
-            let row = row_put(alloc, schema, store, changes, known, mutation, &key)?;
+            let row = row_put(alloc, schema, store, changes, known, mutation, &key, near)?;
             Ok(changes.put(key, row, near)?)
         }
     }
