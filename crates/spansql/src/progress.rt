@@ -27,10 +27,24 @@ impl Counts {
         ensures bytes { self.new.bytes ≡ counted self.old.bytes (length bytes.now) }
         ensures all_bytes { self.new.all_bytes ≡ self.old.all_bytes }
     {
-        let lines = bytes.iter().filter(|byte| **byte == b'\n').count();
+        let lines = count_line_feeds(bytes);
         self.lines = self.lines.saturating_add(lines as u64);
         self.bytes = self.bytes.saturating_add(bytes.len() as u64);
     }
+}
+
+/// How many of the bytes are an LF. A `for`, since a filter's closure is called for each byte.
+#[tactic(auto, using(std::proofs::lemmas::List::Sums::count_by_more_yes, std::proofs::lemmas::List::Sums::count_by_more_no))]
+fn count_line_feeds(bytes: &[u8]) -> usize
+    ensures { result ≡ count_by (λ byte. byte == 10) bytes.now }
+{
+    let mut count = 0;
+    for byte in bytes {
+        if *byte == b'\n' {
+            count += 1;
+        }
+    }
+    count
 }
 
 impl fmt::Display for Counts {
