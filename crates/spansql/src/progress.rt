@@ -1,5 +1,5 @@
 //! Standard error: how far a script was read.
-ghost use Rattle.std.specs.Prelude.{◌≡◌, ◌==◌, count_by, length};
+ghost use Rattle.std.specs.Prelude.{◌≡◌, ◌==◌, IfSome, count_by, length};
 ghost use Rattle.spansql.specs.Counts.{counted};
 
 use span_core::Refusal;
@@ -70,6 +70,7 @@ impl fmt::Display for Counts {
 #[derive(Drop)]
 pub struct Progress<'a, R> {
     rt: &'a R,
+    /// What was read; it is counted only where it is reported.
     counts: Counts,
     /// When it was reported last, or the run began. None where it is not reported at all.
     since: Option<Instant>,
@@ -93,6 +94,20 @@ impl<'a, R: Eprint + Clock> Progress<'a, R> {
                 all_bytes,
             },
             since,
+        }
+    }
+
+    /// Counts bytes that were read, where they are reported: else no byte is looked at.
+    fn count(&mut self, bytes: &[u8])
+        ensures lines { IfSome self.old.since (λ _. self.new.counts.lines
+            ≡ counted self.old.counts.lines (count_by (λ byte. byte == 10) bytes.now)) }
+        ensures bytes { IfSome self.old.since (λ _. self.new.counts.bytes
+            ≡ counted self.old.counts.bytes (length bytes.now)) }
+        ensures all_bytes { self.new.counts.all_bytes ≡ self.old.counts.all_bytes }
+        ensures since { self.new.since ≡ self.old.since }
+    {
+        if self.since.is_some() {
+            self.counts.add(bytes);
         }
     }
 
@@ -140,7 +155,7 @@ impl<I: Input, R: Eprint + Clock> Input for Watched<'_, I, R> {
     fn read(&mut self, buffer: &mut [u8]) -> Result<usize, Refusal> {
         self.progress.report();
         let count = self.input.read(buffer)?;
-        self.progress.counts.add(&buffer[..count]);
+        self.progress.count(&buffer[..count]);
         Ok(count)
     }
 }
