@@ -88,15 +88,20 @@ fn take_next<I: Input, O: Output>(
     Err(Refusal::OutOfMemory)
 }
 
-/// Reports a refused command, if one was: that of a line, or of the end of the script.
+/// Reports a refused command, if one was. Most lines have none: so no more than that is asked here.
 fn report_refused<R: Reports>(reports: &mut R, refused: Option<Refused>, line: Option<Line<'_>>) {
     if let Some(refused) = refused {
-        let query = match line {
-            Some(line) => query_of(line),
-            None => None,
-        };
-        reports.report(refused, query);
+        report_one(reports, refused, line);
     }
+}
+
+/// Reports the refused command of a line, or of the end of the script.
+fn report_one<R: Reports>(reports: &mut R, refused: Refused, line: Option<Line<'_>>) {
+    let query = match line {
+        Some(line) => query_of(line),
+        None => None,
+    };
+    reports.report(refused, query);
 }
 
 /// Writes what was answered, where it is time to.
