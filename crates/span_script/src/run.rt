@@ -2,7 +2,7 @@
 ghost use Rattle.std.specs.Prelude.{◌≡◌, ◌⊎◌, ℕ, List, [], Some, IfErr, IfOk, OnOk, MatchBool};
 ghost use Rattle.std.specs.Io.KnownBytes.{Appends, Keeps, append_known};
 ghost use Rattle.span_command.specs.Device.{risen};
-ghost use Rattle.span_command.specs.Unread.{Stands, TakesNext};
+ghost use Rattle.span_command.specs.Unread.{IsStillToCome, TakesNext};
 ghost use Rattle.span_script.specs.Scripts.{IsAnswerText};
 
 use super::answer::Answers;
@@ -66,7 +66,7 @@ fn take_next<I: Input, O: Output>(
     answers: &mut Answers,
     output: &mut O,
 ) -> Result<bool, Refusal>
-    ensures next { IfOk result (λ more. (text : List ℕ) → Stands lines.old (I.remaining input.old) text
+    ensures next { IfOk result (λ more. (text : List ℕ) → IsStillToCome lines.old (I.remaining input.old) text
         → MatchBool more (TakesNext lines.new (I.remaining input.new) text) (text ≡ [])) }
     ensures written { OnOk result (Keeps
         (append_known (O.written output.old) answers.old)
