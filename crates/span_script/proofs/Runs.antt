@@ -6,7 +6,7 @@ use Rattle.span_machine.specs.Machine.{Machine}
 use Rattle.span_command.specs.declared.line.Line.{Line}
 use Rattle.span_command.specs.declared.line.Line.TheVariants.{Text, Unreadable}
 use Rattle.span_command.specs.declared.line.Lines.{Lines}
-use Rattle.span_command.specs.Unread.{IsTaken, ReadsAs, Stands, TakesNext}
+use Rattle.span_command.specs.Unread.{IsTaken, ReadsAs, IsStillToCome, TakesNext}
 use Rattle.span_script.specs.Scripts.{ScriptState, HasText, AreLines, AreAnswers, IsAnswerText, IsFirst, end_answer}
 use Rattle.span_script.specs.Sessions.{AddsLine, text_of}
 use Rattle.span_script.proofs.Written.{wrote_all, wrote_none, wrote_pending, keeps_on, more_pending}
@@ -32,7 +32,7 @@ module _ (lines : Lines) (known : Option (List ℕ)) (text : List ℕ) (more : B
 pub record IsAnsweredSoFar (schema : List Table) (m : Machine) (script : List ℕ) (old : Option (List ℕ)) (lines : Lines) (known : Option (List ℕ))
     (state : ScriptState) (mid : Machine) (now : Option (List ℕ)) (pending : List ℕ) : Type 0 where
   pub rest : List ℕ
-  pub stands : Stands lines known rest
+  pub stands : IsStillToCome lines known rest
   pub first : ScriptState
   pub is_first : IsFirst first
   pub answers : List ℕ
@@ -43,11 +43,11 @@ pub record IsAnsweredSoFar (schema : List Table) (m : Machine) (script : List �
 module _ (schema : List Table) (m : Machine) (script : List ℕ) (old : Option (List ℕ)) where
   -- nothing is read and nothing pending
   pub none_so_far : (lines : Lines) (known : Option (List ℕ)) (state : ScriptState) (pending : List ℕ) → known ≡ Some script
-      → ((rest : List ℕ) → Stands lines (Some rest) rest) → IsFirst state → pending ≡ []
+      → ((rest : List ℕ) → IsStillToCome lines (Some rest) rest) → IsFirst state → pending ≡ []
       → IsAnsweredSoFar schema m script old lines known state m old pending
   none_so_far lines known state pending is_known stands is none = record {
     rest = script;
-    stands = subst (λ (k : Option (List ℕ)). Stands lines k script) (sym is_known) (stands script);
+    stands = subst (λ (k : Option (List ℕ)). IsStillToCome lines k script) (sym is_known) (stands script);
     first = state;
     is_first = is;
     answers = [];

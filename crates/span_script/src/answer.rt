@@ -95,6 +95,17 @@ impl Answers {
         Ok(())
     }
 
+    /// A byte as it is: for one character less work than a text of it.
+    #[tactic(auto, using(crate::proofs::Begun::begins_either))]
+    fn byte(&mut self, byte: u8) -> Result<(), Refusal>
+        ensures added { OnOk result (self.new ≡ self.old ++ byte ∷ []) }
+        ensures grows { Begins self.old self.new }
+        ensures memory { IsOkUnless result Refusal.OutOfMemory }
+    {
+        self.bytes.push(byte)?;
+        Ok(())
+    }
+
     #[tactic(auto, using(crate::proofs::Begun::begins_on))]
     fn number(&mut self, number: u64) -> Result<(), Refusal>
         ensures added { OnOk result (self.new ≡ self.old ++ decimal number) }
@@ -112,7 +123,7 @@ impl Answers {
         ensures memory { IsOkUnless result Refusal.OutOfMemory }
     {
         self.text(word)?;
-        self.text(" ")?;
+        self.byte(b' ')?;
         self.number(number)
     }
 
@@ -124,7 +135,7 @@ impl Answers {
         ensures memory { IsOkUnless result Refusal.OutOfMemory }
     {
         self.text(word)?;
-        self.text("\n")
+        self.byte(b'\n')
     }
 
     /// A line of a word and a number.
@@ -135,7 +146,7 @@ impl Answers {
         ensures memory { IsOkUnless result Refusal.OutOfMemory }
     {
         self.word_number(word, number)?;
-        self.text("\n")
+        self.byte(b'\n')
     }
 
     /// The answer to a refused command.

@@ -2,7 +2,7 @@
 ghost use Rattle.std.specs.Prelude.{◌≡◌, ◌⊎◌, ℕ, List, [], Some, IfErr, IfOk, OnOk, MatchBool};
 ghost use Rattle.std.specs.Io.KnownBytes.{Appends, Keeps, append_known};
 ghost use Rattle.span_command.specs.Device.{risen};
-ghost use Rattle.span_command.specs.Unread.{Stands, TakesNext};
+ghost use Rattle.span_command.specs.Unread.{IsStillToCome, TakesNext};
 ghost use Rattle.span_script.specs.Scripts.{IsAnswerText};
 
 use super::answer::Answers;
@@ -66,7 +66,7 @@ fn take_next<I: Input, O: Output>(
     answers: &mut Answers,
     output: &mut O,
 ) -> Result<bool, Refusal>
-    ensures next { IfOk result (λ more. (text : List ℕ) → Stands lines.old (I.remaining input.old) text
+    ensures next { IfOk result (λ more. (text : List ℕ) → IsStillToCome lines.old (I.remaining input.old) text
         → MatchBool more (TakesNext lines.new (I.remaining input.new) text) (text ≡ [])) }
     ensures written { OnOk result (Keeps
         (append_known (O.written output.old) answers.old)
@@ -88,15 +88,20 @@ fn take_next<I: Input, O: Output>(
     Err(Refusal::OutOfMemory)
 }
 
-/// Reports a refused command, if one was: that of a line, or of the end of the script.
+/// Reports a refused command, if one was. Most lines have none: so no more than that is asked here.
 fn report_refused<R: Reports>(reports: &mut R, refused: Option<Refused>, line: Option<Line<'_>>) {
     if let Some(refused) = refused {
-        let query = match line {
-            Some(line) => query_of(line),
-            None => None,
-        };
-        reports.report(refused, query);
+        report_one(reports, refused, line);
     }
+}
+
+/// Reports the refused command of a line, or of the end of the script.
+fn report_one<R: Reports>(reports: &mut R, refused: Refused, line: Option<Line<'_>>) {
+    let query = match line {
+        Some(line) => query_of(line),
+        None => None,
+    };
+    reports.report(refused, query);
 }
 
 /// Writes what was answered, where it is time to.

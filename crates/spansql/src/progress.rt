@@ -1,5 +1,5 @@
 //! Standard error: how far a script was read.
-ghost use Rattle.std.specs.Prelude.{◌≡◌, ◌==◌, count_by, length};
+ghost use Rattle.std.specs.Prelude.{◌≡◌, ◌==◌, IfSome, count_by, length};
 ghost use Rattle.spansql.specs.Counts.{counted};
 
 use span_core::Refusal;
@@ -27,10 +27,24 @@ impl Counts {
         ensures bytes { self.new.bytes ≡ counted self.old.bytes (length bytes.now) }
         ensures all_bytes { self.new.all_bytes ≡ self.old.all_bytes }
     {
-        let lines = bytes.iter().filter(|byte| **byte == b'\n').count();
+        let lines = count_line_feeds(bytes);
         self.lines = self.lines.saturating_add(lines as u64);
         self.bytes = self.bytes.saturating_add(bytes.len() as u64);
     }
+}
+
+/// How many of the bytes are an LF. A `for`, since a filter's closure is called for each byte.
+#[tactic(auto, using(std::proofs::lemmas::List::Sums::count_by_more_yes, std::proofs::lemmas::List::Sums::count_by_more_no))]
+fn count_line_feeds(bytes: &[u8]) -> usize
+    ensures { result ≡ count_by (λ byte. byte == 10) bytes.now }
+{
+    let mut count = 0;
+    for byte in bytes {
+        if *byte == b'\n' {
+            count += 1;
+        }
+    }
+    count
 }
 
 impl fmt::Display for Counts {
@@ -56,6 +70,7 @@ impl fmt::Display for Counts {
 #[derive(Drop)]
 pub struct Progress<'a, R> {
     rt: &'a R,
+    /// What was read; it is counted only where it is reported.
     counts: Counts,
     /// When it was reported last, or the run began. None where it is not reported at all.
     since: Option<Instant>,
@@ -79,6 +94,20 @@ impl<'a, R: Eprint + Clock> Progress<'a, R> {
                 all_bytes,
             },
             since,
+        }
+    }
+
+    /// Counts bytes that were read, where they are reported: else no byte is looked at.
+    fn count(&mut self, bytes: &[u8])
+        ensures lines { IfSome self.old.since (λ _. self.new.counts.lines
+            ≡ counted self.old.counts.lines (count_by (λ byte. byte == 10) bytes.now)) }
+        ensures bytes { IfSome self.old.since (λ _. self.new.counts.bytes
+            ≡ counted self.old.counts.bytes (length bytes.now)) }
+        ensures all_bytes { self.new.counts.all_bytes ≡ self.old.counts.all_bytes }
+        ensures since { self.new.since ≡ self.old.since }
+    {
+        if self.since.is_some() {
+            self.counts.add(bytes);
         }
     }
 
@@ -126,7 +155,7 @@ impl<I: Input, R: Eprint + Clock> Input for Watched<'_, I, R> {
     fn read(&mut self, buffer: &mut [u8]) -> Result<usize, Refusal> {
         self.progress.report();
         let count = self.input.read(buffer)?;
-        self.progress.counts.add(&buffer[..count]);
+        self.progress.count(&buffer[..count]);
         Ok(count)
     }
 }

@@ -1,6 +1,6 @@
 use Rattle.std.proofs.Common.{◌≡◌, ℕ, List}
 use Rattle.std.specs.Io.KnownBytes.{Keeps, append_known}
-use Rattle.span_command.specs.Unread.{Stands}
+use Rattle.span_command.specs.Unread.{IsStillToCome}
 use Rattle.span_script.proofs.run.take_next.Given as goal
 
 -- no device failed so far, no line was taken, and what was answered is written or pending
@@ -11,6 +11,6 @@ invariant-loop g l =
     record {
       input_works : g.I.Input.failures l.input ≡ g.I.Input.failures l.fn.input;
       output_works : g.O.Output.failures l.output ≡ g.O.Output.failures l.fn.output;
-      stands : (text : List ℕ) → Stands l.fn.lines (remaining l.fn.input) text → Stands l.lines (remaining l.input) text;
+      stands : (text : List ℕ) → IsStillToCome l.fn.lines (remaining l.fn.input) text → IsStillToCome l.lines (remaining l.input) text;
       written : Keeps (append_known (known l.fn.output) l.fn.answers) (append_known (known l.output) l.answers);
     }
