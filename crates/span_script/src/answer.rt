@@ -95,7 +95,7 @@ impl Answers {
         Ok(())
     }
 
-    /// A byte as it is: for one character less work than a text of it.
+    /// One byte, as it is: less work than a text of one character.
     #[tactic(auto, using(crate::proofs::Begun::begins_either))]
     fn byte(&mut self, byte: u8) -> Result<(), Refusal>
         ensures added { OnOk result (self.new ≡ self.old ++ byte ∷ []) }
