@@ -141,6 +141,8 @@ def cause(text, wanted, found):
         return "SQLite turns a sum beyond INT64 into a REAL"
     if sorted(map(repr, wanted)) == sorted(map(repr, found[1])) and re.search(r"GROUP BY|DISTINCT", capitals):
         return "order of groups: ours by first appearance, SQLite's sorted"
+    if sorted(map(repr, wanted)) == sorted(map(repr, found[1])) and re.search(r"\(SELECT [^()]* ORDER BY", capitals):
+        return "order of a derived table: ours is that of its ORDER BY, SQLite's is not kept"
     return None
 
 

@@ -2,7 +2,7 @@
 """Asks the proved program spansql queries that are made at random, and compares its answers with those of the reference.
 
     at_random.py [--sets N] [--texts N] [--seed N]      N sets, of N query texts each
-    at_random.py .. --write FOLDER                      writes the scripts, the answers that are wanted and the schema there, and asks nothing
+    at_random.py .. --write FOLDER                      writes the scripts and their schemas there, and asks nothing
 
 Of each set the rows are made at random too, and the keys are cut into slots at some of the root rows. The query texts are made for the planner:
 tables of one family and of two, joined by the whole root key, by a part of it or by anything, LEFT JOINs, derived tables, unions, conditions that
@@ -20,7 +20,9 @@ import reference
 import run
 import tables
 
-SCHEMA = """CREATE TABLE A (k INT64, s STRING(MAX), n INT64) PRIMARY KEY (k);
+# The schemas, one after another: keys of texts and numbers; keys of numbers, of two tables with one length; and keys of numbers whose length
+# doesn't decide their table, since two tables have the table's number at different places, or one has eight bytes more for eight columns.
+SCHEMAS = ("""CREATE TABLE A (k INT64, s STRING(MAX), n INT64) PRIMARY KEY (k);
 CREATE TABLE B (k INT64, b INT64, s STRING(MAX), n INT64) PRIMARY KEY (k, b DESC),
   INTERLEAVE IN PARENT A ON DELETE CASCADE;
 CREATE TABLE C (k INT64, b INT64, c STRING(8), n INT64) PRIMARY KEY (k, b DESC, c),
@@ -28,9 +30,31 @@ CREATE TABLE C (k INT64, b INT64, c STRING(8), n INT64) PRIMARY KEY (k, b DESC, 
 CREATE TABLE D (p STRING(8), q INT64, n INT64) PRIMARY KEY (p DESC, q);
 CREATE TABLE E (p STRING(8), q INT64, e INT64, s STRING(MAX)) PRIMARY KEY (p DESC, q, e),
   INTERLEAVE IN PARENT D ON DELETE CASCADE
-"""
+""", """CREATE TABLE A (k INT64, s STRING(MAX), n INT64) PRIMARY KEY (k);
+CREATE TABLE B (k INT64, b INT64, s STRING(MAX), n INT64) PRIMARY KEY (k, b DESC),
+  INTERLEAVE IN PARENT A ON DELETE CASCADE;
+CREATE TABLE C (k INT64, b INT64, c INT64, n INT64) PRIMARY KEY (k, b DESC, c),
+  INTERLEAVE IN PARENT B ON DELETE CASCADE;
+CREATE TABLE F (k INT64, b INT64, n INT64, s STRING(MAX)) PRIMARY KEY (k, b),
+  INTERLEAVE IN PARENT A ON DELETE CASCADE;
+CREATE TABLE D (q INT64, p INT64, n INT64, s STRING(MAX)) PRIMARY KEY (q DESC, p);
+CREATE TABLE E (q INT64, p INT64, e INT64, s STRING(MAX)) PRIMARY KEY (q DESC, p, e),
+  INTERLEAVE IN PARENT D ON DELETE CASCADE
+""", """CREATE TABLE A (k INT64, n INT64) PRIMARY KEY (k);
+CREATE TABLE M (k INT64, a INT64, n INT64) PRIMARY KEY (k, a),
+  INTERLEAVE IN PARENT A;
+CREATE TABLE Y (k INT64, a INT64, b INT64, c INT64, n INT64) PRIMARY KEY (k, a, b, c),
+  INTERLEAVE IN PARENT M;
+CREATE TABLE T (k INT64, a INT64, b INT64, n INT64) PRIMARY KEY (k, a, b),
+  INTERLEAVE IN PARENT A;
+CREATE TABLE Z (k INT64, a INT64, b INT64, c INT64, n INT64, s STRING(MAX)) PRIMARY KEY (k, a, b, c),
+  INTERLEAVE IN PARENT T;
+CREATE TABLE W (k INT64, a INT64, b INT64, c INT64, d INT64, e INT64, f INT64, g INT64, n INT64, s STRING(MAX))
+  PRIMARY KEY (k, a, b, c, d, e, f, g), INTERLEAVE IN PARENT A;
+CREATE TABLE D (q INT64, n INT64, s STRING(MAX)) PRIMARY KEY (q)
+""")
 # The values of columns, each NULL now and then.
-NUMBERS, TEXTS = (-1, 0, 1, 2, 3, 4), ("", "a", "ab", "b", "é")
+NUMBERS, TEXTS = (-1, 0, 1, 2, 3, 4, 257), ("", "a", "ab", "b", "é", "abcdefgh")
 # The parameters that each script sets: their types and cells.
 PARAMETERS = {"i": ("INT64", "2"), "s": ("STRING", "ab"), "z": ("INT64", "\\N")}
 COMPARISONS = ("=", "<", "<=", ">", ">=", "<>")
@@ -89,7 +113,7 @@ class Maker:
             keys = self.pick.sample(range(1, len(kinds) + 1), self.pick.randint(1, len(kinds)))
             text += " ORDER BY " + ", ".join(f"{key}{self.pick.choice(('', ' ASC', ' DESC'))}" for key in keys)
         if self.chance(0.15):
-            text += f" LIMIT {self.pick.randint(0, 5)}" + (f" OFFSET {self.pick.randint(0, 3)}" if self.chance(0.5) else "")
+            text += f" LIMIT {self.pick.choice((0, 1, 2, 3, 4, 5, 64, 65))}" + (f" OFFSET {self.pick.randint(0, 3)}" if self.chance(0.5) else "")
         return text, kinds
 
     def block(self, depth, kinds=None):
@@ -98,11 +122,13 @@ class Maker:
         conditions = [self.conjunct(items) for _ in range(self.pick.choice((0, 0, 0, 1, 1, 2, 3)))]
         where = " WHERE " + " AND ".join(conditions) if conditions else ""
         kinds = kinds or [self.pick.choice(("INT64", "INT64", "STRING")) for _ in range(self.pick.randint(1, 3))]
+        # (columns alone take ways of their own where they are put in order, or each once)
+        deepest, is_distinct = (0, 0.5) if self.chance(0.35) else (2, 0.15)
         if self.chance(0.25):
             outputs, rest = self.grouped(items, kinds)
         else:
-            outputs, rest = [self.value(items, kind, 2) for kind in kinds], ""
-        distinct = "DISTINCT " if self.chance(0.15) else ""
+            outputs, rest = [self.value(items, kind, deepest) for kind in kinds], ""
+        distinct = "DISTINCT " if self.chance(is_distinct) else ""
         outputs = ", ".join(f"{text} AS c{place}" for place, text in enumerate(outputs))
         return f"SELECT {distinct}{outputs} FROM {joins}{where}{rest}", kinds
 
@@ -243,7 +269,8 @@ class Set:
 
     def __init__(self, seed, number, count):
         pick = random.Random(f"{seed}/{number}")
-        schema = tables.read_schema(SCHEMA)
+        self.schema = SCHEMAS[number % len(SCHEMAS)]
+        schema = tables.read_schema(self.schema)
         rows = made_rows(pick, schema)
         lines = [f"insert {schema[name].name} * {tables.record_text(row)}" for name, values in rows.items() for row in values]
         cuts = run.splits(f"{seed}/{number}", schema, rows)
@@ -293,7 +320,7 @@ def write_file(folder, name, text):
 
 def ask(of_set, folder):
     """The output of the program for the script of a set."""
-    schema, script = write_file(folder, "schema", SCHEMA), write_file(folder, "script", of_set.script())
+    schema, script = write_file(folder, "schema", of_set.schema), write_file(folder, "script", of_set.script())
     done = subprocess.run([run.PROGRAM, "run", schema, script], stdin=subprocess.DEVNULL, capture_output=True, timeout=run.LONGEST, check=False)
     if done.returncode != 0:
         sys.exit(f"at_random: status {done.returncode}: {done.stderr.decode(errors='replace')}")
@@ -304,8 +331,8 @@ def main():
     words = arguments()
     sets = [Set(words.seed, number, words.texts) for number in range(words.sets)]
     if words.write:
-        write_file(words.write, "schema", SCHEMA)
         for number, of_set in enumerate(sets):
+            write_file(words.write, f"set-{number}.schema", of_set.schema)
             write_file(words.write, f"set-{number}.script", of_set.script())
         return 0
     wrong = []
