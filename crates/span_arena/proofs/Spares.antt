@@ -1,5 +1,5 @@
 -- The free chains.
-use Rattle.std.proofs.Common.{◌≡◌, ◌≢◌, ℕ, zero, suc, ◌+◌, ◌-◌, ◌<◌, ◌≤◌, ◌^◌, List, [], ◌∷◌, ◌++◌, refl, sym, ◌∙◌, ap, arith, length, map, None, get_or, set, inl, inr, true, false, add-one, length-append}
+use Rattle.std.proofs.Common.{◌≡◌, ◌≢◌, ℕ, zero, suc, ◌+◌, ◌-◌, ◌<◌, ◌≤◌, List, [], ◌∷◌, ◌++◌, refl, sym, ◌∙◌, ap, arith, length, map, None, get_or, set, inl, inr, true, false, add-one, length-append}
 use Rattle.std.specs.Prelude.{nat_lt, nat_eq, ◌&&◌}
 use Rattle.std.proofs.Math.ListN.{get_or-eq_default}
 use Rattle.std.proofs.Math.Seq.{get_or-append_seam}
@@ -9,6 +9,7 @@ use Rattle.std.proofs.lemmas.Bool.Decides.{nat_tests}
 use Rattle.span_arena.specs.declared.record.NodeRecord.{NodeRecord}
 use Rattle.span_arena.specs.declared.record.ChainRecord.{ChainRecord}
 use Rattle.span_arena.specs.declared.record.ChainRecord.TheVariants as chain
+use Rattle.span_arena.specs.Limits.{most_chains}
 use Rattle.span_arena.specs.Cells.{blank}
 use Rattle.span_arena.specs.declared.cell.Cell.{Cell}
 use Rattle.span_arena.specs.declared.record.VersionLinks.{VersionLinks}
@@ -154,11 +155,11 @@ cells_set cs i x y lt same = let t : nat_lt i (length cs) ≡ true = grind (arit
 pub cells_push : (cs : List Cell) (i : ℕ) (x y : Cell) → i ≡ length cs → x ≡ y → cs ++ x ∷ [] ≡ with_at cs i y
 cells_push cs i x y is same = let t : nat_lt i (length cs) ≡ false = grind (arith, nat_tests) in rw (t, same) refl
 
--- the cells fit 32 bits still: where one was written, and where one was added to few enough
-pub few-set : (cs : List Cell) (i : ℕ) (x : Cell) → length cs < 2 ^ 32 → length (set cs i x) < 2 ^ 32
+-- the cells are few enough still: where one was written, and where one was added to few enough
+pub few-set : (cs : List Cell) (i : ℕ) (x : Cell) → length cs ≤ most_chains → length (set cs i x) ≤ most_chains
 few-set cs i x few = rw (length-set cs i x) few
 
-pub few-push : (cs ds : List Cell) (x : Cell) → ds ≡ cs ++ x ∷ [] → length cs + 1 < 2 ^ 32 → length ds < 2 ^ 32
+pub few-push : (cs ds : List Cell) (x : Cell) → ds ≡ cs ++ x ∷ [] → length cs + 1 ≤ most_chains → length ds ≤ most_chains
 few-push cs ds x e few = rw (e, length-append cs (x ∷ [])) few
 
 pub cells_more : (cs ds : List Cell) (x : Cell) (rs ss : List ChainRecord) (r : ChainRecord) → AreCellsOf rs cs → ds ≡ cs ++ x ∷ [] → ss ≡ rs ++ r ∷ [] → AreCellsOf ss ds

@@ -69,8 +69,9 @@ pub struct Arena {
 }
 
 impl Model for Arena {
-    ghost use Rattle.std.specs.Prelude.{◌<◌, ◌^◌, length};
+    ghost use Rattle.std.specs.Prelude.{◌≤◌, length};
     ghost use Rattle.span_arena.specs.Content.{Content};
+    ghost use Rattle.span_arena.specs.Limits.{most_chains};
     ghost use Rattle.span_arena.specs.Order.{AreInTimeOrder};
     ghost use Rattle.span_arena.specs.Runs.{content, AreCellsOf, IsSound, AreSpare};
 
@@ -82,7 +83,7 @@ impl Model for Arena {
       sound : IsSound a.nodes.items a.chains.items a.free a.free_count a.most;
       spare : AreSpare a.chains.items a.spare a.spare_count;
       cells : AreCellsOf a.chains.items a.cells;
-      few : length a.cells < 2 ^ 32;
+      few : length a.cells ≤ most_chains;
       falling : AreInTimeOrder (content a.nodes.items a.chains.items a.free_count a.most a.cells);
     } };
 }
@@ -233,7 +234,7 @@ impl Arena {
         ensures len { result ≡ length self.now.cells }
         ensures same { length self.now.cells ≡ length self.now.chains }
         ensures fits { length self.now.cells < 2 ^ 64 }
-        ensures few { length self.now.cells < 2 ^ 32 }
+        ensures few { length self.now.cells ≤ most_chains }
     {
         self.cells.len()
     }

@@ -1,5 +1,6 @@
-use Rattle.std.proofs.Common.{◌≡◌, ◌+◌, ◌<◌, ◌≤◌, ◌^◌, length}
+use Rattle.std.proofs.Common.{◌≡◌, ◌+◌, ◌<◌, ◌≤◌, length}
 use Rattle.span_arena.specs.Content.{versions}
+use Rattle.span_arena.specs.Limits.{most_chains}
 use Rattle.span_arena.specs.declared.record.ChainRecord.TheVariants as chain
 use Rattle.span_arena.specs.Runs.{IsTrimming, AreCellsOf, AreSpare, content, follow, walk, node_at, record_at}
 use Rattle.span_arena.proofs.Emptying.{IsEmptied}
@@ -14,7 +15,7 @@ invariant-loop-version l = record {
   none : l.links.count ≡ 0;
   spare : AreSpare l.self-inside.chains.items l.self-inside.spare l.self-inside.spare_count;
   cells : AreCellsOf l.self-inside.chains.items l.self-inside.cells;
-  few : length l.self-inside.cells < 2 ^ 32;
+  few : length l.self-inside.cells ≤ most_chains;
   same : content l.self-inside.nodes.items l.self-inside.chains.items (l.self-inside.free_count + l.count) l.self-inside.most l.self-inside.cells ≡ l.fn.self;
   emptied : IsEmptied l.fn.from l.from l.fn.source.number (walk (node_at l.self-inside.nodes.items) l.count l.newest);
   room : length (versions l.from l.fn.source.number) ≤ l.self-inside.free_count;
