@@ -8,7 +8,7 @@ use Rattle.span_arena.specs.declared.cell.Cell.{Cell}
 use Rattle.span_arena.specs.declared.cell.Links.{Links}
 use Rattle.span_arena.specs.declared.cell.Balance.TheVariants.{Even, RightHigh}
 use Rattle.span_keyindex.specs.declared.build.Built.{Built}
-use Rattle.span_keyindex.specs.Trees.{Tree, Fork, root_of, Stands, one_at, count, height, IsAvl, IsBalance}
+use Rattle.span_keyindex.specs.Trees.{Tree, Fork, root_of, IsInCells, one_at, count, height, IsAvl, IsBalance}
 use Rattle.span_arena.specs.Cells.{cell_at, with_links}
 use Rattle.span_keyindex.specs.Effects.{links_with}
 use Rattle.span_keyindex.specs.Items.{entry, items, holders}
@@ -115,7 +115,7 @@ module _ (a b low high : ℕ) (da : IsDigits a low) (db : IsDigits b high) (from
 
 pub built_none : (cs : List Cell) (ns : Nexts) (n : ℕ) (at : Option ℕ) → n ≡ 0 → IsBuilt cs cs ns n at (record { root = None; rest = at; levels = 0 })
 built_none cs ns n at is = subst (λ (m : ℕ). IsBuilt cs cs ns m at (record { root = None; rest = at; levels = 0 })) {x = 0} {y = n} (sym is) (record {
-  tree = record { stands = tt; root = refl; once = λ i. omega arith; within = λ i s. absurd (omega arith) };
+  tree = record { in_cells = tt; root = refl; once = λ i. omega arith; within = λ i s. absurd (omega arith) };
   avl = tt;
   tall = refl;
   entries = refl;
@@ -248,14 +248,14 @@ module _ (old mid far : List Cell) (ns : Nexts) (low high : ℕ) (at : Option �
       let zero_right : holders i (run_of old ns high (next_of ns cell)) ≡ 0 = omega (arith, held_is i, run.once i, count_left i) in
       elsewhere i (apart_left i some) ∙ r.others i (ap (holders i) same_run ∙ zero_right)
 
-  stands_now : Stands (cell_at new) (Fork (tree_at mid left.levels left.root) cell (cell_at old cell).key (balance_of left.levels right.levels) (tree_at far right.levels right.root))
-  stands_now = (
+  in_cells_now : IsInCells (cell_at new) (Fork (tree_at mid left.levels left.root) cell (cell_at old cell).key (balance_of left.levels right.levels) (tree_at far right.levels right.root))
+  in_cells_now = (
     here_now
         ∙ ap (λ (k : List ℕ). record { key = k; links = links_with left.root right.root (balance_of left.levels right.levels) }) key_same
         ∙ ap (λ (x : Option ℕ). record { key = (cell_at old cell).key; links = links_with x right.root (balance_of left.levels right.levels) }) l.tree.root
         ∙ ap (λ (x : Option ℕ). record { key = (cell_at old cell).key; links = links_with (root_of (tree_at mid left.levels left.root)) x (balance_of left.levels right.levels) }) r.tree.root,
-    stays (cell_at mid) (cell_at new) (tree_at mid left.levels left.root) kept_left l.tree.stands,
-    stays (cell_at far) (cell_at new) (tree_at far right.levels right.root) (λ i some. elsewhere i (apart_right i some)) r.tree.stands,
+    stays (cell_at mid) (cell_at new) (tree_at mid left.levels left.root) kept_left l.tree.in_cells,
+    stays (cell_at far) (cell_at new) (tree_at far right.levels right.root) (λ i some. elsewhere i (apart_right i some)) r.tree.in_cells,
   )
 
   long : length new ≡ length old
@@ -263,7 +263,7 @@ module _ (old mid far : List Cell) (ns : Nexts) (low high : ℕ) (at : Option �
 
   is_tree : IsTree new (Some cell) (Fork (tree_at mid left.levels left.root) cell (cell_at old cell).key (balance_of left.levels right.levels) (tree_at far right.levels right.root))
   is_tree = record {
-    stands = stands_now;
+    in_cells = in_cells_now;
     root = refl;
     once = λ i. omega (arith, count_left i, count_right i, held_is i, run.once i);
     within = λ i some. (let lt : i < length old = run.within i (omega (arith, count_left i, count_right i, held_is i)) in omega (arith, long));
@@ -275,7 +275,7 @@ module _ (old mid far : List Cell) (ns : Nexts) (low high : ℕ) (at : Option �
       omega (arith, l.tall, r.tall)
 
   shown : tree_at new (right.levels + 1) (Some cell) ≡ Fork (tree_at mid left.levels left.root) cell (cell_at old cell).key (balance_of left.levels right.levels) (tree_at far right.levels right.root)
-  shown = shape_is (cell_at new) (Fork (tree_at mid left.levels left.root) cell (cell_at old cell).key (balance_of left.levels right.levels) (tree_at far right.levels right.root)) (right.levels + 1) stands_now (omega (arith, tall_now))
+  shown = shape_is (cell_at new) (Fork (tree_at mid left.levels left.root) cell (cell_at old cell).key (balance_of left.levels right.levels) (tree_at far right.levels right.root)) (right.levels + 1) in_cells_now (omega (arith, tall_now))
 
   is_avl : IsAvl (Fork (tree_at mid left.levels left.root) cell (cell_at old cell).key (balance_of left.levels right.levels) (tree_at far right.levels right.root))
   is_avl = (

@@ -6,7 +6,7 @@ use Rattle.span_value.specs.declared.refusal.Refusal.{Refusal}
 use Rattle.span_arena.specs.declared.cell.Cell.{Cell}
 use Rattle.span_keyindex.specs.declared.join.Part.{Part}
 use Rattle.span_keyindex.specs.Puts.{Put, Added}
-use Rattle.span_keyindex.specs.Trees.{Tree, Leaf, Fork, root_of, Stands, count, height, inserted}
+use Rattle.span_keyindex.specs.Trees.{Tree, Leaf, Fork, root_of, IsInCells, count, height, inserted}
 use Rattle.span_arena.specs.Counts.{Count}
 use Rattle.span_arena.specs.Cells.{cell_at, IsCompared}
 use Rattle.span_keyindex.specs.Effects.{links_of, IsInside}
@@ -27,19 +27,19 @@ pub record IsReady (cs : List Cell) (i : ℕ) : Type 0 where
   pub left : IsInside cs (links_of cs i).left
   pub right : IsInside cs (links_of cs i).right
 
-ready_root : (cs : List Cell) (t : Tree) (i : ℕ) → Some i ≡ root_of t → Stands (cell_at cs) t → ((j : ℕ) → 0 < count j t → j < length cs) → IsReady cs i
-ready_root cs Leaf i is stands within = absurd (let e : Some i ≡ None = is in cc)
-ready_root cs (Fork l n k b r) i is stands within =
+ready_root : (cs : List Cell) (t : Tree) (i : ℕ) → Some i ≡ root_of t → IsInCells (cell_at cs) t → ((j : ℕ) → 0 < count j t → j < length cs) → IsReady cs i
+ready_root cs Leaf i is in_cells within = absurd (let e : Some i ≡ None = is in cc)
+ready_root cs (Fork l n k b r) i is in_cells within =
     let e : i ≡ n = (let f : Some i ≡ Some n = is in cc) in
     subst (λ (x : ℕ). IsReady cs x) {x = n} {y = i} (sym e) (record {
       here = within n (omega (arith, one_here n));
-      left = subst (λ (x : Option ℕ). IsInside cs x) {x = root_of l} {y = (links_of cs n).left} (sym (ap (λ (x : Cell). x.links.left) stands.0)) (inside_root cs l (λ j h. within j (omega arith)));
-      right = subst (λ (x : Option ℕ). IsInside cs x) {x = root_of r} {y = (links_of cs n).right} (sym (ap (λ (x : Cell). x.links.right) stands.0)) (inside_root cs r (λ j h. within j (omega arith)));
+      left = subst (λ (x : Option ℕ). IsInside cs x) {x = root_of l} {y = (links_of cs n).left} (sym (ap (λ (x : Cell). x.links.left) in_cells.0)) (inside_root cs l (λ j h. within j (omega arith)));
+      right = subst (λ (x : Option ℕ). IsInside cs x) {x = root_of r} {y = (links_of cs n).right} (sym (ap (λ (x : Cell). x.links.right) in_cells.0)) (inside_root cs r (λ j h. within j (omega arith)));
     })
 
 pub ready_part : (old mid : List Cell) (at : Option ℕ) (t : Tree) (key : List ℕ) (part : Part) → IsTree old at t → IsAdded old mid t key part → IsReady mid part.root
 ready_part old mid at t key part tree added =
-    ready_root mid (inserted part.cell key t).tree part.root added.root added.stands
+    ready_root mid (inserted part.cell key t).tree part.root added.root added.in_cells
     (λ j h. (let lt : j < places_with (length old) part.cell = within_more old at t part.cell j tree added.number (omega (arith, count_inserted j part.cell key t added.absent)) in omega (arith, added.one_more)))
 
 -- ---- costs

@@ -5,7 +5,7 @@ use Rattle.std.proofs.lemmas.Bool.Decides.{nat_tests}
 use Rattle.std.proofs.lemmas.List.{get_or-set_other, get_or-set_same, length-set}
 use Rattle.span_arena.specs.declared.cell.Cell.{Cell}
 use Rattle.span_arena.specs.declared.cell.Links.{Links}
-use Rattle.span_keyindex.specs.Trees.{Tree, Leaf, Fork, Stands, one_at, count}
+use Rattle.span_keyindex.specs.Trees.{Tree, Leaf, Fork, IsInCells, one_at, count}
 use Rattle.span_arena.specs.Cells.{cell_at, blank, with_links}
 
 pub one_here : (n : ℕ) → one_at n n ≡ 1
@@ -22,7 +22,7 @@ pub differ : (i n x : ℕ) → one_at i n + x ≤ 1 → 0 < x → i ≢ n
 differ i n x le some same = absurd (omega (arith, one_same i n same))
 
 -- a tree stays where its cells do
-pub stays : (f g : ℕ → Cell) (t : Tree) → ((i : ℕ) → 0 < count i t → g i ≡ f i) → Stands f t → Stands g t
+pub stays : (f g : ℕ → Cell) (t : Tree) → ((i : ℕ) → 0 < count i t → g i ≡ f i) → IsInCells f t → IsInCells g t
 stays f g Leaf same s = tt
 stays f g (Fork l n k b r) same s =
     (same n (omega (arith, one_here n)) ∙ s.0, stays f g l (λ i h. same i (omega arith)) s.1, stays f g r (λ i h. same i (omega arith)) s.2)

@@ -21,7 +21,7 @@ use Rattle.span_keyindex.specs.Joins.{joined_right_cells, joined_right_root, mos
 use Rattle.span_keyindex.specs.Lasts.{IsAboveRight, is_after, IsNewPart, turns_by, IsHangCost, IsTreeCost}
 use Rattle.span_keyindex.specs.Nexts.{Nexts, places_with, with_place, with_cell, before_in, last_cell}
 use Rattle.span_keyindex.specs.Puts.{tree_at, AreChains, IsTree, IsPut, IsPutIn, IsNext, IsAdded, IsPutCost, Added, put_of, extra, extra_of, extra_by}
-use Rattle.span_keyindex.specs.Trees.{Tree, Leaf, Fork, Stands, count, height, shape}
+use Rattle.span_keyindex.specs.Trees.{Tree, Leaf, Fork, IsInCells, count, height, shape}
 use Rattle.span_keyindex.proofs.Counting.{stays}
 use Rattle.span_keyindex.proofs.Costs.{IsReady, still_right}
 use Rattle.span_keyindex.proofs.Exits.{fork_some, right_ready, right_added, new_relinked}
@@ -31,7 +31,7 @@ use Rattle.span_keyindex.proofs.Puts.{leaf_at, places_more, places_here, not_in,
 use Rattle.span_keyindex.proofs.Rising.{AllBelow}
 use Rattle.span_keyindex.proofs.Searching.{search_absent}
 use Rattle.span_keyindex.proofs.Spent.{right_under}
-use Rattle.span_keyindex.proofs.Walking.{keys_stand}
+use Rattle.span_keyindex.proofs.Walking.{keys_in_cells}
 use Rattle.span_keyindex.proofs.Whole.{IsAfter, index_after, shape_is}
 
 -- a cell that has a place takes no other
@@ -52,7 +52,7 @@ module _ (cs : List Cell) (levels : ℕ) (at : Option ℕ) (part : Part) (none :
         free = refl;
         number = omega arith;
         one_more = sym (places_kept (length cs) part.cell here);
-        stands = (new.alone, tt, tt);
+        in_cells = (new.alone, tt, tt);
         root = ap (λ (x : ℕ). Some x) new.root;
         grew = new.grew;
         others = λ i differs n. refl;
@@ -111,7 +111,7 @@ hung_cost old mid levels at i ls part after s0 s1 s2 e read tree cost join resul
 
 pub after_all : (cs : List Cell) (ns : Nexts) (index : TreeRoot) (key : List ℕ) → IsIndex cs ns index → is_after cs index.last key ≡ true → AllBelow key (entries_at cs index)
 after_all cs ns index key own after =
-    all_before cs key (entries_at cs index) own.search.rising (keys_stand cs (tree_of cs index) own.search.tree.stands)
+    all_before cs key (entries_at cs index) own.search.rising (keys_in_cells cs (tree_of cs index) own.search.tree.in_cells)
     (ap (λ (o : Option ℕ). is_after cs o key) (sym own.last) ∙ after)
 
 pub absent_after : (cs : List Cell) (ns : Nexts) (index : TreeRoot) (key : List ℕ) → IsIndex cs ns index → is_after cs index.last key ≡ true → IsAbsent (entries_at cs index) key
@@ -143,11 +143,11 @@ module _ (a mid : Content) (ns ms : Nexts) (index : TreeRoot) (key : List ℕ) (
   unused : count first.cell (tree_of a.cells index) ≡ 0
   unused = not_in a mid (tree_of a.cells index) first.cell chains alone.fresh
 
-  kept : Stands (cell_at mid.cells) (tree_of a.cells index)
+  kept : IsInCells (cell_at mid.cells) (tree_of a.cells index)
   kept =
       stays (cell_at a.cells) (cell_at mid.cells) (tree_of a.cells index)
       (λ j some. alone.added.others j (λ same. (let none : count j (tree_of a.cells index) ≡ 0 = ap (λ (x : ℕ). count x (tree_of a.cells index)) same ∙ unused in absurd (omega arith))) refl)
-      own.search.tree.stands
+      own.search.tree.in_cells
 
   pub beside_same : tree_of mid.cells index ≡ tree_of a.cells index
   beside_same =
@@ -156,18 +156,18 @@ module _ (a mid : Content) (ns ms : Nexts) (index : TreeRoot) (key : List ℕ) (
 
   pub beside_tree : IsTree mid.cells index.root (tree_of mid.cells index)
   beside_tree = subst (λ (t : Tree). IsTree mid.cells index.root t) {x = tree_of a.cells index} {y = tree_of mid.cells index} (sym beside_same) (record {
-    stands = kept;
+    in_cells = kept;
     root = own.search.tree.root;
     once = own.search.tree.once;
     within = λ j some. (let lt = own.search.tree.within j some in omega (arith, alone.added.one_more, places_more (length a.cells) first.cell));
   })
 
   own_key : (cell_at mid.cells first.cell).key ≡ key
-  own_key = ap (λ (x : Cell). x.key) alone.added.stands.0
+  own_key = ap (λ (x : Cell). x.key) alone.added.in_cells.0
 
   pub beside_part : IsNewPart mid.cells first
   beside_part = record {
-    alone = alone.added.stands.0 ∙ ap (λ (k : List ℕ). new_cell k) (sym own_key);
+    alone = alone.added.in_cells.0 ∙ ap (λ (k : List ℕ). new_cell k) (sym own_key);
     here = (let lt = places_here (length a.cells) first.cell alone.added.number in omega (arith, alone.added.one_more));
     root = (let e : Some first.root ≡ Some first.cell = alone.added.root in cc);
     grew = alone.added.grew;
@@ -192,7 +192,7 @@ module _ (a mid : Content) (ns ms : Nexts) (index : TreeRoot) (key : List ℕ) (
         free = added.free;
         number = (let number = alone.added.number in omega (arith, same));
         one_more = added.one_more ∙ places_kept (length mid.cells) part.cell lt ∙ alone.added.one_more ∙ ap (λ (x : ℕ). places_with (length a.cells) x) (sym same);
-        stands = added.stands;
+        in_cells = added.in_cells;
         root = added.root;
         grew = added.grew;
         others = λ j differs none. added.others j differs none ∙ alone.added.others j (λ q. differs (q ∙ sym same)) refl;

@@ -6,7 +6,7 @@ use Rattle.span_arena.specs.declared.cell.Links.{Links}
 use Rattle.span_arena.specs.declared.cell.Balance.{Balance}
 use Rattle.span_arena.specs.declared.cell.Balance.TheVariants.{LeftHigh, Even, RightHigh}
 use Rattle.span_keyindex.specs.declared.join.Part.{Part}
-use Rattle.span_keyindex.specs.Trees.{Tree, Leaf, Fork, root_of, cell_of, Stands, one_at, count, turned_right, lifted_by, lifted_inner, turned_left, sunk_by, sunk_inner, after_left, after_right, joined_left, joined_right, higher_left, higher_right}
+use Rattle.span_keyindex.specs.Trees.{Tree, Leaf, Fork, root_of, cell_of, IsInCells, one_at, count, turned_right, lifted_by, lifted_inner, turned_left, sunk_by, sunk_inner, after_left, after_right, joined_left, joined_right, higher_left, higher_right}
 use Rattle.span_arena.specs.Cells.{cell_at, with_links}
 use Rattle.span_keyindex.specs.Effects.{links_with, links_of, turned_right_by, turned_right_cells, turned_right_root, turned_right_root_by, lifted_right_cells, lifted_root, turned_left_by, turned_left_cells, turned_left_root, turned_left_root_by, lifted_left_cells}
 use Rattle.span_keyindex.specs.Joins.{higher_left_cells, higher_left_root, joined_left_cells, joined_left_root, higher_right_cells, higher_right_root, joined_right_cells, joined_right_root}
@@ -30,7 +30,7 @@ key_is cs l n k b r e = ap (λ (x : Cell). x.key) e
 
 lifted_right : (cs : List Cell) (ll : Tree) (m : ℕ) (mk : List ℕ) (lr : Tree) (n : ℕ) (k : List ℕ) (r : Tree)
     → n < length cs → ((i : ℕ) → 0 < count i (Fork ll m mk RightHigh lr) → i < length cs) → (cell_at cs n).key ≡ k
-    → Stands (cell_at cs) (Fork ll m mk RightHigh lr) → Stands (cell_at cs) r
+    → IsInCells (cell_at cs) (Fork ll m mk RightHigh lr) → IsInCells (cell_at cs) r
     → ((i : ℕ) → one_at i n + (count i (Fork ll m mk RightHigh lr) + count i r) ≤ 1)
     → IsNow cs (lifted_right_cells cs n m (root_of r) (root_of lr)) (lifted_inner ll m mk lr n k r) (lifted_root (root_of lr) n)
 lifted_right cs ll m mk Leaf n k r ltn within key s sr once = relinked cs (Fork ll m mk RightHigh Leaf) n k LeftHigh r ltn key s sr once
@@ -52,7 +52,7 @@ lifted_right cs ll m mk (Fork a p pk pb b) n k r ltn within key s sr once =
 
 turned_right_by_is : (mb : Balance) (cs : List Cell) (ll : Tree) (m : ℕ) (mk : List ℕ) (lr : Tree) (n : ℕ) (k : List ℕ) (r : Tree)
     → n < length cs → ((i : ℕ) → 0 < count i (Fork ll m mk mb lr) → i < length cs) → (cell_at cs n).key ≡ k
-    → Stands (cell_at cs) (Fork ll m mk mb lr) → Stands (cell_at cs) r
+    → IsInCells (cell_at cs) (Fork ll m mk mb lr) → IsInCells (cell_at cs) r
     → ((i : ℕ) → one_at i n + (count i (Fork ll m mk mb lr) + count i r) ≤ 1)
     → IsNow cs (turned_right_by mb cs n m (root_of r)) (lifted_by mb ll m mk lr n k r) (turned_right_root_by mb (root_of lr) n m)
 turned_right_by_is LeftHigh cs ll m mk lr n k r ltn within key s sr once =
@@ -69,7 +69,7 @@ turned_right_by_is RightHigh cs ll m mk lr n k r ltn within key s sr once =
 
 pub turned_right_is : (cs : List Cell) (l : Tree) (root n : ℕ) (k : List ℕ) (r : Tree)
     → n < length cs → ((i : ℕ) → 0 < count i l → i < length cs) → (cell_at cs n).key ≡ k
-    → Some root ≡ root_of l → Stands (cell_at cs) l → Stands (cell_at cs) r
+    → Some root ≡ root_of l → IsInCells (cell_at cs) l → IsInCells (cell_at cs) r
     → ((i : ℕ) → one_at i n + (count i l + count i r) ≤ 1)
     → IsNow cs (turned_right_cells cs n root (root_of r)) (turned_right l n k r) (turned_right_root cs n root)
 turned_right_is cs Leaf root n k r ltn within key here s sr once = absurd (let e : Some root ≡ None = here in cc)
@@ -83,7 +83,7 @@ turned_right_is cs (Fork ll m mk mb lr) root n k r ltn within key here s sr once
 
 higher_left_is : (b : Balance) (cs : List Cell) (l : Tree) (part : Part) (n : ℕ) (k : List ℕ) (r : Tree)
     → n < length cs → ((i : ℕ) → 0 < count i l → i < length cs) → (cell_at cs n).key ≡ k → (links_of cs n).right ≡ root_of r
-    → Some part.root ≡ root_of l → Stands (cell_at cs) l → Stands (cell_at cs) r
+    → Some part.root ≡ root_of l → IsInCells (cell_at cs) l → IsInCells (cell_at cs) r
     → ((i : ℕ) → one_at i n + (count i l + count i r) ≤ 1)
     → IsNow cs (higher_left_cells b cs n part.root) (higher_left l n k b r).tree (higher_left_root b cs n part).root × ((higher_left_root b cs n part).grew ≡ (higher_left l n k b r).grew)
 higher_left_is LeftHigh cs l part n k r ltn within key right here s sr once = (
@@ -106,7 +106,7 @@ higher_left_is RightHigh cs l part n k r ltn within key right here s sr once = (
 
 pub joined_left_is : (grew : Bool) (cs : List Cell) (old l : Tree) (part : Part) (n : ℕ) (k : List ℕ) (b : Balance) (r : Tree)
     → n < length cs → ((i : ℕ) → 0 < count i l → i < length cs) → cell_at cs n ≡ cell_of old k b r
-    → Some part.root ≡ root_of l → Stands (cell_at cs) l → Stands (cell_at cs) r
+    → Some part.root ≡ root_of l → IsInCells (cell_at cs) l → IsInCells (cell_at cs) r
     → ((i : ℕ) → one_at i n + (count i l + count i r) ≤ 1)
     → IsNow cs (joined_left_cells grew cs n part.root) (joined_left grew l n k b r).tree (joined_left_root grew cs n part).root × ((joined_left_root grew cs n part).grew ≡ (joined_left grew l n k b r).grew)
 joined_left_is false cs old l part n k b r ltn within cell here s sr once =
@@ -125,7 +125,7 @@ joined_left_is true cs old l part n k b r ltn within cell here s sr once =
 
 lifted_left : (cs : List Cell) (l : Tree) (n : ℕ) (k : List ℕ) (rl : Tree) (m : ℕ) (mk : List ℕ) (rr : Tree)
     → n < length cs → ((i : ℕ) → 0 < count i (Fork rl m mk LeftHigh rr) → i < length cs) → (cell_at cs n).key ≡ k
-    → Stands (cell_at cs) l → Stands (cell_at cs) (Fork rl m mk LeftHigh rr)
+    → IsInCells (cell_at cs) l → IsInCells (cell_at cs) (Fork rl m mk LeftHigh rr)
     → ((i : ℕ) → one_at i n + (count i l + count i (Fork rl m mk LeftHigh rr)) ≤ 1)
     → IsNow cs (lifted_left_cells cs n (root_of l) m (root_of rl)) (sunk_inner l n k rl m mk rr) (lifted_root (root_of rl) n)
 lifted_left cs l n k Leaf m mk rr ltn within key sl s once = relinked cs l n k RightHigh (Fork Leaf m mk LeftHigh rr) ltn key sl s once
@@ -147,7 +147,7 @@ lifted_left cs l n k (Fork a p pk pb b) m mk rr ltn within key sl s once =
 
 turned_left_by_is : (mb : Balance) (cs : List Cell) (l : Tree) (n : ℕ) (k : List ℕ) (rl : Tree) (m : ℕ) (mk : List ℕ) (rr : Tree)
     → n < length cs → ((i : ℕ) → 0 < count i (Fork rl m mk mb rr) → i < length cs) → (cell_at cs n).key ≡ k
-    → Stands (cell_at cs) l → Stands (cell_at cs) (Fork rl m mk mb rr)
+    → IsInCells (cell_at cs) l → IsInCells (cell_at cs) (Fork rl m mk mb rr)
     → ((i : ℕ) → one_at i n + (count i l + count i (Fork rl m mk mb rr)) ≤ 1)
     → IsNow cs (turned_left_by mb cs n (root_of l) m) (sunk_by mb l n k rl m mk rr) (turned_left_root_by mb (root_of rl) n m)
 turned_left_by_is RightHigh cs l n k rl m mk rr ltn within key sl s once =
@@ -164,7 +164,7 @@ turned_left_by_is LeftHigh cs l n k rl m mk rr ltn within key sl s once =
 
 pub turned_left_is : (cs : List Cell) (r : Tree) (root n : ℕ) (k : List ℕ) (l : Tree)
     → n < length cs → ((i : ℕ) → 0 < count i r → i < length cs) → (cell_at cs n).key ≡ k
-    → Some root ≡ root_of r → Stands (cell_at cs) l → Stands (cell_at cs) r
+    → Some root ≡ root_of r → IsInCells (cell_at cs) l → IsInCells (cell_at cs) r
     → ((i : ℕ) → one_at i n + (count i l + count i r) ≤ 1)
     → IsNow cs (turned_left_cells cs n (root_of l) root) (turned_left l n k r) (turned_left_root cs n root)
 turned_left_is cs Leaf root n k l ltn within key here sl s once = absurd (let e : Some root ≡ None = here in cc)
@@ -178,7 +178,7 @@ turned_left_is cs (Fork rl m mk mb rr) root n k l ltn within key here sl s once 
 
 higher_right_is : (b : Balance) (cs : List Cell) (r : Tree) (part : Part) (n : ℕ) (k : List ℕ) (l : Tree)
     → n < length cs → ((i : ℕ) → 0 < count i r → i < length cs) → (cell_at cs n).key ≡ k → (links_of cs n).left ≡ root_of l
-    → Some part.root ≡ root_of r → Stands (cell_at cs) l → Stands (cell_at cs) r
+    → Some part.root ≡ root_of r → IsInCells (cell_at cs) l → IsInCells (cell_at cs) r
     → ((i : ℕ) → one_at i n + (count i l + count i r) ≤ 1)
     → IsNow cs (higher_right_cells b cs n part.root) (higher_right l n k b r).tree (higher_right_root b cs n part).root × ((higher_right_root b cs n part).grew ≡ (higher_right l n k b r).grew)
 higher_right_is RightHigh cs r part n k l ltn within key left here sl s once = (
@@ -201,7 +201,7 @@ higher_right_is LeftHigh cs r part n k l ltn within key left here sl s once = (
 
 pub joined_right_is : (grew : Bool) (cs : List Cell) (old r : Tree) (part : Part) (n : ℕ) (k : List ℕ) (b : Balance) (l : Tree)
     → n < length cs → ((i : ℕ) → 0 < count i r → i < length cs) → cell_at cs n ≡ cell_of l k b old
-    → Some part.root ≡ root_of r → Stands (cell_at cs) l → Stands (cell_at cs) r
+    → Some part.root ≡ root_of r → IsInCells (cell_at cs) l → IsInCells (cell_at cs) r
     → ((i : ℕ) → one_at i n + (count i l + count i r) ≤ 1)
     → IsNow cs (joined_right_cells grew cs n part.root) (joined_right grew l n k b r).tree (joined_right_root grew cs n part).root × ((joined_right_root grew cs n part).grew ≡ (joined_right grew l n k b r).grew)
 joined_right_is false cs old r part n k b l ltn within cell here sl s once =

@@ -1,4 +1,4 @@
--- What a chain tells of a key.
+-- Where a key is, by a chain near it.
 use Rattle.std.proofs.Common.{◌≡◌, ◌≢◌, ℕ, zero, ◌<◌, List, [], ◌∷◌, ◌++◌, refl, sym, ◌∙◌, ap, arith, inl, inr, Option, Some, None, get_or, subst, true, false}
 use Rattle.std.specs.Prelude.{Contains, is_some}
 use Rattle.std.specs.List.{AllByRecursion}
@@ -21,7 +21,7 @@ use Rattle.std.proofs.lemmas.Map.Lookups.{exact_bytes}
 use Rattle.span_keyindex.proofs.Counting.{one_other}
 use Rattle.span_keyindex.proofs.Linking.{linked_back, linked_first}
 use Rattle.span_keyindex.proofs.Rising.{all_back, all_both, IsAround, around, apart, turned, above_more, below_more, all_weaker}
-use Rattle.span_keyindex.proofs.Walking.{keys_stand}
+use Rattle.span_keyindex.proofs.Walking.{keys_in_cells}
 
 -- an entry of a chain among the others
 record IsHolder (b : ℕ) (es : List Entry) : Type 0 where
@@ -77,7 +77,7 @@ module _ (i : KeyIndex) (a : Content) (own : IsIndexOf i a) (near : ℕ) (is_cha
   sides = around split.front split.here split.back rising
 
   keys : AllByRecursion (λ (e : Entry). (cell_at a.cells e.chain.number).key ≡ e.key) (split.front ++ split.here ∷ split.back)
-  keys = subst (λ (l : List Entry). AllByRecursion (λ (e : Entry). (cell_at a.cells e.chain.number).key ≡ e.key) l) split.is (keys_stand a.cells (tree_of a.cells i.tree) own.index.search.tree.stands)
+  keys = subst (λ (l : List Entry). AllByRecursion (λ (e : Entry). (cell_at a.cells e.chain.number).key ≡ e.key) l) split.is (keys_in_cells a.cells (tree_of a.cells i.tree) own.index.search.tree.in_cells)
 
   here_key : (cell_at a.cells near).key ≡ split.here.key
   here_key =

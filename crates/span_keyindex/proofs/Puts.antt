@@ -14,7 +14,7 @@ use Rattle.span_arena.specs.declared.cell.Cell.{Cell}
 use Rattle.span_arena.specs.declared.cell.Balance.{Balance}
 use Rattle.span_arena.specs.declared.cell.Balance.TheVariants.{LeftHigh, Even, RightHigh}
 use Rattle.span_keyindex.specs.declared.join.Part.{Part}
-use Rattle.span_keyindex.specs.Trees.{Tree, Leaf, Fork, Grown, root_of, cell_of, Stands, one_at, count, joined_left, joined_right, placed, inserted, by_side, search_in}
+use Rattle.span_keyindex.specs.Trees.{Tree, Leaf, Fork, Grown, root_of, cell_of, IsInCells, one_at, count, joined_left, joined_right, placed, inserted, by_side, search_in}
 use Rattle.span_arena.specs.Cells.{cell_at, blank, new_cell}
 use Rattle.span_keyindex.specs.Effects.{links_of}
 use Rattle.span_keyindex.specs.Joins.{joined_left_cells, joined_left_root, higher_left_root, joined_right_cells, joined_right_root, higher_right_root}
@@ -40,16 +40,16 @@ leaf_at cs (suc n) = refl
 
 left_tree : (cs : List Cell) (l : Tree) (i : ℕ) (k : List ℕ) (b : Balance) (r : Tree) → IsTree cs (Some i) (Fork l i k b r) → IsTree cs (links_of cs i).left l
 left_tree cs l i k b r tree = record {
-  stands = tree.stands.1;
-  root = ap (λ (x : Cell). x.links.left) tree.stands.0;
+  in_cells = tree.in_cells.1;
+  root = ap (λ (x : Cell). x.links.left) tree.in_cells.0;
   once = λ j. omega (arith, tree.once j);
   within = λ j h. tree.within j (omega arith);
 }
 
 right_tree : (cs : List Cell) (l : Tree) (i : ℕ) (k : List ℕ) (b : Balance) (r : Tree) → IsTree cs (Some i) (Fork l i k b r) → IsTree cs (links_of cs i).right r
 right_tree cs l i k b r tree = record {
-  stands = tree.stands.2;
-  root = ap (λ (x : Cell). x.links.right) tree.stands.0;
+  in_cells = tree.in_cells.2;
+  root = ap (λ (x : Cell). x.links.right) tree.in_cells.0;
   once = λ j. omega (arith, tree.once j);
   within = λ j h. tree.within j (omega arith);
 }
@@ -108,7 +108,7 @@ added_alone old new key part number root grew is = record {
   free = refl;
   number = number;
   one_more = ap length is ∙ length_at old part.cell (new_cell key);
-  stands = (ap (λ (cs : List Cell). cell_at cs part.cell) is ∙ with_at-same old part.cell (new_cell key) blank number, tt, tt);
+  in_cells = (ap (λ (cs : List Cell). cell_at cs part.cell) is ∙ with_at-same old part.cell (new_cell key) blank number, tt, tt);
   root = ap (λ (x : ℕ). Some x) root;
   grew = grew;
   others = λ i differs none. ap (λ (cs : List Cell). cell_at cs i) is ∙ elsewhere old part.cell i (new_cell key) blank differs number;
@@ -166,22 +166,22 @@ put_left_at old mid new l i k b r key part after tree less free added cells resu
     (let lt : j < places_with (length old) part.cell = within_more old (Some i) (Fork l i k b r) part.cell j tree added.number (omega (arith, counted j)) in omega (arith, added.one_more)) in
     let lti : i < length old = tree.within i (omega (arith, one_here i)) in
     let other : (j : ℕ) → 0 < count j (Fork l i k b r) → j ≢ part.cell = λ j h same. (let none : count j (Fork l i k b r) ≡ 0 = ap (λ (x : ℕ). count x (Fork l i k b r)) same ∙ free in absurd (omega arith)) in
-    let cell : cell_at mid i ≡ cell_of l k b r = added.others i (other i (omega (arith, one_here i))) (omega (arith, one_here i, tree.once i)) ∙ tree.stands.0 in
-    let rest : Stands (cell_at mid) r = stays (cell_at old) (cell_at mid) r (λ j h. added.others j (other j (omega arith)) (omega (arith, tree.once j))) tree.stands.2 in
-    let now = joined_left_is part.grew mid l g.tree part i k b r (omega (arith, added.one_more, places_more (length old) part.cell)) more cell added.root added.stands rest once in
+    let cell : cell_at mid i ≡ cell_of l k b r = added.others i (other i (omega (arith, one_here i))) (omega (arith, one_here i, tree.once i)) ∙ tree.in_cells.0 in
+    let rest : IsInCells (cell_at mid) r = stays (cell_at old) (cell_at mid) r (λ j h. added.others j (other j (omega arith)) (omega (arith, tree.once j))) tree.in_cells.2 in
+    let now = joined_left_is part.grew mid l g.tree part i k b r (omega (arith, added.one_more, places_more (length old) part.cell)) more cell added.root added.in_cells rest once in
     let counts : (j : ℕ) → count j (joined_left part.grew g.tree i k b r).tree ≡ one_at j i + (count j g.tree + count j r) = λ j. count_joined_left j part.grew g.tree i k b r in
     let cell_same : after.cell ≡ part.cell = ap (λ (p : Part). p.cell) result ∙ cell_left part.grew mid i part in
     let tree_is : joined_left part.grew g.tree i k b r ≡ inserted after.cell key (Fork l i k b r) =
     ap (λ (x : Bool). joined_left x g.tree i k b r) added.grew
     ∙ ap (λ (o : Ordering). placed o (inserted part.cell key l) (inserted part.cell key r) l i k b r) (sym less)
     ∙ ap (λ (x : ℕ). inserted x key (Fork l i k b r)) (sym cell_same) in
-    let stands_mid : Stands (cell_at new) (joined_left part.grew g.tree i k b r).tree = subst (λ (cs : List Cell). Stands (cell_at cs) (joined_left part.grew g.tree i k b r).tree) {x = joined_left_cells part.grew mid i part.root} {y = new} (sym cells) now.0.stands in
+    let in_cells_mid : IsInCells (cell_at new) (joined_left part.grew g.tree i k b r).tree = subst (λ (cs : List Cell). IsInCells (cell_at cs) (joined_left part.grew g.tree i k b r).tree) {x = joined_left_cells part.grew mid i part.root} {y = new} (sym cells) now.0.in_cells in
     record {
       absent = ap (λ (o : Ordering). by_side o (search_in key l) i (search_in key r)) less ∙ added.absent;
       free = ap (λ (x : ℕ). count x (Fork l i k b r)) cell_same ∙ free;
       number = (let le = added.number in omega (arith, cell_same));
       one_more = ap length cells ∙ now.0.same_length ∙ added.one_more ∙ ap (λ (x : ℕ). places_with (length old) x) (sym cell_same);
-      stands = subst (λ (x : Grown). Stands (cell_at new) x.tree) {x = joined_left part.grew g.tree i k b r} {y = inserted after.cell key (Fork l i k b r)} tree_is stands_mid;
+      in_cells = subst (λ (x : Grown). IsInCells (cell_at new) x.tree) {x = joined_left part.grew g.tree i k b r} {y = inserted after.cell key (Fork l i k b r)} tree_is in_cells_mid;
       root = ap (λ (p : Part). Some p.root) result ∙ now.0.first ∙ ap (λ (x : Grown). root_of x.tree) tree_is;
       grew = ap (λ (p : Part). p.grew) result ∙ now.1 ∙ ap (λ (x : Grown). x.grew) tree_is;
       others = λ j differs none.
@@ -212,22 +212,22 @@ put_right_at old mid new l i k b r key part after tree greater free added cells 
     (let lt : j < places_with (length old) part.cell = within_more old (Some i) (Fork l i k b r) part.cell j tree added.number (omega (arith, counted j)) in omega (arith, added.one_more)) in
     let lti : i < length old = tree.within i (omega (arith, one_here i)) in
     let other : (j : ℕ) → 0 < count j (Fork l i k b r) → j ≢ part.cell = λ j h same. (let none : count j (Fork l i k b r) ≡ 0 = ap (λ (x : ℕ). count x (Fork l i k b r)) same ∙ free in absurd (omega arith)) in
-    let cell : cell_at mid i ≡ cell_of l k b r = added.others i (other i (omega (arith, one_here i))) (omega (arith, one_here i, tree.once i)) ∙ tree.stands.0 in
-    let rest : Stands (cell_at mid) l = stays (cell_at old) (cell_at mid) l (λ j h. added.others j (other j (omega arith)) (omega (arith, tree.once j))) tree.stands.1 in
-    let now = joined_right_is part.grew mid r g.tree part i k b l (omega (arith, added.one_more, places_more (length old) part.cell)) more cell added.root rest added.stands once in
+    let cell : cell_at mid i ≡ cell_of l k b r = added.others i (other i (omega (arith, one_here i))) (omega (arith, one_here i, tree.once i)) ∙ tree.in_cells.0 in
+    let rest : IsInCells (cell_at mid) l = stays (cell_at old) (cell_at mid) l (λ j h. added.others j (other j (omega arith)) (omega (arith, tree.once j))) tree.in_cells.1 in
+    let now = joined_right_is part.grew mid r g.tree part i k b l (omega (arith, added.one_more, places_more (length old) part.cell)) more cell added.root rest added.in_cells once in
     let counts : (j : ℕ) → count j (joined_right part.grew l i k b g.tree).tree ≡ one_at j i + (count j l + count j g.tree) = λ j. count_joined_right j part.grew l i k b g.tree in
     let cell_same : after.cell ≡ part.cell = ap (λ (p : Part). p.cell) result ∙ cell_right part.grew mid i part in
     let tree_is : joined_right part.grew l i k b g.tree ≡ inserted after.cell key (Fork l i k b r) =
     ap (λ (x : Bool). joined_right x l i k b g.tree) added.grew
     ∙ ap (λ (o : Ordering). placed o (inserted part.cell key l) (inserted part.cell key r) l i k b r) (sym greater)
     ∙ ap (λ (x : ℕ). inserted x key (Fork l i k b r)) (sym cell_same) in
-    let stands_mid : Stands (cell_at new) (joined_right part.grew l i k b g.tree).tree = subst (λ (cs : List Cell). Stands (cell_at cs) (joined_right part.grew l i k b g.tree).tree) {x = joined_right_cells part.grew mid i part.root} {y = new} (sym cells) now.0.stands in
+    let in_cells_mid : IsInCells (cell_at new) (joined_right part.grew l i k b g.tree).tree = subst (λ (cs : List Cell). IsInCells (cell_at cs) (joined_right part.grew l i k b g.tree).tree) {x = joined_right_cells part.grew mid i part.root} {y = new} (sym cells) now.0.in_cells in
     record {
       absent = ap (λ (o : Ordering). by_side o (search_in key l) i (search_in key r)) greater ∙ added.absent;
       free = ap (λ (x : ℕ). count x (Fork l i k b r)) cell_same ∙ free;
       number = (let le = added.number in omega (arith, cell_same));
       one_more = ap length cells ∙ now.0.same_length ∙ added.one_more ∙ ap (λ (x : ℕ). places_with (length old) x) (sym cell_same);
-      stands = subst (λ (x : Grown). Stands (cell_at new) x.tree) {x = joined_right part.grew l i k b g.tree} {y = inserted after.cell key (Fork l i k b r)} tree_is stands_mid;
+      in_cells = subst (λ (x : Grown). IsInCells (cell_at new) x.tree) {x = joined_right part.grew l i k b g.tree} {y = inserted after.cell key (Fork l i k b r)} tree_is in_cells_mid;
       root = ap (λ (p : Part). Some p.root) result ∙ now.0.first ∙ ap (λ (x : Grown). root_of x.tree) tree_is;
       grew = ap (λ (p : Part). p.grew) result ∙ now.1 ∙ ap (λ (x : Grown). x.grew) tree_is;
       others = λ j differs none.

@@ -15,7 +15,7 @@ use Rattle.span_keyindex.specs.Effects.{links_of, links_with}
 use Rattle.span_keyindex.specs.Joins.{joined_right_cells, joined_right_root, most_by, IsJoinCost}
 use Rattle.span_keyindex.specs.Lasts.{IsAboveRight, turns_by, IsHangCost, stop_by, stop_in, with_root}
 use Rattle.span_keyindex.specs.Puts.{tree_at, IsTree, IsAdded}
-use Rattle.span_keyindex.specs.Trees.{Tree, Leaf, Fork, root_of, cell_of, Stands, count, height, shape, joined_right, placed, inserted}
+use Rattle.span_keyindex.specs.Trees.{Tree, Leaf, Fork, root_of, cell_of, IsInCells, count, height, shape, joined_right, placed, inserted}
 use Rattle.span_keyindex.proofs.Costs.{IsReady, ready_part}
 use Rattle.span_keyindex.proofs.Counting.{one_here, one_same}
 use Rattle.span_keyindex.proofs.Exits.{fork_some}
@@ -27,11 +27,11 @@ abbrev pub IsRight : Tree → Tree → Type 0
 IsRight s Leaf = Leaf ≡ s
 IsRight s (Fork l n k b r) = (Fork l n k b r ≡ s) ⊎ IsRight s r
 
-pub stands_right : (f : ℕ → Cell) (s t : Tree) → IsRight s t → Stands f t → Stands f s
-stands_right f s Leaf right stands = subst (λ (u : Tree). Stands f u) {x = Leaf} {y = s} right stands
-stands_right f s (Fork l n k b r) right stands = elim right [
-  | inl same ↦ subst (λ (u : Tree). Stands f u) {x = Fork l n k b r} {y = s} same stands
-  | inr deeper ↦ stands_right f s r deeper stands.2
+pub in_cells_right : (f : ℕ → Cell) (s t : Tree) → IsRight s t → IsInCells f t → IsInCells f s
+in_cells_right f s Leaf right in_cells = subst (λ (u : Tree). IsInCells f u) {x = Leaf} {y = s} right in_cells
+in_cells_right f s (Fork l n k b r) right in_cells = elim right [
+  | inl same ↦ subst (λ (u : Tree). IsInCells f u) {x = Fork l n k b r} {y = s} same in_cells
+  | inr deeper ↦ in_cells_right f s r deeper in_cells.2
 ]
 
 pub count_right : (i : ℕ) (s t : Tree) → IsRight s t → count i s ≤ count i t
@@ -135,7 +135,7 @@ some_root s (Fork l n k b r) x right is = (n, refl)
 
 tree_right : (cs : List Cell) (l : Tree) (n : ℕ) (k : List ℕ) (b : Balance) (r : Tree) → IsTree cs (Some n) (Fork l n k b r) → IsTree cs (root_of r) r
 tree_right cs l n k b r tree = record {
-  stands = tree.stands.2;
+  in_cells = tree.in_cells.2;
   root = refl;
   once = λ j. omega (arith, tree.once j);
   within = λ j h. tree.within j (omega arith);
@@ -153,7 +153,7 @@ lifted cs new key c (Fork l n k b r) s x right tree above free root added y is =
   | inr deeper ↦ (let more = some_root s r x deeper root in
       let inner : IsAdded cs new r key (kept_part c more.0) = lifted cs new key c r s x deeper (tree_right cs l n k b r tree) above.1 (omega arith) root added more.0 more.1 in
       let differs : n ≢ c = λ q. absurd (omega (arith, one_same c n (sym q))) in
-      let cell : cell_at new n ≡ cell_of l k b r = inner.others n differs (omega (arith, one_here n, tree.once n)) ∙ tree.stands.0 in
+      let cell : cell_at new n ≡ cell_of l k b r = inner.others n differs (omega (arith, one_here n, tree.once n)) ∙ tree.in_cells.0 in
       let e : y ≡ n = (let q : Some y ≡ Some n = is in cc) in
       put_right_at cs new new l n k b r key (kept_part c more.0) (kept_part c y) tree above.0 free inner (kept_join new n more.0 l k b r cell more.1) (ap (λ (z : ℕ). kept_part c z) e))
 ]
@@ -179,7 +179,7 @@ module _ (cs : List Cell) (levels : ℕ) (at : Option ℕ) (key : List ℕ) (c p
     (tree : IsTree cs at (tree_at cs levels at)) (there : IsRight (Fork l p k b s) (tree_at cs levels at)) (uneven : IsUneven s) (above : IsAboveRight key (tree_at cs levels at)) (free : count c (tree_at cs levels at) ≡ 0) where
   fork_there : IsTree cs (Some p) (Fork l p k b s)
   fork_there = record {
-    stands = stands_right (cell_at cs) (Fork l p k b s) (tree_at cs levels at) there tree.stands;
+    in_cells = in_cells_right (cell_at cs) (Fork l p k b s) (tree_at cs levels at) there tree.in_cells;
     root = refl;
     once = λ j. omega (arith, count_right j (Fork l p k b s) (tree_at cs levels at) there, tree.once j);
     within = λ j some. tree.within j (omega (arith, count_right j (Fork l p k b s) (tree_at cs levels at) there));
@@ -199,12 +199,12 @@ module _ (cs : List Cell) (levels : ℕ) (at : Option ℕ) (key : List ℕ) (c p
 
   module _ (ls : Links) (read : ls ≡ links_of cs p) where
     link_is : ls.right ≡ root_of s
-    link_is = ap (λ (x : Links). x.right) read ∙ ap (λ (x : Cell). x.links.right) fork_there.stands.0
+    link_is = ap (λ (x : Links). x.right) read ∙ ap (λ (x : Cell). x.links.right) fork_there.in_cells.0
 
     same_part : tree_at cs levels ls.right ≡ s
     same_part =
         let low : height s ≤ levels = omega (arith, lower, levels_low (cell_at cs) levels at) in
-        ap (λ (x : Option ℕ). shape (cell_at cs) levels x) link_is ∙ shape_is (cell_at cs) s levels fork_there.stands.2 low
+        ap (λ (x : Option ℕ). shape (cell_at cs) levels x) link_is ∙ shape_is (cell_at cs) s levels fork_there.in_cells.2 low
 
     pub part_tree : IsTree cs ls.right (tree_at cs levels ls.right)
     part_tree =

@@ -9,7 +9,7 @@ use Rattle.std.proofs.lemmas.List.Elements.{filter-append}
 use Rattle.span_keycode.specs.Order.{byte_order}
 use Rattle.span_arena.specs.declared.cell.Cell.{Cell}
 use Rattle.span_keyindex.specs.declared.tree.TreeRoot.{TreeRoot}
-use Rattle.span_keyindex.specs.Trees.{Tree, Leaf, Fork, Stands, one_at}
+use Rattle.span_keyindex.specs.Trees.{Tree, Leaf, Fork, IsInCells, one_at}
 use Rattle.span_arena.specs.declared.token.Chain.{Chain}
 use Rattle.span_arena.specs.Cells.{cell_at}
 use Rattle.span_keyindex.specs.Items.{entry, items, holders, AreRising, below, from, entries_between}
@@ -75,10 +75,10 @@ walked_is f g (suc n) at stop (e ∷ es) fs h is enough keys once =
 
 -- ---- in an index
 
-pub keys_stand : (cs : List Cell) (t : Tree) → Stands (cell_at cs) t → AllByRecursion (λ (e : Entry). (cell_at cs e.chain.number).key ≡ e.key) (items t)
-keys_stand cs Leaf stands = tt
-keys_stand cs (Fork l n k b r) stands =
-    all_both (λ (e : Entry). (cell_at cs e.chain.number).key ≡ e.key) (items l) (entry k n ∷ items r) (keys_stand cs l stands.1) (ap (λ (c : Cell). c.key) stands.0, keys_stand cs r stands.2)
+pub keys_in_cells : (cs : List Cell) (t : Tree) → IsInCells (cell_at cs) t → AllByRecursion (λ (e : Entry). (cell_at cs e.chain.number).key ≡ e.key) (items t)
+keys_in_cells cs Leaf in_cells = tt
+keys_in_cells cs (Fork l n k b r) in_cells =
+    all_both (λ (e : Entry). (cell_at cs e.chain.number).key ≡ e.key) (items l) (entry k n ∷ items r) (keys_in_cells cs l in_cells.1) (ap (λ (c : Cell). c.key) in_cells.0, keys_in_cells cs r in_cells.2)
 
 cells_below : (m : ℕ) (es : List Entry) → ((i : ℕ) → 0 < holders i es → i < m) → AreBelow m es
 cells_below m [] within = tt
@@ -106,7 +106,7 @@ module _ (cs : List Cell) (ns : Nexts) (index : TreeRoot) (own : IsIndex cs ns i
       let from_first : IsLinked (next_of ns) (head_cell None (es ++ fs)) (es ++ fs) = linked_back (next_of ns) ns.first xs (es ++ fs) own_links in
       let linked : IsLinked (next_of ns) at (es ++ fs) = subst (λ (x : Option ℕ). IsLinked (next_of ns) x (es ++ fs)) {x = head_cell None (es ++ fs)} {y = at} (sym first) from_first in
       let all_keys : AllByRecursion (λ (e : Entry). (cell_at cs e.chain.number).key ≡ e.key) (xs ++ (es ++ fs)) =
-      subst (λ (l : List Entry). AllByRecursion (λ (e : Entry). (cell_at cs e.chain.number).key ≡ e.key) l) {x = entries_at cs index} {y = xs ++ (es ++ fs)} is (keys_stand cs (tree_of cs index) own.search.tree.stands) in
+      subst (λ (l : List Entry). AllByRecursion (λ (e : Entry). (cell_at cs e.chain.number).key ≡ e.key) l) {x = entries_at cs index} {y = xs ++ (es ++ fs)} is (keys_in_cells cs (tree_of cs index) own.search.tree.in_cells) in
       let keys : AllByRecursion (λ (e : Entry). (cell_at cs e.chain.number).key ≡ e.key) es =
       all_front (λ (e : Entry). (cell_at cs e.chain.number).key ≡ e.key) es fs (all_back (λ (e : Entry). (cell_at cs e.chain.number).key ≡ e.key) xs (es ++ fs) all_keys) in
       let len : length (entries_at cs index) ≡ length xs + (length es + length fs) = ap length is ∙ length-append xs (es ++ fs) ∙ ap (λ (m : ℕ). length xs + m) (length-append es fs) in

@@ -10,7 +10,7 @@ use Rattle.span_arena.specs.declared.cell.Cell.{Cell}
 use Rattle.span_keyindex.specs.declared.join.Part.{Part}
 use Rattle.span_keyindex.specs.Puts.{Put, Found, Added}
 use Rattle.span_keyindex.specs.declared.tree.TreeRoot.{TreeRoot}
-use Rattle.span_keyindex.specs.Trees.{Tree, Leaf, Fork, Grown, root_of, Stands, one_at, count, shape, height, size, IsAvl, inserted, search_in}
+use Rattle.span_keyindex.specs.Trees.{Tree, Leaf, Fork, Grown, root_of, IsInCells, one_at, count, shape, height, size, IsAvl, inserted, search_in}
 use Rattle.span_keyindex.specs.Avl.{grown_height}
 use Rattle.span_arena.specs.Counts.{Count}
 use Rattle.span_arena.specs.Content.{Content, IsNewChain}
@@ -28,22 +28,22 @@ use Rattle.span_keyindex.proofs.Rising.{rising_around, rising_front, rising_back
 use Rattle.span_keyindex.proofs.Searching.{length_items, search_found, search_absent, search_other, before_is}
 use Rattle.span_keyindex.proofs.Placing.{items_inserted}
 use Rattle.span_keyindex.proofs.Lasts.{last_stays, one_more_compared}
-use Rattle.span_keyindex.proofs.Walking.{keys_stand}
+use Rattle.span_keyindex.proofs.Walking.{keys_in_cells}
 use Rattle.span_keyindex.proofs.Linking.{held_items, linked_same, room_same, linked_more}
 use Rattle.span_keyindex.proofs.Sizes.{size_most}
 use Rattle.span_keyindex.proofs.Exits.{found_is}
 
 -- as many levels as the tree has show all of it
-pub shape_is : (f : ℕ → Cell) (t : Tree) (n : ℕ) → Stands f t → height t ≤ n → shape f n (root_of t) ≡ t
-shape_is f Leaf zero stands tall = refl
-shape_is f Leaf (suc n) stands tall = refl
-shape_is f (Fork l i k b r) zero stands tall = absurd (omega arith)
-shape_is f (Fork l i k b r) (suc n) stands tall =
+pub shape_is : (f : ℕ → Cell) (t : Tree) (n : ℕ) → IsInCells f t → height t ≤ n → shape f n (root_of t) ≡ t
+shape_is f Leaf zero in_cells tall = refl
+shape_is f Leaf (suc n) in_cells tall = refl
+shape_is f (Fork l i k b r) zero in_cells tall = absurd (omega arith)
+shape_is f (Fork l i k b r) (suc n) in_cells tall =
     let hl : height l ≤ n = omega (arith, le-max_left (height l) (height r)) in
     let hr : height r ≤ n = omega (arith, le-max_right (height l) (height r)) in
-    ap (λ (x : Cell). Fork (shape f n x.links.left) i x.key x.links.balance (shape f n x.links.right)) stands.0
-    ∙ ap (λ (x : Tree). Fork x i k b (shape f n (root_of r))) (shape_is f l n stands.1 hl)
-    ∙ ap (λ (x : Tree). Fork l i k b x) (shape_is f r n stands.2 hr)
+    ap (λ (x : Cell). Fork (shape f n x.links.left) i x.key x.links.balance (shape f n x.links.right)) in_cells.0
+    ∙ ap (λ (x : Tree). Fork x i k b (shape f n (root_of r))) (shape_is f l n in_cells.1 hl)
+    ∙ ap (λ (x : Tree). Fork l i k b x) (shape_is f r n in_cells.2 hr)
 
 -- ---- the entries
 
@@ -121,14 +121,14 @@ module _ (a b : Content) (ns ms : Nexts) (before after : TreeRoot) (key : List �
   same : tree_of b.cells after ≡ (inserted part.cell key (tree_of a.cells before)).tree
   same =
       let low : height (inserted part.cell key (tree_of a.cells before)).tree ≤ after.levels = (let e = tall in omega arith) in
-      ap (λ (x : Option ℕ). shape (cell_at b.cells) after.levels x) (root ∙ added.root) ∙ shape_is (cell_at b.cells) (inserted part.cell key (tree_of a.cells before)).tree after.levels added.stands low
+      ap (λ (x : Option ℕ). shape (cell_at b.cells) after.levels x) (root ∙ added.root) ∙ shape_is (cell_at b.cells) (inserted part.cell key (tree_of a.cells before)).tree after.levels added.in_cells low
 
   now : entries_at b.cells after ≡ with_entry (entries_at a.cells before) (entry key part.cell)
   now = ap items same ∙ items_inserted part.cell key (tree_of a.cells before) index.search.rising added.absent
 
   tree_now : IsTree b.cells after.root (inserted part.cell key (tree_of a.cells before)).tree
   tree_now = record {
-    stands = added.stands;
+    in_cells = added.in_cells;
     root = root ∙ added.root;
     once = λ j. omega (arith, counted j, once_more a.cells before.root (tree_of a.cells before) part.cell j index.search.tree added.free);
     within = λ j h. (let lt : j < places_with (length a.cells) part.cell = within_more a.cells before.root (tree_of a.cells before) part.cell j index.search.tree added.number (omega (arith, counted j)) in omega (arith, added.one_more));
@@ -225,7 +225,7 @@ slot_added old new ns ms before after key v part index put arena next is root le
     (subst (λ (x : Put). IsPutIn old new x) {x = v} {y = Added part} is arena)
     (subst (λ (x : Put). IsNext ns ms (before_in key None (tree_of old.cells before)) x) {x = v} {y = Added part} is next)
     root levels
-    (last ∙ index.last ∙ sym (last_stays old.cells key (entries_at old.cells before) part.cell index.search.rising (keys_stand old.cells (tree_of old.cells before) index.search.tree.stands)
+    (last ∙ index.last ∙ sym (last_stays old.cells key (entries_at old.cells before) part.cell index.search.rising (keys_in_cells old.cells (tree_of old.cells before) index.search.tree.in_cells)
     (search_other key (tree_of old.cells before) index.search.rising added.absent) (ap (λ (o : Option ℕ). is_after old.cells o key) (sym index.last) ∙ among)))
 
 pub grown_yes : (g : Bool) (h : ℕ) → g ≡ true → h + 1 ≡ grown_height g h

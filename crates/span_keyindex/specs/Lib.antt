@@ -7,6 +7,7 @@ pub mod Indexes
 pub mod Items
 pub mod Joins
 pub mod Lasts
+pub mod Limits
 pub mod Nears
 pub mod Nexts
 pub mod Puts

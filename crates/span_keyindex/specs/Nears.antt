@@ -1,4 +1,4 @@
--- What a chain tells of a key, and what searches of several keys cost.
+-- Where a key is, by a chain near it, and what searches of several keys cost.
 use Rattle.std.specs.Prelude.{◌≡◌, ◌≤◌, ◌+◌, ℕ, List, Option, Some, None}
 use Rattle.std.specs.declared.cmp.Ordering.TheVariants.{Less}
 use Rattle.span_keycode.specs.Order.{byte_order}

@@ -1,8 +1,9 @@
 -- The cells in the order of their keys: the first, and after each the next.
-use Rattle.std.specs.Prelude.{◌≡◌, ℕ, ◌+◌, ◌-◌, List, [], ◌∷◌, ◌++◌, length, take, Option, Some, None, slice_index_or, slice_set, nat_eq, nat_lt, ◌^◌, if◌then◌else◌}
+use Rattle.std.specs.Prelude.{◌≡◌, ℕ, ◌+◌, ◌-◌, List, [], ◌∷◌, ◌++◌, length, take, Option, Some, None, slice_index_or, slice_set, nat_eq, nat_lt, if◌then◌else◌}
 use Rattle.span_keycode.specs.Order.{byte_order}
 use Rattle.span_keyindex.specs.Trees.{Tree, Leaf, Fork, by_side}
 use Rattle.span_arena.specs.Cells.{is_past}
+use Rattle.span_arena.specs.Limits.{most_chains}
 use Rattle.span_keyindex.specs.Entries.{Entry}
 
 -- the first cell, and the cell after each
@@ -10,9 +11,9 @@ pub record Nexts : Type 0 where
   pub first : Option ℕ
   pub next : List (Option ℕ)
 
--- the link to a cell as it is kept: of all numbers of 32 bits the last is no cell's
+-- the link to a cell as it is kept: the numbers of cells are less than the most that there may be
 abbrev pub link_to : ℕ → Option ℕ
-link_to number = (if nat_eq number (2 ^ 32 - 1) then None else Some number)
+link_to number = (if nat_eq number most_chains then None else Some number)
 
 abbrev pub next_of : Nexts → ℕ → Option ℕ
 next_of n i = slice_index_or n.next i None

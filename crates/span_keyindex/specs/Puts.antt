@@ -3,7 +3,7 @@ use Rattle.std.specs.Prelude.{◌≡◌, ◌≢◌, ℕ, ◌+◌, ◌<◌, ◌�
 use Rattle.span_arena.specs.declared.cell.Cell.{Cell}
 use Rattle.span_keyindex.specs.declared.join.Part.{Part}
 use Rattle.span_value.specs.declared.refusal.Refusal.{Refusal}
-use Rattle.span_keyindex.specs.Trees.{Tree, root_of, Stands, count, height, shape, inserted, search_in}
+use Rattle.span_keyindex.specs.Trees.{Tree, root_of, IsInCells, count, height, shape, inserted, search_in}
 use Rattle.span_arena.specs.Counts.{Count}
 use Rattle.span_arena.specs.Cells.{cell_at}
 use Rattle.span_arena.specs.Content.{Content, IsChain, IsNewChain}
@@ -28,7 +28,7 @@ tree_at cs levels at = shape (cell_at cs) levels at
 
 -- these cells hold the tree, each of its own once
 pub record IsTree (cs : List Cell) (at : Option ℕ) (t : Tree) : Type 0 where
-  pub stands : Stands (cell_at cs) t
+  pub in_cells : IsInCells (cell_at cs) t
   pub root : at ≡ root_of t
   pub once : (i : ℕ) → count i t ≤ 1
   pub within : (i : ℕ) → 0 < count i t → i < length cs
@@ -47,7 +47,7 @@ pub record IsAdded (old new : List Cell) (t : Tree) (key : List ℕ) (part : Par
   pub free : count part.cell t ≡ 0
   pub number : part.cell ≤ length old
   pub one_more : length new ≡ places_with (length old) part.cell
-  pub stands : Stands (cell_at new) (inserted part.cell key t).tree
+  pub in_cells : IsInCells (cell_at new) (inserted part.cell key t).tree
   pub root : Some part.root ≡ root_of (inserted part.cell key t).tree
   pub grew : part.grew ≡ (inserted part.cell key t).grew
   pub others : (i : ℕ) → i ≢ part.cell → count i t ≡ 0 → cell_at new i ≡ cell_at old i

@@ -21,9 +21,9 @@ abbrev pub cell_of : Tree → List ℕ → Balance → Tree → Cell
 cell_of l k b r = record { key = k; links = record { left = root_of l; right = root_of r; balance = b } }
 
 -- each cell of the tree is as the tree says
-abbrev pub Stands : (ℕ → Cell) → Tree → Type 0
-Stands f Leaf = Unit {0}
-Stands f (Fork l n k b r) = (f n ≡ cell_of l k b r) × Stands f l × Stands f r
+abbrev pub IsInCells : (ℕ → Cell) → Tree → Type 0
+IsInCells f Leaf = Unit {0}
+IsInCells f (Fork l n k b r) = (f n ≡ cell_of l k b r) × IsInCells f l × IsInCells f r
 
 abbrev pub one_at : ℕ → ℕ → ℕ
 one_at i n = (if nat_eq n i then 1 else 0)

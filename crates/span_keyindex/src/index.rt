@@ -4,11 +4,12 @@ ghost use Rattle.span_arena.specs.Content.{IsChain};
 ghost use Rattle.span_keyindex.specs.Arenas.{in_use, IsWithoutUnused};
 ghost use Rattle.span_keyindex.specs.Entries.{HasChain, IsAbsent, IsRising, IsSlotFor, entries_from, entries_in, entries_under};
 ghost use Rattle.span_keyindex.specs.Indexes.{AreTwoSearches, IsEmptyIndex, IsIndexOf, IsSearchCost, IsSlotCost, entries_of};
+ghost use Rattle.span_keyindex.specs.Limits.{search_lanes};
 ghost use Rattle.span_keyindex.specs.Splits.{IsPartFrom};
 
 use crate::chains::{Chains, chains_from, chains_of};
 use crate::find::find;
-use crate::near::{LANES, Near, near_key, near_keys};
+use crate::near::{Near, SEARCH_LANES, near_key, near_keys};
 use crate::next::NextLinks;
 use crate::remove::remove_unused;
 use crate::split::copy_keys;
@@ -61,18 +62,18 @@ impl KeyIndex {
         }
     }
 
-    /// For up to 16 keys the numbers of chains near them, for `find_near`: nothing is promised of them. The keys are searched together,
-    /// which takes less time than one after another where the tree is large. Among fewer than 2 ^ d keys at most 2 d are compared for
-    /// each of the 16. It takes no memory.
+    /// For up to `SEARCH_LANES` keys the numbers of chains near them, for `find_near`: nothing is promised of them. The keys are searched
+    /// together, which takes less time than one after another where the tree is large. Among fewer than 2 ^ d keys at most 2 d are
+    /// compared for each of them. It takes no memory.
     pub fn near<C: Ledger, W: Ledger>(
         &self,
         arena: &Arena,
         keys: &[Key],
         steps: &mut Steps<C, W>,
-    ) -> [u32; LANES]
+    ) -> [u32; SEARCH_LANES]
         requires { IsIndexOf self.now arena.now }
         ensures cost { (d : ℕ) → length (entries_of self.now arena.now) < 2 ^ d
-            → IsSearchCost (16 * d) steps.old steps.new }
+            → IsSearchCost (search_lanes * d) steps.old steps.new }
     {
         near_keys(self, arena, keys, steps)
     }

@@ -1,10 +1,13 @@
 //! Look-ups that begin at a chain near the key.
 //!
 //! A search waits for memory at each level of a large tree. Searches of several keys that go down the tree together wait for
-//! each other's cells at once: so a transaction's keys are searched ahead, a few at a time, and a look-up then begins at what was found.
+//! each other's cells at once: so a transaction's keys are searched ahead, a few at a time, and a look-up then begins at the
+//! chain where the search ended.
 ghost use Rattle.std.specs.Prelude.{◌≡◌, ℕ, ◌*◌, ◌<◌, ◌^◌, IsTrue, length};
 ghost use Rattle.span_keyindex.specs.Indexes.{IsIndexOf, IsSearchCost, entries_of};
+ghost use Rattle.span_keyindex.specs.Limits.{search_lanes};
 ghost use Rattle.span_keyindex.specs.Nears.{IsBefore, IsLookCost, IsNear};
+ghost use Rattle.span_keyindex.specs.declared.near.TheConstants.{SEARCH_LANES};
 
 use crate::index::KeyIndex;
 use span_arena::arena::Arena;
@@ -14,7 +17,12 @@ use std::cmp::Ordering;
 use std::sync::ledger::Ledger;
 
 /// How many keys are searched together.
-pub const LANES: usize = 16;
+pub const SEARCH_LANES: usize = 16;
+
+/// The number is the one that the definitions name.
+pub fn lanes_are_stated()
+    ensures { SEARCH_LANES ≡ search_lanes }
+{}
 
 /// No number of a chain.
 pub const NO_CHAIN: u32 = u32::MAX;
@@ -64,12 +72,12 @@ fn step<C: Ledger, W: Ledger>(
 fn step_all<C: Ledger, W: Ledger>(
     arena: &Arena,
     keys: &[Key],
-    lanes: &mut [Lane; LANES],
+    lanes: &mut [Lane; SEARCH_LANES],
     steps: &mut Steps<C, W>,
 )
-    ensures { IsLookCost 16 steps.old steps.new }
+    ensures { IsLookCost search_lanes steps.old steps.new }
 {
-    for i in 0..keys.len().min(LANES) {
+    for i in 0..keys.len().min(SEARCH_LANES) {
         lanes[i] = step(arena, keys[i].as_slice(), lanes[i], steps);
     }
 }
@@ -77,19 +85,19 @@ fn step_all<C: Ledger, W: Ledger>(
 fn search_all<C: Ledger, W: Ledger>(
     arena: &Arena,
     keys: &[Key],
-    lanes: &mut [Lane; LANES],
+    lanes: &mut [Lane; SEARCH_LANES],
     levels: usize,
     steps: &mut Steps<C, W>,
 )
-    ensures { IsLookCost (16 * levels) steps.old steps.new }
+    ensures { IsLookCost (search_lanes * levels) steps.old steps.new }
 {
     for _level in 0..levels {
         step_all(arena, keys, lanes, steps);
     }
 }
 
-// The chain that a search has found, if it is one.
-fn found(arena: &Arena, lane: Lane) -> u32 {
+// The chain that a search ends at, if there is one.
+fn lane_chain(arena: &Arena, lane: Lane) -> u32 {
     if arena.is_chain(lane.before) {
         lane.before
     } else {
@@ -97,41 +105,41 @@ fn found(arena: &Arena, lane: Lane) -> u32 {
     }
 }
 
-// The chains that the searches have found.
-fn found_all(arena: &Arena, lanes: &[Lane; LANES]) -> [u32; LANES] {
-    let mut near = [NO_CHAIN; LANES];
-    for i in 0..LANES {
-        near[i] = found(arena, lanes[i]);
+// The chains that the searches end at.
+fn lane_chains(arena: &Arena, lanes: &[Lane; SEARCH_LANES]) -> [u32; SEARCH_LANES] {
+    let mut near = [NO_CHAIN; SEARCH_LANES];
+    for i in 0..SEARCH_LANES {
+        near[i] = lane_chain(arena, lanes[i]);
     }
     near
 }
 
-/// The chains near some keys, up to 16: where all is well, those of the last keys that are not after them.
+/// The chains near some keys, up to `SEARCH_LANES`: where all is well, those of the last keys that are not after them.
 pub(crate) fn near_keys<C: Ledger, W: Ledger>(
     index: &KeyIndex,
     arena: &Arena,
     keys: &[Key],
     steps: &mut Steps<C, W>,
-) -> [u32; LANES]
+) -> [u32; SEARCH_LANES]
     requires { IsIndexOf index.now arena.now }
     ensures { (d : ℕ) → length (entries_of index.now arena.now) < 2 ^ d
-        → IsSearchCost (16 * d) steps.old steps.new }
+        → IsSearchCost (search_lanes * d) steps.old steps.new }
 {
     let first = Lane {
         at: number_of(index.tree.root),
         before: NO_CHAIN,
     };
-    let mut lanes = [first; LANES];
+    let mut lanes = [first; SEARCH_LANES];
     search_all(arena, keys, &mut lanes, index.tree.levels, steps);
-    found_all(arena, &lanes)
+    lane_chains(arena, &lanes)
 }
 
-/// What a chain tells of a key.
+/// Where a key is, by a chain near it.
 #[derive(Clone, Copy, Debug)]
 pub(crate) enum Near {
-    /// It is the key's.
+    /// The chain is the key's.
     Here,
-    /// The key is between its key and the next one.
+    /// The key is between the chain's and the next one, so it has no chain.
     Absent,
     Unknown,
 }
@@ -146,7 +154,7 @@ fn is_before(arena: &Arena, key: &[u8], at: Option<u32>) -> bool
     }
 }
 
-/// What the chain of a number tells of a key.
+/// Where a key is, by the chain with the number `near`.
 pub(crate) fn near_key(index: &KeyIndex, arena: &Arena, key: &[u8], near: u32) -> Near
     requires { IsIndexOf index.now arena.now }
     ensures { IsNear (entries_of index.now arena.now) key.now near result }

@@ -16,14 +16,15 @@ pub struct NextLinks {
 }
 
 impl Model for NextLinks {
-    ghost use Rattle.std.specs.Prelude.{◌<◌, ◌^◌, length, map};
+    ghost use Rattle.std.specs.Prelude.{◌≤◌, length, map};
+    ghost use Rattle.span_arena.specs.Limits.{most_chains};
     ghost use Rattle.span_keyindex.specs.Nexts.{Nexts, link_to};
 
     ghost Value = { Nexts };
 
     ghost view = { λ n. record { first = link_to n.first; next = map link_to n.next.items } };
 
-    ghost invariant = { λ n. length n.next.items < 2 ^ 32 };
+    ghost invariant = { λ n. length n.next.items ≤ most_chains };
 }
 
 // The link to a chain, as it is kept.

@@ -3,7 +3,7 @@ ghost use Rattle.span_mutate.specs.Typed.{AreTypedMutations};
 
 use super::lookups::{Lookups, key_of};
 use span_keycode::key::Key;
-use span_keyindex::near::{LANES, NO_CHAIN};
+use span_keyindex::near::{NO_CHAIN, SEARCH_LANES};
 use span_mutate::mutation::CheckedMutation;
 use span_schema::schema::Schema;
 use std::alloc::{AllocError, Global};
@@ -11,7 +11,7 @@ use std::alloc::{AllocError, Global};
 /// Chains of a store near the keys of the next mutations. Nothing rests on them: a look-up that begins at one finds what any other does.
 #[derive(Drop)]
 pub(crate) struct Ahead {
-    near: [u32; LANES],
+    near: [u32; SEARCH_LANES],
     place: usize,
 }
 
@@ -19,13 +19,13 @@ impl Ahead {
     /// Nothing is searched yet.
     pub(crate) fn new() -> Ahead {
         Ahead {
-            near: [NO_CHAIN; LANES],
+            near: [NO_CHAIN; SEARCH_LANES],
             place: 0,
         }
     }
 
-    /// The chain near the key of the next of these mutations; each call goes on by one. It takes memory for 16 keys at a time, and
-    /// where there is none, nothing is searched ahead.
+    /// The chain near the key of the next of these mutations; each call goes on by one. It takes memory for `SEARCH_LANES` keys at a
+    /// time, and where there is none, nothing is searched ahead.
     pub(crate) fn next(
         &mut self,
         alloc: Global,
@@ -35,11 +35,11 @@ impl Ahead {
     ) -> u32
         requires { AreTypedMutations schema.now mutations.now }
     {
-        let lane = self.place % LANES;
+        let lane = self.place % SEARCH_LANES;
         if lane == 0 {
             self.near = match keys_from(alloc, schema, store, mutations, self.place) {
                 Ok(keys) => near(store, keys.as_slice()),
-                Err(_) => [NO_CHAIN; LANES],
+                Err(_) => [NO_CHAIN; SEARCH_LANES],
             };
         }
         self.place = self.place.wrapping_add(1);
@@ -47,14 +47,14 @@ impl Ahead {
     }
 }
 
-fn near(store: &Lookups<'_>, keys: &[Key]) -> [u32; LANES] {
+fn near(store: &Lookups<'_>, keys: &[Key]) -> [u32; SEARCH_LANES] {
     if keys.is_empty() {
-        return [NO_CHAIN; LANES];
+        return [NO_CHAIN; SEARCH_LANES];
     }
     store.near(keys)
 }
 
-// The keys of up to 16 mutations from a place on, before the first that is known to have no row.
+// The keys of up to `SEARCH_LANES` mutations from a place on, before the first that is known to have no row.
 fn keys_from(
     alloc: Global,
     schema: &Schema,
@@ -65,7 +65,7 @@ fn keys_from(
     requires { AreTypedMutations schema.now mutations.now }
 {
     let mut keys = Vec::new(alloc);
-    for at in place..mutations.len().min(place.saturating_add(LANES)) {
+    for at in place..mutations.len().min(place.saturating_add(SEARCH_LANES)) {
         let Some(key) = key_of(alloc, schema, &mutations[at]) else {
             return Ok(keys);
         };

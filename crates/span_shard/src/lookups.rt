@@ -13,7 +13,7 @@ use super::store::Store;
 use span_keycode::compare::order_of_bytes;
 use span_keycode::encode::encode_key;
 use span_keycode::key::Key;
-use span_keyindex::near::LANES;
+use span_keyindex::near::SEARCH_LANES;
 use span_mutate::mutation::CheckedMutation;
 use span_schema::schema::Schema;
 use span_value::seq::Seq;
@@ -118,7 +118,7 @@ impl<'a> Lookups<'a> {
     }
 
     /// Chains near keys, for `row_near`.
-    pub(crate) fn near(&self, keys: &[Key]) -> [u32; LANES] {
+    pub(crate) fn near(&self, keys: &[Key]) -> [u32; SEARCH_LANES] {
         near_keys(self.store, keys)
     }
 

@@ -13,7 +13,7 @@ use super::store::Store;
 use span_arena::arena::Arena;
 use span_arena::token::Chain;
 use span_keycode::key::Key;
-use span_keyindex::near::LANES;
+use span_keyindex::near::SEARCH_LANES;
 use span_keyindex::walk::Walk;
 use span_value::seq::Seq;
 use std::alloc::{AllocError, Global};
@@ -90,7 +90,7 @@ pub(crate) fn row_near<'a>(store: &'a Store, key: &[u8], near: u32) -> Option<&'
 }
 
 /// Chains near keys, for `row_near`.
-pub(crate) fn near_keys(store: &Store, keys: &[Key]) -> [u32; LANES] {
+pub(crate) fn near_keys(store: &Store, keys: &[Key]) -> [u32; SEARCH_LANES] {
     near_chains(&store.index, &store.arena, keys)
 }
 

@@ -13,7 +13,7 @@ use span_keycode::key::Key;
 use span_keycode::range::KeyRange;
 use span_keyindex::chains::Chains;
 use span_keyindex::index::KeyIndex;
-use span_keyindex::near::LANES;
+use span_keyindex::near::SEARCH_LANES;
 use span_keyindex::walk::Walk;
 use span_value::refusal::Refusal;
 use std::alloc::Global;
@@ -76,7 +76,7 @@ pub(crate) fn slot_near(
 }
 
 /// Chains near up to 16 keys.
-pub(crate) fn near_chains(index: &KeyIndex, arena: &Arena, keys: &[Key]) -> [u32; LANES]
+pub(crate) fn near_chains(index: &KeyIndex, arena: &Arena, keys: &[Key]) -> [u32; SEARCH_LANES]
     requires { IsIndexOf index.now arena.now }
 {
     counted_near_chains::<Brand, Brand>(index, arena, keys, Blank::new(1), Blank::new(1))
@@ -88,7 +88,7 @@ fn counted_near_chains<C: Ledger, W: Ledger>(
     keys: &[Key],
     compared: Blank,
     written: Blank,
-) -> [u32; LANES]
+) -> [u32; SEARCH_LANES]
     requires own { IsIndexOf index.now arena.now }
     requires opens_compared { Opens C.name C.parts compared.name compared.parts }
     requires opens_written { Opens W.name W.parts written.name written.parts }
