@@ -2,3 +2,5 @@ pub mod CellTexts
 pub mod Choices
 pub mod IntCells
 pub mod Total
+pub mod Comparisons
+pub mod Lists

@@ -4,3 +4,4 @@ pub mod Refusals
 pub mod Truths
 pub mod Results
 pub mod Texts
+pub mod Numbers
