@@ -9,16 +9,16 @@ use Rattle.span_keycode.specs.Order.{byte_order, Decides}
 use Rattle.span_keycode.specs.Coding.{AreBytes}
 use Rattle.span_keycode.specs.Ranges.{in_front, next_after}
 use Rattle.span_keycode.proofs.Order.{not_decided_after, not_decided_before, decides-equal-nothing}
-use Rattle.span_keycode.proofs.Codes.{less_is, greater_is, equal_is}
+use Rattle.span_value.proofs.Comparisons.{number_less, number_greater, number_equal}
 
 pub front_less : (a b : ℕ) (p q : List ℕ) → a < b → byte_order (a ∷ p) (b ∷ q) ≡ Less
-front_less a b p q h = let e = less_is a b h in rw e refl
+front_less a b p q h = let e = number_less a b h in rw e refl
 
 pub front_greater : (a b : ℕ) (p q : List ℕ) → b < a → byte_order (a ∷ p) (b ∷ q) ≡ Greater
-front_greater a b p q h = let e = greater_is a b h in rw e refl
+front_greater a b p q h = let e = number_greater a b h in rw e refl
 
 pub front_same : (a b : ℕ) (p q : List ℕ) → a ≡ b → byte_order (a ∷ p) (b ∷ q) ≡ byte_order p q
-front_same a b p q h = let e = equal_is a b h in rw e refl
+front_same a b p q h = let e = number_equal a b h in rw e refl
 
 pub above_nothing : (p : List ℕ) → byte_order p [] ≢ Less
 above_nothing [] e = let f : Equal ≡ Less = e in cc

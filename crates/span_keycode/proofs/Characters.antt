@@ -11,7 +11,8 @@ use Rattle.std.proofs.lemmas.Bool.Decides.{nat_tests}
 use Rattle.std.proofs.lemmas.Str.{encodes-chars}
 use Rattle.span_keycode.specs.Order.{byte_order, Decides}
 use Rattle.span_keycode.proofs.Order.{then_assoc, decides-byte, decides-less, decides-greater}
-use Rattle.span_keycode.proofs.Codes.{decides-cons, less_is, greater_is, two_digits}
+use Rattle.span_value.proofs.Comparisons.{number_less, number_greater}
+use Rattle.span_keycode.proofs.Codes.{decides-cons, two_digits}
 
 one_byte : (c : ℕ) → c < 128 → encode c ≡ c ∷ []
 unfolding encode
@@ -88,11 +89,11 @@ decides_four k c d =
 -- characters of different lengths
 lower : (c d h k : ℕ) (t u : List ℕ) → encode c ≡ h ∷ t → encode d ≡ k ∷ u → c < d → h < k → Decides (encode c) (encode d) (nat_cmp c d)
 lower c d h k t u e f l m =
-    let less = less_is c d l in rw (e, f, less) (decides-less h k t u (less_is h k m))
+    let less = number_less c d l in rw (e, f, less) (decides-less h k t u (number_less h k m))
 
 upper : (c d h k : ℕ) (t u : List ℕ) → encode c ≡ h ∷ t → encode d ≡ k ∷ u → d < c → k < h → Decides (encode c) (encode d) (nat_cmp c d)
 upper c d h k t u e f l m =
-    let more = greater_is c d l in rw (e, f, more) (decides-greater h k t u (greater_is h k m))
+    let more = number_greater c d l in rw (e, f, more) (decides-greater h k t u (number_greater h k m))
 
 length_class : (c : ℕ) → (c < 128) ⊎ ((128 ≤ c × (c < 2048)) ⊎ ((2048 ≤ c × (c < 65536)) ⊎ (65536 ≤ c)))
 length_class c = elim (cases_lt c 128) [

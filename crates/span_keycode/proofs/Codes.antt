@@ -18,27 +18,19 @@ use Rattle.span_keycode.specs.Coding.{to_unsigned, escaped, escaped_byte, bit, p
 use Rattle.std.proofs.lemmas.Bool.{cases_order}
 use Rattle.std.proofs.Math.Nat.{mul-le-mul_right, mod-lt, pow-suc, pow-succ'}
 use Rattle.std.proofs.Math.Arith.{mod-mul}
+use Rattle.span_value.proofs.Comparisons.{number_less, number_greater, number_equal}
 use Rattle.span_keycode.proofs.Order.{then_assoc, decides-append, decides-nothing, decides-byte, decides-less, decides-greater, decides-complement}
 
 -- one byte in front
 pub decides-cons : (a b : ℕ) (p q : List ℕ) (o : Ordering) → Decides p q o → Decides (a ∷ p) (b ∷ q) (ordering_then (nat_cmp a b) o)
 decides-cons a b p q o d = record { at = λ x y. ap (ordering_then (nat_cmp a b)) (d.at x y) ∙ then_assoc (nat_cmp a b) o (byte_order x y) }
 
-pub less_is : (a b : ℕ) → a < b → nat_cmp a b ≡ Less
-less_is a b lt = grind (arith, nat_tests)
-
-pub greater_is : (a b : ℕ) → b < a → nat_cmp a b ≡ Greater
-greater_is a b lt = grind (arith, nat_tests)
-
-pub equal_is : (a b : ℕ) → a ≡ b → nat_cmp a b ≡ Equal
-equal_is a b e = grind (arith, nat_tests)
-
 -- numbers of two digits compare digit by digit
 pub two_digits : (P a b r s : ℕ) → r < P → s < P → nat_cmp (a * P + r) (b * P + s) ≡ ordering_then (nat_cmp a b) (nat_cmp r s)
 two_digits P a b r s low_r low_s = elim (cases_order a b) [
-  | inl e ↦ (let same : nat_cmp a b ≡ Equal = equal_is a b e in rw (same, e) (shifted (b * P) r s))
-  | inr (inl lt) ↦ (let l : nat_cmp a b ≡ Less = less_is a b lt in let more : (a + 1) * P ≤ b * P = mul-le-mul_right P (omega arith) in rw l (less_is (a * P + r) (b * P + s) (omega arith)))
-  | inr (inr gt) ↦ (let g : nat_cmp a b ≡ Greater = greater_is a b gt in let more : (b + 1) * P ≤ a * P = mul-le-mul_right P (omega arith) in rw g (greater_is (a * P + r) (b * P + s) (omega arith)))
+  | inl e ↦ (let same : nat_cmp a b ≡ Equal = number_equal a b e in rw (same, e) (shifted (b * P) r s))
+  | inr (inl lt) ↦ (let l : nat_cmp a b ≡ Less = number_less a b lt in let more : (a + 1) * P ≤ b * P = mul-le-mul_right P (omega arith) in rw l (number_less (a * P + r) (b * P + s) (omega arith)))
+  | inr (inr gt) ↦ (let g : nat_cmp a b ≡ Greater = number_greater a b gt in let more : (b + 1) * P ≤ a * P = mul-le-mul_right P (omega arith) in rw g (number_greater (a * P + r) (b * P + s) (omega arith)))
 ]
   where
     shifted : (n r s : ℕ) → nat_cmp (n + r) (n + s) ≡ nat_cmp r s
@@ -69,18 +61,18 @@ decides-number m n low_m low_n =
 -- one escaped byte, whatever follows
 decides-escaped_byte : (a b : ℕ) (p q : List ℕ) (o : Ordering) → Decides p q o → Decides (escaped_byte a p) (escaped_byte b q) (ordering_then (nat_cmp a b) o)
 decides-escaped_byte zero zero p q o d = record { at = λ x y. d.at x y }
-decides-escaped_byte zero (suc b) p q o d = let e = less_is 0 (suc b) (omega arith) in rw e (decides-less 0 (suc b) (255 ∷ p) q e)
-decides-escaped_byte (suc a) zero p q o d = let e = greater_is (suc a) 0 (omega arith) in rw e (decides-greater (suc a) 0 p (255 ∷ q) e)
+decides-escaped_byte zero (suc b) p q o d = let e = number_less 0 (suc b) (omega arith) in rw e (decides-less 0 (suc b) (255 ∷ p) q e)
+decides-escaped_byte (suc a) zero p q o d = let e = number_greater (suc a) 0 (omega arith) in rw e (decides-greater (suc a) 0 p (255 ∷ q) e)
 decides-escaped_byte (suc a) (suc b) p q o d = decides-cons (suc a) (suc b) p q o d
 
 -- the end is below each byte
 end_first : (b : ℕ) (q : List ℕ) → Decides (0 ∷ 1 ∷ []) (escaped_byte b q) Less
 end_first zero q = record { at = λ x y. refl }
-end_first (suc b) q = decides-less 0 (suc b) (1 ∷ []) q (less_is 0 (suc b) (omega arith))
+end_first (suc b) q = decides-less 0 (suc b) (1 ∷ []) q (number_less 0 (suc b) (omega arith))
 
 end_last : (a : ℕ) (p : List ℕ) → Decides (escaped_byte a p) (0 ∷ 1 ∷ []) Greater
 end_last zero p = record { at = λ x y. refl }
-end_last (suc a) p = decides-greater (suc a) 0 p (1 ∷ []) (greater_is (suc a) 0 (omega arith))
+end_last (suc a) p = decides-greater (suc a) 0 p (1 ∷ []) (number_greater (suc a) 0 (omega arith))
 
 pub decides-escaped : (bs cs : List ℕ) → Decides (escaped bs) (escaped cs) (byte_order bs cs)
 decides-escaped [] [] = record { at = λ x y. refl }
@@ -90,7 +82,7 @@ decides-escaped (b ∷ bs) (c ∷ cs) = decides-escaped_byte b c (escaped bs) (e
 
 -- the same byte in front
 same_front : (a : ℕ) (p q : List ℕ) (o : Ordering) → Decides p q o → Decides (a ∷ p) (a ∷ q) o
-same_front a p q o d = rw (equal_is a a refl) at (decides-cons a a p q o d)
+same_front a p q o d = rw (number_equal a a refl) at (decides-cons a a p q o d)
 
 -- a number moved up compares as the number itself
 pub lifted_low : (i : ℤ) → FitsSigned w64 i → to_unsigned i < 2 ^ 64

@@ -18,7 +18,8 @@ use Rattle.span_keycode.specs.Ranges.{low_of, high_of, holds, is_null, compares,
 use Rattle.span_keycode.specs.Laws.{RangeOfComparison}
 use Rattle.span_keycode.proofs.Codes.{decides-column, plain_bytes}
 use Rattle.span_keycode.proofs.RootRows.{root_split}
-use Rattle.span_keycode.proofs.RangeLaws.{mark, Stands, verdict, within_where}
+use Rattle.span_keycode.proofs.RangeLaws.{mark, IsAtBound, verdict, within_where}
+use Rattle.span_value.proofs.Lists.{cons_inj}
 
 flipped_byte : (b : ℕ) → b < 256 → flipped b < 256
 flipped_byte b h = grind (arith, nat_tests)
@@ -78,12 +79,9 @@ before_none : (xs : List ℕ) → byte_order xs [] ≡ Less → ⊥
 before_none [] e = let f : Equal ≡ Less = e in cc
 before_none (x ∷ xs) e = let f : Greater ≡ Less = e in cc
 
-heads : (a b : Value) (xs ys : List Value) → a ∷ xs ≡ b ∷ ys → (a ≡ b) × (xs ≡ ys)
-heads a b xs ys e = (cc, cc)
-
 first_taken : (n : ℕ) (w u : Value) (ws us : List Value) → u ∷ us ≡ take n (w ∷ ws) → u ≡ w
 first_taken zero w u ws us e = absurd (let f : u ∷ us ≡ [] = e in cc)
-first_taken (suc n) w u ws us e = (heads u w us (take n ws) e).0
+first_taken (suc n) w u ws us e = (cons_inj u w us (take n ws) e).0
 
 -- the law, for a value that is not NULL
 with_value : (tables : List Table) → MeetsRules tables → (n : ℕ) (w : Value) (ws : List Value) → IsKey tables n (w ∷ ws)
@@ -113,7 +111,7 @@ with_value tables rules n w ws k t c cs root own v f some op =
         let more = tuple_code cs us ++ rest in
         let key : key_code tables n (w ∷ ws) ≡ t ∷ (column_code c w ++ more) =
         code ∙ ap (λ (xs : List ℕ). t ∷ xs) (append_assoc (column_code c u) (tuple_code cs us) rest) ∙ ap (λ (x : Value). t ∷ (column_code c x ++ more)) first in
-        let stands : Stands t c.desc (is_null w) (column_code c w) (column_code c v) more (value_cmp w v) = record {
+        let key_at_bound : IsAtBound t c.desc (is_null w) (column_code c w) (column_code c v) more (value_cmp w v) = record {
           small = small;
           decides = decides-column c w v fit f;
           bytes = turned_bytes c.desc (plain w) (plain_bytes c.kind w fit);
@@ -121,7 +119,7 @@ with_value tables rules n w ws k t c cs root own v f some op =
           marked = marked c.desc w;
           first = null_first w v some;
         } in
-        let both = within_where op t c.desc (is_null w) (column_code c w) (column_code c v) more (value_cmp w v) stands in
+        let both = within_where op t c.desc (is_null w) (column_code c w) (column_code c v) more (value_cmp w v) key_at_bound in
         let K : List ℕ → Type 0 = λ xs. IsWithin (low_of t c.desc op (t ∷ column_code c v)) (high_of t c.desc op (t ∷ column_code c v)) xs in
         ((λ inside. sym (compared op w v some) ∙ both.0 (subst K key inside)), (λ true_here. subst K (sym key) (both.1 (compared op w v some ∙ true_here))))
 

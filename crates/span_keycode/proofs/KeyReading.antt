@@ -13,6 +13,7 @@ use Rattle.span_keycode.specs.Reads.{IsNoTuple, IsTuple, IsUncoded}
 use Rattle.span_keycode.proofs.Levels.{key_split, key_root, levels_at}
 use Rattle.span_keycode.proofs.LevelLaws.{fit_length, fit_join, code_root, code_child}
 use Rattle.span_keycode.proofs.Going.{code_above, IsAbove, Next, goes_on, code_some}
+use Rattle.span_value.proofs.Lists.{cons_inj}
 
 -- a child's key is its parent's, and its own values
 child_key : (tables : List Table) → MeetsRules tables → (i p : ℕ) → i < length tables → parent_at tables i ≡ Some p → (vs us : List Value) → AreFit (key_at tables p) vs → AreFit (own_key_at tables i) us
@@ -94,9 +95,6 @@ read_more tables rules bs o vs ws at w c r h byte t p tuple =
       within = omega (arith, tuple.within, length-drop (at + 1) bs, h);
     })
 
-heads : (a b : ℕ) (xs ys : List ℕ) → a ∷ xs ≡ b ∷ ys → (a ≡ b) × (xs ≡ ys)
-heads a b xs ys e = (cc, cc)
-
 -- where the next level is no child's, or cannot be read, no key is coded
 stuck : (tables : List Table) → MeetsRules tables → (bs : List ℕ) (o : Option ℕ) (vs : List Value) (at : ℕ) → IsRead tables bs o vs at → at < length bs
     → (Next tables o (drop at bs) → ⊥) → IsUncoded tables bs
@@ -112,7 +110,7 @@ stuck tables rules bs o vs at r h against = record {
 pub read_stop : (tables : List Table) → MeetsRules tables → (bs : List ℕ) (o : Option ℕ) (vs : List Value) (at c : ℕ) → IsRead tables bs o vs at → at < length bs → c ≡ get_or bs at 0
     → (IsTable tables c → parent_of tables c ≡ o → ⊥) → IsUncoded tables bs
 read_stop tables rules bs o vs at c r h byte against = stuck tables rules bs o vs at r h (λ next.
-    let same : c ≡ next.table = byte ∙ (heads _ _ _ _ (sym (next_byte bs at h) ∙ next.code)).0 in
+    let same : c ≡ next.table = byte ∙ (cons_inj _ _ _ _ (sym (next_byte bs at h) ∙ next.code)).0 in
     let P : ℕ → Type 0 = λ n. IsTable tables n in
     let Q : ℕ → Type 0 = λ n. parent_of tables n ≡ o in
     against (subst P (sym same) next.is) (subst Q (sym same) next.parent))
@@ -120,7 +118,7 @@ read_stop tables rules bs o vs at c r h byte against = stuck tables rules bs o v
 pub read_none : (tables : List Table) → MeetsRules tables → (bs : List ℕ) (o : Option ℕ) (vs : List Value) (at c : ℕ) → IsRead tables bs o vs at → at < length bs → c ≡ get_or bs at 0
     → IsNoTuple (own_key_columns tables c) (drop (at + 1) bs) → IsUncoded tables bs
 read_none tables rules bs o vs at c r h byte against = stuck tables rules bs o vs at r h (λ next.
-    let both = heads _ _ _ _ (sym (next_byte bs at h) ∙ next.code) in
+    let both = cons_inj _ _ _ _ (sym (next_byte bs at h) ∙ next.code) in
     let same : next.table ≡ c = sym (byte ∙ both.0) in
     let P : ℕ → Type 0 = λ n. AreFit (own_key_columns tables n) next.values in
     against.none next.values next.more (subst P same next.fits) (both.1 ∙ ap (λ (n : ℕ). tuple_code (own_key_columns tables n) next.values ++ next.more) same))

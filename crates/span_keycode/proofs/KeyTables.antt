@@ -14,6 +14,7 @@ use Rattle.span_keycode.proofs.LevelLaws.{AreLevels}
 use Rattle.span_keycode.proofs.Going.{Continues, last_or, last_path, tables_of, tables_back, levels_on}
 use Rattle.span_keycode.proofs.KeyLaws.{place_within}
 use Rattle.span_keycode.proofs.RootRows.{root_begins}
+use Rattle.span_value.proofs.Lists.{cons_inj}
 
 -- the levels of a key of table n that are left after those down to a table
 pub record KeyLeft (tables : List Table) (above : Option ℕ) (rest : List ℕ) (n : ℕ) : Type 0 where
@@ -45,9 +46,6 @@ byte_at bs at h = by_suc bs at h ∙ ap (λ (n : ℕ). get_or bs at 0 ∷ drop n
     by_suc (c ∷ cs) zero h = refl
     by_suc (c ∷ cs) (suc i) h = by_suc cs i (omega arith)
 
-heads : (a b : ℕ) (xs ys : List ℕ) → a ∷ xs ≡ b ∷ ys → (a ≡ b) × (xs ≡ ys)
-heads a b xs ys e = (cc, cc)
-
 -- the number of the next level is that of a table
 pub next_table : (tables : List Table) (above : Option ℕ) (n c : ℕ) (more : List ℕ) → KeyLeft tables above (c ∷ more) n → IsTable tables c
 next_table tables above n c more k = by_levels k.levels k.path k.code
@@ -56,7 +54,7 @@ next_table tables above n c more k = by_levels k.levels k.path k.code
     by_levels [] f e = absurd (let g : c ∷ more ≡ [] = e in cc)
     by_levels (l ∷ ls) f e =
         let P : ℕ → Type 0 = λ m. IsTable tables m in
-        subst P (sym (heads c l.table more (tuple_code (own_key_columns tables l.table) l.values ++ code_of tables ls) e).0) f.0
+        subst P (sym (cons_inj c l.table more (tuple_code (own_key_columns tables l.table) l.values ++ code_of tables ls) e).0) f.0
 
 -- past a level
 pub level_passed : (tables : List Table) (above : Option ℕ) (n c w : ℕ) (more : List ℕ) → KeyLeft tables above (c ∷ more) n → IsTupleSkip (own_key_columns tables c) more w → KeyLeft tables (Some c) (drop w more) n
@@ -65,7 +63,7 @@ level_passed tables above n c w more k s = by_levels k.levels k.fit k.path k.cod
     by_levels : (ls : List Level) → AreLevels tables ls → Continues tables above (tables_of ls) → c ∷ more ≡ code_of tables ls → last_or above (tables_of ls) ≡ Some n → KeyLeft tables (Some c) (drop w more) n
     by_levels [] f p e last = absurd (let g : c ∷ more ≡ [] = e in cc)
     by_levels (l ∷ ls) f p e last =
-        let both = heads c l.table more (tuple_code (own_key_columns tables l.table) l.values ++ code_of tables ls) e in
+        let both = cons_inj c l.table more (tuple_code (own_key_columns tables l.table) l.values ++ code_of tables ls) e in
         let P : ℕ → Type 0 = λ m. AreFit (own_key_columns tables m) l.values in
         let Q : ℕ → Type 0 = λ m. more ≡ tuple_code (own_key_columns tables m) l.values ++ code_of tables ls in
         let R : ℕ → Type 0 = λ m. Continues tables (Some m) (tables_of ls) in

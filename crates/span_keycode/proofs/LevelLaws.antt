@@ -15,7 +15,8 @@ use Rattle.span_keycode.specs.Order.{byte_order, Decides}
 use Rattle.span_keycode.specs.Coding.{AreFit, column_cmp, tuple_code, tuple_cmp}
 use Rattle.span_keycode.specs.Keys.{Level, own_values_at, own_values, level_of, level_code, code_of, level_cmp, levels_cmp}
 use Rattle.span_keycode.proofs.Order.{then_assoc, decides-append, decides-less, decides-greater}
-use Rattle.span_keycode.proofs.Codes.{decides-cons, decides-tuple, less_is, greater_is, equal_is}
+use Rattle.span_value.proofs.Comparisons.{number_less, number_greater, number_equal}
+use Rattle.span_keycode.proofs.Codes.{decides-cons, decides-tuple}
 use Rattle.span_keycode.proofs.Levels.{by_parents, key_split, key_root, levels_at, keys_short, back, IsShort}
 
 pub take_short : {X : Type 0} (k n : ℕ) (xs : List X) → k ≤ n → take k (take n xs) ≡ take k xs
@@ -160,7 +161,7 @@ decides-key tables rules = by_parents tables
     one i vs = append_none (level_code tables (level_of tables vs (i + 1))) ∙ level_here tables i vs
 
     same_number : (n : ℕ) (p q : List ℕ) (o : Ordering) → Decides p q o → Decides (n ∷ p) (n ∷ q) o
-    same_number n p q o d = rw (equal_is n n refl) at (decides-cons n n p q o d)
+    same_number n p q o d = rw (number_equal n n refl) at (decides-cons n n p q o d)
 
     step : (i : ℕ) → ((p : ℕ) → parent_at tables i ≡ Some p → p < length tables → (vs ws : List Value) → AreFit (key_at tables p) vs → AreFit (key_at tables p) ws
         → Decides (code_of tables (levels_at tables p vs)) (code_of tables (levels_at tables p ws)) (tuple_cmp (key_at tables p) vs ws))
@@ -208,8 +209,8 @@ decides-level tables l m f g = elim (cases_order l.table m.table) [
       let e : m.table ∷ tuple_code (own_key_columns tables l.table) m.values ≡ level_code tables m = ap (λ (t : ℕ). m.table ∷ tuple_code (own_key_columns tables t) m.values) same in
       let Q : List ℕ → Type 0 = λ bs. Decides (level_code tables l) bs (level_cmp tables l m) in
       subst Q e d)
-  | inr (inl lt) ↦ (let e = less_is l.table m.table lt in rw e (decides-less l.table m.table (tuple_code (own_key_columns tables l.table) l.values) (tuple_code (own_key_columns tables m.table) m.values) e))
-  | inr (inr gt) ↦ (let e = greater_is l.table m.table gt in rw e (decides-greater l.table m.table (tuple_code (own_key_columns tables l.table) l.values) (tuple_code (own_key_columns tables m.table) m.values) e))
+  | inr (inl lt) ↦ (let e = number_less l.table m.table lt in rw e (decides-less l.table m.table (tuple_code (own_key_columns tables l.table) l.values) (tuple_code (own_key_columns tables m.table) m.values) e))
+  | inr (inr gt) ↦ (let e = number_greater l.table m.table gt in rw e (decides-greater l.table m.table (tuple_code (own_key_columns tables l.table) l.values) (tuple_code (own_key_columns tables m.table) m.values) e))
 ]
 
 -- byte order is the order of levels

@@ -15,6 +15,7 @@ use Rattle.span_keycode.specs.Coding.{to_unsigned, escaped, bit, plain, in_direc
 use Rattle.span_keycode.specs.Texts.{text_at}
 use Rattle.span_keycode.specs.Reads.{IsNoPlain, IsPlain, IsNoColumn, IsColumn}
 use Rattle.span_keycode.proofs.Reading.{text_again, text_spelled}
+use Rattle.span_value.proofs.Lists.{cons_inj}
 
 -- turning twice is nothing
 flipped_twice : (b : ℕ) → flipped (flipped b) ≡ b
@@ -59,26 +60,23 @@ nothing_first kind (Flag b) rest f e = absurd (let g : [] ≡ 1 ∷ (bit b ∷ r
 pub no_plain_nothing : (kind : Kind) → IsNoPlain kind []
 no_plain_nothing kind = record { none = nothing_first kind }
 
-heads : (a b : ℕ) (xs ys : List ℕ) → a ∷ xs ≡ b ∷ ys → (a ≡ b) × (xs ≡ ys)
-heads a b xs ys e = (cc, cc)
-
 other_first : (kind : Kind) (a : ℕ) (bs : List ℕ) → a ≢ 0 → a ≢ 1 → (v : Value) (rest : List ℕ) → Fits kind v → a ∷ bs ≡ plain v ++ rest → ⊥
-other_first kind a bs p q Null rest f e = p (heads a 0 bs rest e).0
-other_first kind a bs p q (Int i) rest f e = q (heads a 1 bs (to_be_bytes w64 (to_unsigned i) ++ rest) e).0
-other_first kind a bs p q (Str cs) rest f e = q (heads a 1 bs (escaped cs ++ rest) e).0
-other_first kind a bs p q (Bytes cs) rest f e = q (heads a 1 bs (escaped cs ++ rest) e).0
-other_first kind a bs p q (Flag b) rest f e = q (heads a 1 bs (bit b ∷ rest) e).0
+other_first kind a bs p q Null rest f e = p (cons_inj a 0 bs rest e).0
+other_first kind a bs p q (Int i) rest f e = q (cons_inj a 1 bs (to_be_bytes w64 (to_unsigned i) ++ rest) e).0
+other_first kind a bs p q (Str cs) rest f e = q (cons_inj a 1 bs (escaped cs ++ rest) e).0
+other_first kind a bs p q (Bytes cs) rest f e = q (cons_inj a 1 bs (escaped cs ++ rest) e).0
+other_first kind a bs p q (Flag b) rest f e = q (cons_inj a 1 bs (bit b ∷ rest) e).0
 
 pub no_plain_other : (kind : Kind) (a : ℕ) (bs : List ℕ) → a ≢ 0 → a ≢ 1 → IsNoPlain kind (a ∷ bs)
 no_plain_other kind a bs p q = record { none = other_first kind a bs p q }
 
 one_is_zero : (bs rest : List ℕ) → 1 ∷ bs ≡ 0 ∷ rest → ⊥
-one_is_zero bs rest e = let g = (heads 1 0 bs rest e).0 in omega arith
+one_is_zero bs rest e = let g = (cons_inj 1 0 bs rest e).0 in omega arith
 
 short_number : (bs : List ℕ) → length bs < 8 → (v : Value) (rest : List ℕ) → Fits Numbers v → 1 ∷ bs ≡ plain v ++ rest → ⊥
 short_number bs h Null rest f e = one_is_zero bs rest e
 short_number bs h (Int i) rest f e =
-    let same = (heads 1 1 bs (to_be_bytes w64 (to_unsigned i) ++ rest) e).1 in
+    let same = (cons_inj 1 1 bs (to_be_bytes w64 (to_unsigned i) ++ rest) e).1 in
     let len : length bs ≡ 8 + length rest = ap length same ∙ length-append (to_be_bytes w64 (to_unsigned i)) rest in
     absurd (omega arith)
 short_number bs h (Str cs) rest f e = absurd f
@@ -90,7 +88,7 @@ no_plain_number bs h = record { none = short_number bs h }
 
 wrong_flag : (bs : List ℕ) → ((b : Bool) (rest : List ℕ) → bs ≡ bit b ∷ rest → ⊥) → (v : Value) (rest : List ℕ) → Fits Flags v → 1 ∷ bs ≡ plain v ++ rest → ⊥
 wrong_flag bs h Null rest f e = one_is_zero bs rest e
-wrong_flag bs h (Flag b) rest f e = h b rest (heads 1 1 bs (bit b ∷ rest) e).1
+wrong_flag bs h (Flag b) rest f e = h b rest (cons_inj 1 1 bs (bit b ∷ rest) e).1
 wrong_flag bs h (Int i) rest f e = absurd f
 wrong_flag bs h (Str cs) rest f e = absurd f
 wrong_flag bs h (Bytes cs) rest f e = absurd f
@@ -103,7 +101,7 @@ some_is_none x e = absurd (let f : None ≡ Some x = e in cc)
 
 wrong_bytes : (bs : List ℕ) → text_at bs ≡ None → (v : Value) (rest : List ℕ) → Fits Strings v → 1 ∷ bs ≡ plain v ++ rest → ⊥
 wrong_bytes bs h Null rest f e = one_is_zero bs rest e
-wrong_bytes bs h (Bytes cs) rest f e = some_is_none (cs, rest) (sym h ∙ ap text_at (heads 1 1 bs (escaped cs ++ rest) e).1 ∙ text_again cs rest)
+wrong_bytes bs h (Bytes cs) rest f e = some_is_none (cs, rest) (sym h ∙ ap text_at (cons_inj 1 1 bs (escaped cs ++ rest) e).1 ∙ text_again cs rest)
 wrong_bytes bs h (Int i) rest f e = absurd f
 wrong_bytes bs h (Str cs) rest f e = absurd f
 wrong_bytes bs h (Flag b) rest f e = absurd f
@@ -113,7 +111,7 @@ no_plain_bytes bs h = record { none = wrong_bytes bs h }
 
 wrong_text : (bs : List ℕ) → text_at bs ≡ None → (v : Value) (rest : List ℕ) → Fits Texts v → 1 ∷ bs ≡ plain v ++ rest → ⊥
 wrong_text bs h Null rest f e = one_is_zero bs rest e
-wrong_text bs h (Str cs) rest f e = some_is_none (cs, rest) (sym h ∙ ap text_at (heads 1 1 bs (escaped cs ++ rest) e).1 ∙ text_again cs rest)
+wrong_text bs h (Str cs) rest f e = some_is_none (cs, rest) (sym h ∙ ap text_at (cons_inj 1 1 bs (escaped cs ++ rest) e).1 ∙ text_again cs rest)
 wrong_text bs h (Int i) rest f e = absurd f
 wrong_text bs h (Bytes cs) rest f e = absurd f
 wrong_text bs h (Flag b) rest f e = absurd f
@@ -124,7 +122,7 @@ no_plain_text bs h = record { none = wrong_text bs h }
 wrong_utf8 : (bs ts more : List ℕ) → text_at bs ≡ Some (ts, more) → (IsUtf8 ts → ⊥) → (v : Value) (rest : List ℕ) → Fits Texts v → 1 ∷ bs ≡ plain v ++ rest → ⊥
 wrong_utf8 bs ts more h no_text Null rest f e = one_is_zero bs rest e
 wrong_utf8 bs ts more h no_text (Str cs) rest f e =
-    let text : cs ≡ ts = sym (some_pair_parts ts cs more rest (sym h ∙ ap text_at (heads 1 1 bs (escaped cs ++ rest) e).1 ∙ text_again cs rest)).0 in
+    let text : cs ≡ ts = sym (some_pair_parts ts cs more rest (sym h ∙ ap text_at (cons_inj 1 1 bs (escaped cs ++ rest) e).1 ∙ text_again cs rest)).0 in
     let P : List ℕ → Type 0 = IsUtf8 in no_text (subst P text f.0)
 wrong_utf8 bs ts more h no_text (Int i) rest f e = absurd f
 wrong_utf8 bs ts more h no_text (Bytes cs) rest f e = absurd f

@@ -25,7 +25,7 @@ mark true true = 255
 mark true false = 254
 
 -- a key t ∷ (k ++ more) compared with a bound that is made of t ∷ x; r is how the values compare
-pub record Stands (t : ℕ) (d null : Bool) (k x more : List ℕ) (r : Ordering) : Type 0 where
+pub record IsAtBound (t : ℕ) (d null : Bool) (k x more : List ℕ) (r : Ordering) : Type 0 where
   pub small : t < 255
   pub decides : Decides k x (apply_direction d r)
   pub bytes : AreBytes k
@@ -33,7 +33,7 @@ pub record Stands (t : ℕ) (d null : Bool) (k x more : List ℕ) (r : Ordering)
   pub marked : k ≡ mark d null ∷ rest
   pub first : null ≡ true → r ≡ Less
 
-module _ {t : ℕ} {d null : Bool} {k x more : List ℕ} {r : Ordering} (s : Stands t d null k x more r) where
+module _ {t : ℕ} {d null : Bool} {k x more : List ℕ} {r : Ordering} (s : IsAtBound t d null k x more r) where
   at_code : byte_order (t ∷ (k ++ more)) (t ∷ x) ≡ ordering_then (apply_direction d r) (byte_order more [])
   at_code = front_same t t (k ++ more) x refl ∙ ap (byte_order (k ++ more)) (sym (append_nothing x)) ∙ s.decides.at more []
 
@@ -99,7 +99,7 @@ wrong_first : {A : Type 0} (r : Ordering) → r ≢ Less → (true ≡ true → 
 wrong_first r h f = absurd (h (f refl))
 
 -- a key is in the range where its value compares so
-pub within_where : (c : RangeComparison) (t : ℕ) (d null : Bool) (k x more : List ℕ) (r : Ordering) → Stands t d null k x more r
+pub within_where : (c : RangeComparison) (t : ℕ) (d null : Bool) (k x more : List ℕ) (r : Ordering) → IsAtBound t d null k x more r
     → IsWithin (low_of t d c (t ∷ x)) (high_of t d c (t ∷ x)) (t ∷ (k ++ more)) ↔ (verdict null c r ≡ true)
 within_where OpEqual t false true k x more Less s = ((λ w. absurd (w.0 (code_less s refl))), (λ e. no_truth e))
 within_where OpEqual t false true k x more Equal s = wrong_first Equal (λ e. let f : Equal ≡ Less = e in cc) s.first

@@ -52,9 +52,6 @@ root_split tables rules n vs k = by_path (path_at tables (n - 1)) refl
               ∙ ap (λ (us : List Value). r ∷ tuple_code (own_key_columns tables r) us) (sym own);
         }
 
-heads : (a b : ℕ) (xs ys : List ℕ) → a ∷ xs ≡ b ∷ ys → (a ≡ b) × (xs ≡ ys)
-heads a b xs ys e = (cc, cc)
-
 range_start : (bs : List ℕ) (a : ℕ) (rest : List ℕ) → bs ≡ a ∷ rest → (0 < length bs) × (get_or bs 0 0 ≡ a) × (drop 1 bs ≡ rest)
 range_start bs a rest e = (let l : length bs ≡ suc (length rest) = ap length e in omega arith, ap (λ (xs : List ℕ). get_or xs 0 0) e, ap (drop 1) e)
 

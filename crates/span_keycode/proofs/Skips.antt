@@ -15,6 +15,7 @@ use Rattle.span_keycode.specs.Texts.{text_at, with_first}
 use Rattle.span_keycode.specs.Roots.{IsSkip}
 use Rattle.span_keycode.proofs.Reading.{text_again}
 use Rattle.span_keycode.proofs.Plains.{turned_twice, turned_append}
+use Rattle.span_value.proofs.Lists.{cons_inj}
 
 turned_length : (d : Bool) (bs : List ℕ) → length (in_direction d bs) ≡ length bs
 turned_length false bs = refl
@@ -23,9 +24,6 @@ turned_length true bs = length-map bs flipped
 -- what is after a front of known length
 past_front : (front more bs : List ℕ) (n : ℕ) → bs ≡ front ++ more → n ≡ length front → more ≡ drop n bs
 past_front front more bs n e l = sym (drop-append_seam front more) ∙ ap (λ (k : ℕ). drop k (front ++ more)) (sym l) ∙ ap (drop n) (sym e)
-
-heads : (a b : ℕ) (xs ys : List ℕ) → a ∷ xs ≡ b ∷ ys → (a ≡ b) × (xs ≡ ys)
-heads a b xs ys e = (cc, cc)
 
 -- turned to ascending
 ascending : (d : Bool) (bs more : List ℕ) (v : Value) → bs ≡ in_direction d (plain v) ++ more → in_direction d bs ≡ plain v ++ in_direction d more
@@ -37,13 +35,13 @@ marked c bs more asc v first f e = sym f ∙ ascending c.desc bs more v e
 
 null_only : (asc rest : List ℕ) (v : Value) → 0 ∷ asc ≡ plain v ++ rest → length (plain v) ≡ 1
 null_only asc rest Null e = refl
-null_only asc rest (Int i) e = absurd (let g = (heads 0 1 asc (to_be_bytes w64 (to_unsigned i) ++ rest) e).0 in omega arith)
-null_only asc rest (Str bs) e = absurd (let g = (heads 0 1 asc (escaped bs ++ rest) e).0 in omega arith)
-null_only asc rest (Bytes bs) e = absurd (let g = (heads 0 1 asc (escaped bs ++ rest) e).0 in omega arith)
-null_only asc rest (Flag b) e = absurd (let g = (heads 0 1 asc (bit b ∷ rest) e).0 in omega arith)
+null_only asc rest (Int i) e = absurd (let g = (cons_inj 0 1 asc (to_be_bytes w64 (to_unsigned i) ++ rest) e).0 in omega arith)
+null_only asc rest (Str bs) e = absurd (let g = (cons_inj 0 1 asc (escaped bs ++ rest) e).0 in omega arith)
+null_only asc rest (Bytes bs) e = absurd (let g = (cons_inj 0 1 asc (escaped bs ++ rest) e).0 in omega arith)
+null_only asc rest (Flag b) e = absurd (let g = (cons_inj 0 1 asc (bit b ∷ rest) e).0 in omega arith)
 
 not_null : (first : ℕ) (asc rest : List ℕ) → first ≢ 0 → first ∷ asc ≡ 0 ∷ rest → ⊥
-not_null first asc rest p e = p (heads first 0 asc rest e).0
+not_null first asc rest p e = p (cons_inj first 0 asc rest e).0
 
 number_len : (first : ℕ) (asc rest : List ℕ) (v : Value) → first ≢ 0 → Fits Numbers v → first ∷ asc ≡ plain v ++ rest → length (plain v) ≡ 9
 number_len first asc rest Null p f e = absurd (not_null first asc rest p e)
@@ -98,12 +96,12 @@ text_len first n whole asc rest (Flag i) Texts p q r w known f e = absurd f
 text_len first n whole asc rest (Flag i) Strings p q r w known f e = absurd f
 text_len first n whole asc rest (Flag i) Flags p q r w known f e = absurd (q refl)
 text_len first n whole asc rest (Str bs) k p q r w known f e =
-    let same = (heads first 1 asc (escaped bs ++ rest) e).1 in
+    let same = (cons_inj first 1 asc (escaped bs ++ rest) e).1 in
     let len : n + length rest ≡ length asc = known bs rest (ap text_at same ∙ text_again bs rest) in
     let whole : length asc ≡ length (escaped bs) + length rest = ap length same ∙ length-append (escaped bs) rest in
     omega arith
 text_len first n whole asc rest (Bytes bs) k p q r w known f e =
-    let same = (heads first 1 asc (escaped bs ++ rest) e).1 in
+    let same = (cons_inj first 1 asc (escaped bs ++ rest) e).1 in
     let len : n + length rest ≡ length asc = known bs rest (ap text_at same ∙ text_again bs rest) in
     let whole : length asc ≡ length (escaped bs) + length rest = ap length same ∙ length-append (escaped bs) rest in
     omega arith

@@ -9,11 +9,12 @@ use Rattle.std.proofs.lemmas.Bool.Decides.{nat_tests}
 use Rattle.std.proofs.lemmas.List.{take-append-drop, take-take, length-drop}
 use Rattle.std.proofs.Math.Seq.{take-add}
 use Rattle.span_keycode.specs.Order.{byte_order, Decides}
-use Rattle.span_keycode.proofs.Codes.{decides-number, less_is, greater_is, equal_is}
+use Rattle.span_value.proofs.Comparisons.{number_less, number_greater, number_equal}
+use Rattle.span_keycode.proofs.Codes.{decides-number}
 
 same_beginning : (p x y : List ℕ) → byte_order (p ++ x) (p ++ y) ≡ byte_order x y
 same_beginning [] x y = refl
-same_beginning (a ∷ p) x y = rw (equal_is a a refl) (same_beginning p x y)
+same_beginning (a ∷ p) x y = rw (number_equal a a refl) (same_beginning p x y)
 
 -- lists of one beginning compare as what is after it
 order_past : (a b : List ℕ) (k : ℕ) → take k a ≡ take k b → byte_order a b ≡ byte_order (drop k a) (drop k b)
@@ -26,8 +27,8 @@ order_past a b k same =
 unequal_first : (m n : ℕ) (o : Ordering) → ¬ (m ≡ n) → ordering_then (nat_cmp m n) o ≡ nat_cmp m n
 unequal_first m n o differ = elim (cases_order m n) [
   | inl e ↦ absurd (differ e)
-  | inr (inl lt) ↦ rw (less_is m n lt) refl
-  | inr (inr gt) ↦ rw (greater_is m n gt) refl
+  | inr (inl lt) ↦ rw (number_less m n lt) refl
+  | inr (inr gt) ↦ rw (number_greater m n gt) refl
 ]
 
 split : (x y : List ℕ) (m n : ℕ) → to_be_bytes w64 m ≡ take 8 x → to_be_bytes w64 n ≡ take 8 y
@@ -60,9 +61,9 @@ beginning_of_fewer a b k j less same =
     sym (take-take k j a less) ∙ ap (take k) same ∙ take-take k j b less
 
 ends_here : (x y : List ℕ) → (length x ≡ 0) ⊎ (length y ≡ 0) → byte_order x y ≡ nat_cmp (length x) (length y)
-ends_here [] [] e = sym (equal_is 0 0 refl)
-ends_here [] (b ∷ y) e = sym (less_is 0 (suc (length y)) (omega arith))
-ends_here (a ∷ x) [] e = sym (greater_is (suc (length x)) 0 (omega arith))
+ends_here [] [] e = sym (number_equal 0 0 refl)
+ends_here [] (b ∷ y) e = sym (number_less 0 (suc (length y)) (omega arith))
+ends_here (a ∷ x) [] e = sym (number_greater (suc (length x)) 0 (omega arith))
 ends_here (a ∷ x) (b ∷ y) (inl e) = absurd (let l : suc (length x) ≡ 0 = e in omega arith)
 ends_here (a ∷ x) (b ∷ y) (inr e) = absurd (let l : suc (length y) ≡ 0 = e in omega arith)
 

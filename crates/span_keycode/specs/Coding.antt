@@ -1,20 +1,16 @@
 -- The coding of one column's value, and of a tuple of them.
-use Rattle.std.specs.Prelude.{◌≡◌, ℕ, ℤ, pos, negsuc, zero, suc, ◌+◌, ◌-◌, ◌^◌, List, [], ◌∷◌, ◌++◌, Bool, true, false, ◌&&◌}
+use Rattle.std.specs.Prelude.{◌≡◌, ℕ, zero, suc, List, [], ◌∷◌, ◌++◌, Bool, true, false, ◌&&◌}
 use Rattle.std.specs.Ordering.{nat_cmp, int_cmp, ordering_then, ordering_reverse}
 use Rattle.std.specs.Int.{to_be_bytes, w64}
 use Rattle.std.specs.declared.cmp.Ordering.{Ordering}
 use Rattle.std.specs.declared.cmp.Ordering.TheVariants.{Less, Equal, Greater}
+pub use Rattle.span_value.specs.Numbers.{to_unsigned}
 use Rattle.span_value.specs.declared.value.Kind.{Kind}
 use Rattle.span_value.specs.declared.value.Value.{Value}
 use Rattle.span_value.specs.declared.value.Value.TheVariants.{Null, Int, Str, Bytes, Bool as Flag}
 use Rattle.span_schema.specs.declared.layout.KeyPart.{KeyPart}
 pub use Rattle.span_schema.specs.Fitting.{AreBytes, Fits, is_of_kind}
 use Rattle.span_keycode.specs.Order.{complement, byte_order}
-
--- a signed number, moved up by 2^63 so that it is never below 0
-abbrev pub to_unsigned : ℤ → ℕ
-to_unsigned (pos n) = n + 2 ^ 63
-to_unsigned (negsuc n) = 2 ^ 63 - suc n
 
 abbrev pub escaped_byte : ℕ → List ℕ → List ℕ
 escaped_byte zero rest = 0 ∷ 255 ∷ rest

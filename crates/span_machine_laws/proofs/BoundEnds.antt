@@ -20,7 +20,7 @@ use Rattle.span_keycode.specs.Keys.{IsKey, own_values, key_code}
 use Rattle.span_keycode.specs.Order.{byte_order, flipped}
 use Rattle.span_keycode.specs.Ranges.{in_front, next_after, low_of, high_of, is_null, range_start, range_end}
 use Rattle.span_keycode.proofs.Codes.{decides-column, plain_bytes}
-use Rattle.span_keycode.proofs.RangeLaws.{mark, Stands, code_less, code_equal, code_greater, after_less, after_equal, after_greater, mark_less, mark_more, top}
+use Rattle.span_keycode.proofs.RangeLaws.{mark, IsAtBound, code_less, code_equal, code_greater, after_less, after_equal, after_greater, mark_less, mark_more, top}
 use Rattle.span_keycode.proofs.RootRows.{RootSplit, root_split}
 
 -- ---- a key whose first column's coding is k, whatever follows
@@ -30,7 +30,7 @@ not_lt Less off = absurd (off refl)
 not_lt Equal off = refl
 not_lt Greater off = refl
 
-module _ {t : ℕ} {d null : Bool} {k x more : List ℕ} {r : Ordering} (s : Stands t d null k x more r) where
+module _ {t : ℕ} {d null : Bool} {k x more : List ℕ} {r : Ordering} (s : IsAtBound t d null k x more r) where
   below_code : is_lt (byte_order (t ∷ (k ++ more)) (t ∷ x)) ≡ is_lt (apply_direction d r)
   below_code = of_order (apply_direction d r) refl
     where
@@ -64,7 +64,7 @@ module _ {t : ℕ} {d null : Bool} {k x more : List ℕ} {r : Ordering} (s : Sta
 
 -- whether a key is below the end depends on its first column alone
 abbrev DependsOnFirst : ℕ → Bool → List ℕ → List ℕ → Type 0
-DependsOnFirst t d x end = (null : Bool) (k m n : List ℕ) (r : Ordering) → Stands t d null k x m r → Stands t d null k x n r → is_lt (byte_order (t ∷ (k ++ m)) end) ≡ is_lt (byte_order (t ∷ (k ++ n)) end)
+DependsOnFirst t d x end = (null : Bool) (k m n : List ℕ) (r : Ordering) → IsAtBound t d null k x m r → IsAtBound t d null k x n r → is_lt (byte_order (t ∷ (k ++ m)) end) ≡ is_lt (byte_order (t ∷ (k ++ n)) end)
 
 module _ (t : ℕ) (x : List ℕ) where
   low_alike : (c : RangeComparison) (d : Bool) → DependsOnFirst t d x (low_of t d c (t ∷ x))
@@ -127,9 +127,9 @@ null_first (value.Bytes s) v some none = absurd (let e : false ≡ true = none i
 null_first (value.Bool b) v some none = absurd (let e : false ≡ true = none in cc)
 
 -- a key of the family compared with an end, where the value is not NULL
-column_stands : (t : ℕ) (part : KeyPart) (w v : Value) (more : List ℕ) → t < 255 → Fits part.kind w → Fits part.kind v → is_null v ≡ false
-    → Stands t part.desc (is_null w) (column_code part w) (column_code part v) more (value_cmp w v)
-column_stands t part w v more small fit_w fit_v some =
+column_at_bound : (t : ℕ) (part : KeyPart) (w v : Value) (more : List ℕ) → t < 255 → Fits part.kind w → Fits part.kind v → is_null v ≡ false
+    → IsAtBound t part.desc (is_null w) (column_code part w) (column_code part v) more (value_cmp w v)
+column_at_bound t part w v more small fit_w fit_v some =
     let begins = begins_with_mark part.desc w in
     record {
       small = small;
@@ -241,7 +241,7 @@ module _ (schema : List Table) (rules : MeetsRules schema) (n : ℕ) (key : List
           let whole : key_code schema n key ≡ t ∷ (column_code part u ++ more) = code ∙ ap (λ (l : List ℕ). t ∷ l) (append_assoc (column_code part u) (tuple_code cs us) split.more) in
           ap (λ (l : List ℕ). is_lt (byte_order (l ++ rest) end)) whole
           ∙ ap (λ (l : List ℕ). is_lt (byte_order (t ∷ l) end)) (append_assoc (column_code part u) more rest)
-          ∙ alike (is_null u) (column_code part u) (more ++ rest) more (value_cmp u v) (column_stands t part u v (more ++ rest) small fit.0 fits some) (column_stands t part u v more small fit.0 fits some)
+          ∙ alike (is_null u) (column_code part u) (more ++ rest) more (value_cmp u v) (column_at_bound t part u v (more ++ rest) small fit.0 fits some) (column_at_bound t part u v more small fit.0 fits some)
           ∙ sym (ap (λ (l : List ℕ). is_lt (byte_order l end)) whole)
 
   both_families : is_null v ≡ false → (end : List ℕ) → Shape t end

@@ -1,15 +1,12 @@
 -- Which values may be in a column.
-use Rattle.std.specs.Prelude.{ℕ, ◌<◌, List, Bool, true, false, FitsSigned}
+use Rattle.std.specs.Prelude.{Bool, true, false, FitsSigned}
 use Rattle.std.specs.Int.{w64}
-use Rattle.std.specs.List.{AllByRecursion}
 use Rattle.std.specs.Str.{IsUtf8}
+pub use Rattle.span_value.specs.Numbers.{AreBytes}
 use Rattle.span_value.specs.declared.value.Value.{Value}
 use Rattle.span_value.specs.declared.value.Value.TheVariants.{Null, Int, Str, Bytes, Bool as Flag}
 use Rattle.span_value.specs.declared.value.Kind.{Kind}
 use Rattle.span_value.specs.declared.value.Kind.TheVariants.{Int as Numbers, Str as Texts, Bytes as Strings, Bool as Flags}
-
-abbrev pub AreBytes : List ℕ → Type 0
-AreBytes = AllByRecursion (λ b. b < 256)
 
 -- NULL, or a value of the kind
 abbrev pub Fits : Kind → Value → Type 0
