@@ -22,6 +22,7 @@ use Rattle.span_keyindex.specs.Nexts.{Nexts, head_cell, first_past}
 use Rattle.span_keyindex.specs.Indexes.{entries_at, IsIndex}
 use Rattle.span_keyindex.proofs.Rising.{AllAbove, less_trans, all_weaker, IsAround, around, rising_back, below_all, cut_from}
 use Rattle.span_keyindex.proofs.Walking.{IsWalked, part_walked}
+use Rattle.span_value.proofs.Comparisons.{same_number}
 
 abbrev begins : List ℕ → List ℕ → Bool
 begins bytes front = starts_with nat_eq bytes front
@@ -43,9 +44,6 @@ front_not_after (a ∷ p) rest = ap (λ (o : Ordering). is_lt (ordering_then o (
 begins_not_before : (b p : List ℕ) → begins b p ≡ true → is_lt (byte_order b p) ≡ false
 begins_not_before b p e = ap (λ (l : List ℕ). is_lt (byte_order l p)) (sym (begins_front b p e)) ∙ front_not_after p (drop (length p) b)
 
-number_same : (m n : ℕ) → nat_cmp m n ≡ Equal → m ≡ n
-number_same m n e = grind (arith, nat_tests)
-
 nat_eq_same : (n : ℕ) → nat_eq n n ≡ true
 nat_eq_same n = grind (arith, nat_tests)
 
@@ -59,7 +57,7 @@ between (x ∷ p) (y ∷ a) rest h g = cases (nat_cmp y x) refl h g (between p a
         → (is_lt (byte_order a p) ≡ false → byte_order a (p ++ rest) ≢ Greater → begins a p ≡ true) → begins (y ∷ a) (x ∷ p) ≡ true
     cases Less e f k again = absurd (let i : true ≡ false = f in cc)
     cases Equal e f k again =
-        ap (λ (n : ℕ). nat_eq x n && pointwise nat_eq p (take (length p) a)) (number_same y x e) ∙ ap (λ (c : Bool). c && pointwise nat_eq p (take (length p) a)) (nat_eq_same x) ∙ again f k
+        ap (λ (n : ℕ). nat_eq x n && pointwise nat_eq p (take (length p) a)) (same_number y x e) ∙ ap (λ (c : Bool). c && pointwise nat_eq p (take (length p) a)) (nat_eq_same x) ∙ again f k
     cases Greater e f k again = absurd (k refl)
 
 not_greater : (o : Ordering) → o ≡ Less → o ≢ Greater

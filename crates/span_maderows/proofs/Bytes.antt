@@ -14,6 +14,7 @@ use Rattle.std.proofs.Math.Seq.{take-append_seam}
 use Rattle.span_keycode.specs.Order.{byte_order, is_same}
 use Rattle.span_keycode.proofs.Comparing.{front_same}
 use Rattle.span_maderows.specs.Made.{begins_with}
+use Rattle.span_value.proofs.Comparisons.{same_number}
 
 pub bytes_total : IsTotalOrder byte_order
 bytes_total = nat_list_cmp_total
@@ -57,9 +58,6 @@ before_begins_not b p less = cases (begins_with b p) refl
     cases false e = refl
     cases true e = absurd (let f : true ≡ false = sym less ∙ ap (λ (l : List ℕ). is_lt (byte_order l p)) (sym (begins_front b p e)) ∙ front_not_after p (drop (length p) b) in cc)
 
-number_same : (m n : ℕ) → nat_cmp m n ≡ Equal → m ≡ n
-number_same m n e = grind (arith, nat_tests)
-
 nat_eq_same : (n : ℕ) → nat_eq n n ≡ true
 nat_eq_same n = grind (arith, nat_tests)
 
@@ -73,5 +71,5 @@ between (x ∷ p) (y ∷ a) rest h g = cases (nat_cmp y x) refl h g (between p a
         → (is_lt (byte_order a p) ≡ false → byte_order a (p ++ rest) ≢ Greater → begins_with a p ≡ true) → begins_with (y ∷ a) (x ∷ p) ≡ true
     cases Less e f k again = absurd (let i : true ≡ false = f in cc)
     cases Equal e f k again =
-        ap (λ (n : ℕ). nat_eq x n && pointwise nat_eq p (take (length p) a)) (number_same y x e) ∙ ap (λ (c : Bool). c && pointwise nat_eq p (take (length p) a)) (nat_eq_same x) ∙ again f k
+        ap (λ (n : ℕ). nat_eq x n && pointwise nat_eq p (take (length p) a)) (same_number y x e) ∙ ap (λ (c : Bool). c && pointwise nat_eq p (take (length p) a)) (nat_eq_same x) ∙ again f k
     cases Greater e f k again = absurd (k refl)

@@ -11,6 +11,7 @@ use Rattle.span_mutate.proofs.Orders.{rows_total}
 use Rattle.span_mutate.proofs.Placing.{all_filter}
 use Rattle.span_mutate.proofs.Families.{root_is_table}
 use Rattle.span_mutate.proofs.ByRoots.{root_keyed, in_own}
+use Rattle.span_value.proofs.Lists.{cons_inj}
 
 abbrev of_root : List Table → Root → TableRow → Bool
 of_root tables root q = is_in_directory tables root q.table q.key
@@ -26,9 +27,6 @@ rest_first tables root x y xs ys h e =
     let kept : P (x ∷ xs) = subst P e (all_filter (λ q. rows_cmp tables y q ≡ Less) (of_root tables root) ys h) in
     kept.0
 
-heads : (x y : TableRow) (xs ys : List TableRow) → x ∷ xs ≡ y ∷ ys → x ≡ y
-heads x y xs ys e = cc
-
 tails : (x y : TableRow) (xs ys : List TableRow) → x ∷ xs ≡ y ∷ ys → xs ≡ ys
 tails x y xs ys e = cc
 
@@ -37,7 +35,7 @@ first_after : (tables : List Table) (x y : TableRow) (xs ys : List TableRow) →
     → directory tables (root_row tables x.table x.key) (x ∷ xs) ≡ directory tables (root_row tables x.table x.key) (y ∷ ys)
     → (b : Bool) → of_root tables (root_row tables x.table x.key) y ≡ b → (x ≡ y) ⊎ (rows_cmp tables y x ≡ Less)
 first_after tables x y xs ys h e true f =
-    inl (heads x y _ _ (sym (own_first tables x xs) ∙ e ∙ filter_yes (of_root tables (root_row tables x.table x.key)) y ys f))
+    inl (cons_inj x y _ _ (sym (own_first tables x xs) ∙ e ∙ filter_yes (of_root tables (root_row tables x.table x.key)) y ys f)).0
 first_after tables x y xs ys h e false f =
     inr (rest_first tables (root_row tables x.table x.key) x y _ ys h (sym (filter_no (of_root tables (root_row tables x.table x.key)) y ys f) ∙ sym e ∙ own_first tables x xs))
 

@@ -17,6 +17,7 @@ use Rattle.span_keycode.specs.Coding.{apply_direction}
 use Rattle.span_mutate.specs.declared.row.TableRow.{TableRow}
 use Rattle.span_mutate.specs.Rows.{is_descending, order_from, key_order}
 use Rattle.span_mutate.specs.Directories.{rows_cmp}
+use Rattle.span_value.proofs.Comparisons.{same_number}
 
 -- one column
 abbrev column_order : Bool → Value → Value → Ordering
@@ -102,14 +103,11 @@ from_less columns i (u ∷ us) (v ∷ vs) (w ∷ ws) e f =
       ]
     ]
 
-number_equal : (m n : ℕ) → nat_cmp m n ≡ Equal → m ≡ n
-number_equal m n e = grind (arith, nat_tests)
-
 -- rows that are equal in the order have one table and one key
 pub rows_equal : (tables : List Table) (q r : TableRow) → rows_cmp tables q r ≡ Equal → (q.table ≡ r.table) × (q.key ≡ r.key)
 rows_equal tables q r e =
     let parts = then_equal (nat_cmp q.table r.table) (key_order (key_columns tables r.table) q.key r.key) e in
-    (number_equal q.table r.table parts.0, from_equal (key_columns tables r.table) 0 q.key r.key parts.1)
+    (same_number q.table r.table parts.0, from_equal (key_columns tables r.table) 0 q.key r.key parts.1)
 
 both_turned : (o p a b : Ordering) → p ≡ ordering_reverse o → (o ≡ Equal → a ≡ ordering_reverse b) → ordering_then p a ≡ ordering_reverse (ordering_then o b)
 both_turned Less p a b e f = ap (λ (x : Ordering). ordering_then x a) e
@@ -121,20 +119,20 @@ rows_total tables = record { antisymm = turn; trans = less; congr = same }
   where
     turn : (q r : TableRow) → rows_cmp tables q r ≡ ordering_reverse (rows_cmp tables r q)
     turn q r = both_turned (nat_cmp r.table q.table) (nat_cmp q.table r.table) _ _ (nat_cmp_total.antisymm q.table r.table)
-        (λ e. ap (λ (n : ℕ). key_order (key_columns tables n) q.key r.key) (number_equal r.table q.table e) ∙ from_turned (key_columns tables q.table) 0 q.key r.key)
+        (λ e. ap (λ (n : ℕ). key_order (key_columns tables n) q.key r.key) (same_number r.table q.table e) ∙ from_turned (key_columns tables q.table) 0 q.key r.key)
 
     less : (q r s : TableRow) → rows_cmp tables q r ≡ Less → rows_cmp tables r s ≡ Less → rows_cmp tables q s ≡ Less
     less q r s e f =
         elim (then_less (nat_cmp q.table r.table) (key_order (key_columns tables r.table) q.key r.key) e) [
           | inl a ↦ elim (then_less (nat_cmp r.table s.table) (key_order (key_columns tables s.table) r.key s.key) f) [
             | inl b ↦ first_less _ _ (nat_cmp_total.trans q.table r.table s.table a b)
-            | inr b ↦ first_less _ _ (ap (nat_cmp q.table) (sym (number_equal r.table s.table b.0)) ∙ a)
+            | inr b ↦ first_less _ _ (ap (nat_cmp q.table) (sym (same_number r.table s.table b.0)) ∙ a)
           ]
           | inr a ↦ elim (then_less (nat_cmp r.table s.table) (key_order (key_columns tables s.table) r.key s.key) f) [
             | inl b ↦ first_less _ _ (nat_cmp_total.congr q.table r.table s.table a.0 ∙ b)
             | inr b ↦ second_less _ _ (nat_cmp_total.congr q.table r.table s.table a.0 ∙ b.0)
                 (from_less (key_columns tables s.table) 0 q.key r.key s.key
-                (ap (λ (n : ℕ). key_order (key_columns tables n) q.key r.key) (sym (number_equal r.table s.table b.0)) ∙ a.1) b.1)
+                (ap (λ (n : ℕ). key_order (key_columns tables n) q.key r.key) (sym (same_number r.table s.table b.0)) ∙ a.1) b.1)
           ]
         ]
 

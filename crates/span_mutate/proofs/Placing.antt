@@ -8,6 +8,7 @@ use Rattle.std.specs.Cmp.{IsTotalOrder}
 use Rattle.std.proofs.lemmas.List.Elements.{filter-append}
 use Rattle.span_mutate.specs.Directories.{IsRising}
 use Rattle.span_mutate.proofs.Filters.{filter_yes, filter_no, filters_turned}
+use Rattle.span_value.proofs.Comparisons.{is_less, is_greater}
 
 pub all_filter : {X : Type 0} (P : X → Type 0) (p : X → Bool) (xs : List X) → AllByRecursion P xs → AllByRecursion P (filter p xs)
 all_filter P p [] h = tt
@@ -103,16 +104,6 @@ put_lost {X} R total p r gone same xs sorted =
             (filter_no (λ x. is_lt (R x r)) x l (ap is_lt e) ∙ none_less R r l after)
             (filter_yes (λ x. is_gt (R x r)) x l (ap is_gt e) ∙ ap (λ (m : List X). x ∷ m) (all_greater R r l after))
 
-pub greater_is : (o : Ordering) → is_gt o ≡ true → o ≡ Greater
-greater_is Less e = absurd cc
-greater_is Equal e = absurd cc
-greater_is Greater e = refl
-
-less_is : (o : Ordering) → is_lt o ≡ true → o ≡ Less
-less_is Less e = refl
-less_is Equal e = absurd cc
-less_is Greater e = absurd cc
-
 -- the items in order stay in order
 pub put_in_order : {X : Type 0} (R : X → X → Ordering) → IsTotalOrder R → (r : X) (xs : List X) → IsRising R xs → IsRising R (put R r xs)
 put_in_order {X} R total r xs sorted =
@@ -123,7 +114,7 @@ put_in_order {X} R total r xs sorted =
     fronts (x ∷ l) = cases (fronts l) (is_lt (R x r)) refl
       where
         cases : AllBefore R r (filter (λ x. is_lt (R x r)) l) → (b : Bool) → is_lt (R x r) ≡ b → AllBefore R r (filter (λ x. is_lt (R x r)) (x ∷ l))
-        cases again true e = subst (AllBefore R r) (sym (filter_yes (λ x. is_lt (R x r)) x l e)) (less_is (R x r) e, again)
+        cases again true e = subst (AllBefore R r) (sym (filter_yes (λ x. is_lt (R x r)) x l e)) (is_less (R x r) e, again)
         cases again false e = subst (AllBefore R r) (sym (filter_no (λ x. is_lt (R x r)) x l e)) again
 
     backs : (l : List X) → AllByRecursion (λ y. R r y ≡ Less) (filter (λ x. is_gt (R x r)) l)
@@ -131,7 +122,7 @@ put_in_order {X} R total r xs sorted =
     backs (x ∷ l) = cases (backs l) (is_gt (R x r)) refl
       where
         cases : AllBehind R r (filter (λ x. is_gt (R x r)) l) → (b : Bool) → is_gt (R x r) ≡ b → AllBehind R r (filter (λ x. is_gt (R x r)) (x ∷ l))
-        cases again true e = subst (AllBehind R r) (sym (filter_yes (λ x. is_gt (R x r)) x l e)) (total.antisymm r x ∙ ap ordering_reverse (greater_is (R x r) e), again)
+        cases again true e = subst (AllBehind R r) (sym (filter_yes (λ x. is_gt (R x r)) x l e)) (total.antisymm r x ∙ ap ordering_reverse (is_greater (R x r) e), again)
         cases again false e = subst (AllBehind R r) (sym (filter_no (λ x. is_gt (R x r)) x l e)) again
 
     through : (x : X) → R x r ≡ Less → (l : List X) → AllByRecursion (λ y. R r y ≡ Less) l → AllByRecursion (λ y. R x y ≡ Less) l

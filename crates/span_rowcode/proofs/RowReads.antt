@@ -12,12 +12,10 @@ use Rattle.span_value.specs.declared.value.Kind.TheVariants.{Int as Numbers, Str
 use Rattle.span_schema.specs.Fitting.{Fits, AreBytes}
 use Rattle.span_rowcode.specs.Rows.{bit, bytes_code, cell_code, row_code, AreCells, IsNoCell, IsCell}
 use Rattle.span_rowcode.specs.Cells.{IsNoBody, IsBody, HasBytes, HasNoBytes}
-
-pub heads : (a b : ℕ) (xs ys : List ℕ) → a ∷ xs ≡ b ∷ ys → (a ≡ b) × (xs ≡ ys)
-heads a b xs ys e = (cc, cc)
+use Rattle.span_value.proofs.Lists.{cons_inj}
 
 one_is_zero : (bs rest : List ℕ) → 1 ∷ bs ≡ 0 ∷ rest → ⊥
-one_is_zero bs rest e = let g = (heads 1 0 bs rest e).0 in omega arith
+one_is_zero bs rest e = let g = (cons_inj 1 0 bs rest e).0 in omega arith
 
 -- bytes that are known place by place
 pub are_bytes : (bs : List ℕ) → ((i : ℕ) → get_or bs i 0 < 256) → AreBytes bs
@@ -82,11 +80,11 @@ pub no_cell_nothing : (k : Kind) → IsNoCell k []
 no_cell_nothing k = record { none = λ v rest f e. nothing_first k v rest e }
 
 other_first : (a : ℕ) (bs : List ℕ) → a ≢ 0 → a ≢ 1 → (v : Value) (rest : List ℕ) → a ∷ bs ≡ cell_code v ++ rest → ⊥
-other_first a bs p q Null rest e = p (heads a 0 bs rest e).0
-other_first a bs p q (Int i) rest e = q (heads a 1 bs (to_be_bytes w64 (cast_unsigned w64 i) ++ rest) e).0
-other_first a bs p q (Str cs) rest e = q (heads a 1 bs ((to_be_bytes w32 (length cs) ++ cs) ++ rest) e).0
-other_first a bs p q (Bytes cs) rest e = q (heads a 1 bs ((to_be_bytes w32 (length cs) ++ cs) ++ rest) e).0
-other_first a bs p q (Flag b) rest e = q (heads a 1 bs (bit b ∷ rest) e).0
+other_first a bs p q Null rest e = p (cons_inj a 0 bs rest e).0
+other_first a bs p q (Int i) rest e = q (cons_inj a 1 bs (to_be_bytes w64 (cast_unsigned w64 i) ++ rest) e).0
+other_first a bs p q (Str cs) rest e = q (cons_inj a 1 bs ((to_be_bytes w32 (length cs) ++ cs) ++ rest) e).0
+other_first a bs p q (Bytes cs) rest e = q (cons_inj a 1 bs ((to_be_bytes w32 (length cs) ++ cs) ++ rest) e).0
+other_first a bs p q (Flag b) rest e = q (cons_inj a 1 bs (bit b ∷ rest) e).0
 
 pub no_cell_other : (k : Kind) (a : ℕ) (bs : List ℕ) → a ≢ 0 → a ≢ 1 → IsNoCell k (a ∷ bs)
 no_cell_other k a bs p q = record { none = λ v rest f e. other_first a bs p q v rest e }
@@ -96,7 +94,7 @@ no_cell_body k bs b = record { none = b.none }
 
 wrong_bytes : (bs : List ℕ) → HasNoBytes bs → (v : Value) (rest : List ℕ) → Fits Strings v → 1 ∷ bs ≡ cell_code v ++ rest → ⊥
 wrong_bytes bs h Null rest f e = one_is_zero bs rest e
-wrong_bytes bs h (Bytes cs) rest f e = h.none cs rest ((heads 1 1 bs ((to_be_bytes w32 (length cs) ++ cs) ++ rest) e).1 ∙ append_assoc (to_be_bytes w32 (length cs)) cs rest)
+wrong_bytes bs h (Bytes cs) rest f e = h.none cs rest ((cons_inj 1 1 bs ((to_be_bytes w32 (length cs) ++ cs) ++ rest) e).1 ∙ append_assoc (to_be_bytes w32 (length cs)) cs rest)
 wrong_bytes bs h (Int x) rest f e = absurd f
 wrong_bytes bs h (Str x) rest f e = absurd f
 wrong_bytes bs h (Flag x) rest f e = absurd f
@@ -106,7 +104,7 @@ no_bytes bs h = record { none = wrong_bytes bs h }
 
 wrong_text : (bs : List ℕ) → HasNoBytes bs → (v : Value) (rest : List ℕ) → Fits Texts v → 1 ∷ bs ≡ cell_code v ++ rest → ⊥
 wrong_text bs h Null rest f e = one_is_zero bs rest e
-wrong_text bs h (Str cs) rest f e = h.none cs rest ((heads 1 1 bs ((to_be_bytes w32 (length cs) ++ cs) ++ rest) e).1 ∙ append_assoc (to_be_bytes w32 (length cs)) cs rest)
+wrong_text bs h (Str cs) rest f e = h.none cs rest ((cons_inj 1 1 bs ((to_be_bytes w32 (length cs) ++ cs) ++ rest) e).1 ∙ append_assoc (to_be_bytes w32 (length cs)) cs rest)
 wrong_text bs h (Int x) rest f e = absurd f
 wrong_text bs h (Bytes x) rest f e = absurd f
 wrong_text bs h (Flag x) rest f e = absurd f
@@ -120,7 +118,7 @@ fronts [] [] r s l e = (refl, e)
 fronts [] (y ∷ ys) r s l e = absurd (let f : 0 ≡ suc (length ys) = l in omega arith)
 fronts (x ∷ xs) [] r s l e = absurd (let f : suc (length xs) ≡ 0 = l in omega arith)
 fronts (x ∷ xs) (y ∷ ys) r s l e =
-    let both = heads x y (xs ++ r) (ys ++ s) e in
+    let both = cons_inj x y (xs ++ r) (ys ++ s) e in
     let again = fronts xs ys r s (let f : suc (length xs) ≡ suc (length ys) = l in omega arith) both.1 in
     (joined x y xs ys both.0 again.0, again.1)
   where
@@ -140,7 +138,7 @@ one_text bs cs r s a b e =
 other_text : (bs ts : List ℕ) → HasBytes bs ts → length bs < 2 ^ 32 → (IsUtf8 ts → ⊥) → (v : Value) (rest : List ℕ) → Fits Texts v → 1 ∷ bs ≡ cell_code v ++ rest → ⊥
 other_text bs ts h small bad Null rest f e = one_is_zero bs rest e
 other_text bs ts h small bad (Str cs) rest f e =
-    let code : bs ≡ to_be_bytes w32 (length cs) ++ (cs ++ rest) = (heads 1 1 bs ((to_be_bytes w32 (length cs) ++ cs) ++ rest) e).1 ∙ append_assoc (to_be_bytes w32 (length cs)) cs rest in
+    let code : bs ≡ to_be_bytes w32 (length cs) ++ (cs ++ rest) = (cons_inj 1 1 bs ((to_be_bytes w32 (length cs) ++ cs) ++ rest) e).1 ∙ append_assoc (to_be_bytes w32 (length cs)) cs rest in
     let len : length bs ≡ 4 + length (cs ++ rest) = ap length code ∙ length-append (to_be_bytes w32 (length cs)) (cs ++ rest) in
     let short : length cs < 2 ^ 32 = omega (arith, len, length-append cs rest) in
     let same = (one_text ts cs (drop (length ts + 4) bs) rest h.short short (sym h.code ∙ code)).0 in
@@ -183,16 +181,16 @@ text_once bs cs r s small e =
     let short : length bs < 2 ^ 32 = omega (arith, small, len, length-append bs r) in
     let short2 : length cs < 2 ^ 32 = omega (arith, small, same, len2, length-append cs s) in
     one_text bs cs r s short short2
-    (sym (append_assoc (to_be_bytes w32 (length bs)) bs r) ∙ (heads 1 1 ((to_be_bytes w32 (length bs) ++ bs) ++ r) ((to_be_bytes w32 (length cs) ++ cs) ++ s) e).1 ∙ append_assoc (to_be_bytes w32 (length cs)) cs s)
+    (sym (append_assoc (to_be_bytes w32 (length bs)) bs r) ∙ (cons_inj 1 1 ((to_be_bytes w32 (length bs) ++ bs) ++ r) ((to_be_bytes w32 (length cs) ++ cs) ++ s) e).1 ∙ append_assoc (to_be_bytes w32 (length cs)) cs s)
 
 flag_once : (a b : Bool) (r s : List ℕ) → bit a ∷ r ≡ bit b ∷ s → (a ≡ b) × (r ≡ s)
-flag_once true true r s e = (refl, (heads 1 1 r s e).1)
-flag_once false false r s e = (refl, (heads 0 0 r s e).1)
+flag_once true true r s e = (refl, (cons_inj 1 1 r s e).1)
+flag_once false false r s e = (refl, (cons_inj 0 0 r s e).1)
 flag_once true false r s e = absurd (one_is_zero r s e)
 flag_once false true r s e = absurd (one_is_zero s r (sym e))
 
 pub one_cell : (k : Kind) (v w : Value) (r s : List ℕ) → Fits k v → Fits k w → length (cell_code v ++ r) < 2 ^ 32 → cell_code v ++ r ≡ cell_code w ++ s → (v ≡ w) × (r ≡ s)
-one_cell k Null Null r s f g h e = (refl, (heads 0 0 r s e).1)
+one_cell k Null Null r s f g h e = (refl, (cons_inj 0 0 r s e).1)
 one_cell k Null (Int i) r s f g h e = absurd (one_is_zero (to_be_bytes w64 (cast_unsigned w64 i) ++ s) r (sym e))
 one_cell k Null (Str cs) r s f g h e = absurd (one_is_zero ((to_be_bytes w32 (length cs) ++ cs) ++ s) r (sym e))
 one_cell k Null (Bytes cs) r s f g h e = absurd (one_is_zero ((to_be_bytes w32 (length cs) ++ cs) ++ s) r (sym e))
@@ -201,10 +199,10 @@ one_cell k (Int i) Null r s f g h e = absurd (one_is_zero (to_be_bytes w64 (cast
 one_cell k (Str bs) Null r s f g h e = absurd (one_is_zero ((to_be_bytes w32 (length bs) ++ bs) ++ r) s e)
 one_cell k (Bytes bs) Null r s f g h e = absurd (one_is_zero ((to_be_bytes w32 (length bs) ++ bs) ++ r) s e)
 one_cell k (Flag b) Null r s f g h e = absurd (one_is_zero (bit b ∷ r) s e)
-one_cell Numbers (Int i) (Int j) r s f g h e = let same = signed_once i j r s f g (heads 1 1 (to_be_bytes w64 (cast_unsigned w64 i) ++ r) (to_be_bytes w64 (cast_unsigned w64 j) ++ s) e).1 in (ap Int same.0, same.1)
+one_cell Numbers (Int i) (Int j) r s f g h e = let same = signed_once i j r s f g (cons_inj 1 1 (to_be_bytes w64 (cast_unsigned w64 i) ++ r) (to_be_bytes w64 (cast_unsigned w64 j) ++ s) e).1 in (ap Int same.0, same.1)
 one_cell Texts (Str bs) (Str cs) r s f g h e = let same = text_once bs cs r s h e in (ap Str same.0, same.1)
 one_cell Strings (Bytes bs) (Bytes cs) r s f g h e = let same = text_once bs cs r s h e in (ap Bytes same.0, same.1)
-one_cell Flags (Flag a) (Flag b) r s f g h e = let same = flag_once a b r s (heads 1 1 (bit a ∷ r) (bit b ∷ s) e).1 in (ap Flag same.0, same.1)
+one_cell Flags (Flag a) (Flag b) r s f g h e = let same = flag_once a b r s (cons_inj 1 1 (bit a ∷ r) (bit b ∷ s) e).1 in (ap Flag same.0, same.1)
 one_cell Numbers (Int x) (Str y) r s f g h e = absurd g
 one_cell Numbers (Int x) (Bytes y) r s f g h e = absurd g
 one_cell Numbers (Int x) (Flag y) r s f g h e = absurd g

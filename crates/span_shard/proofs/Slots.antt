@@ -23,7 +23,7 @@ use Rattle.span_keyindex.specs.Entries.{HasChain, IsAbsent, IsSlotFor, with_entr
 use Rattle.span_keyindex.proofs.Holders.{holders-append, one_here, one_of, chains_elsewhere}
 use Rattle.span_keyindex.proofs.Rising.{turned}
 use Rattle.span_mutate.specs.Directories.{IsRising}
-use Rattle.span_mutate.proofs.Placing.{greater_is}
+use Rattle.span_value.proofs.Comparisons.{is_less, is_greater}
 use Rattle.span_maderows.proofs.Bytes.{bytes_total}
 use Rattle.span_maderows.proofs.Lists.{all_map, all_filter_itself, filter_all}
 use Rattle.span_shard.specs.declared.node.PreparedNode.{PreparedNode}
@@ -67,11 +67,6 @@ all_unmapped P f [] h = tt
 all_unmapped P f (x ∷ xs) h = (h.0, all_unmapped P f xs h.1)
 
 -- ---- a key that is not there
-
-less_is : (o : Ordering) → is_lt o ≡ true → o ≡ Less
-less_is Less e = refl
-less_is Equal e = absurd cc
-less_is Greater e = absurd cc
 
 abbrev before : List ℕ → Entry → Bool
 before key e = is_lt (byte_order e.key key)
@@ -235,11 +230,11 @@ module _ (es : List Entry) (a b : Content) (ps : List PreparedNode) (key : List 
 
   in_front : AllByRecursion (λ (d : KeyVersions). byte_order key d.key ≡ Greater) (map (kept_entry a ps) (filter (before key) es))
   in_front = all_mapped (λ (d : KeyVersions). byte_order key d.key ≡ Greater) (kept_entry a ps) (filter (before key) es)
-      (all_map (λ (e : Entry). before key e ≡ true) (λ (e : Entry). byte_order key e.key ≡ Greater) (λ e h. turned e.key key Less (less_is (byte_order e.key key) h)) (filter (before key) es) (all_filter_itself (before key) es))
+      (all_map (λ (e : Entry). before key e ≡ true) (λ (e : Entry). byte_order key e.key ≡ Greater) (λ e h. turned e.key key Less (is_less (byte_order e.key key) h)) (filter (before key) es) (all_filter_itself (before key) es))
 
   in_back : AllByRecursion (λ (d : KeyVersions). byte_order key d.key ≡ Less) (map (kept_entry a ps) (filter (later key) es))
   in_back = all_mapped (λ (d : KeyVersions). byte_order key d.key ≡ Less) (kept_entry a ps) (filter (later key) es)
-      (all_map (λ (e : Entry). later key e ≡ true) (λ (e : Entry). byte_order key e.key ≡ Less) (λ e h. turned e.key key Greater (greater_is (byte_order e.key key) h)) (filter (later key) es) (all_filter_itself (later key) es))
+      (all_map (λ (e : Entry). later key e ≡ true) (λ (e : Entry). byte_order key e.key ≡ Less) (λ e h. turned e.key key Greater (is_greater (byte_order e.key key) h)) (filter (later key) es) (all_filter_itself (later key) es))
 
   fresh_is : (txn : ℕ) (w : Write) → w.key ≡ key → new_key txn w ≡ with_prepared (prepared_write txn w) (kept_entry b ps (entry key chain))
   fresh_is txn w is =
