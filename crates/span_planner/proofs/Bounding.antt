@@ -41,7 +41,8 @@ use Rattle.span_expr.proofs.Conjuncts.{refuses, refuses-both, refuses-condition_
 use Rattle.span_expr.proofs.Equalities.{val-column}
 use Rattle.span_planner.specs.Conditions.{conjuncts_on}
 use Rattle.span_planner.proofs.Pushing.{is_left_out}
-use Rattle.span_planner.specs.Ranges.{KeyBound, bound_of, exchanged, bound_at, bounds_between, bounds_at, bounds, is_number, are_bytes, is_of_type, bounds_by}
+use Rattle.span_planner.specs.Ranges.{KeyBound, bound_of, exchanged, bound_at, bounds_between, bounds_at, bounds, are_bytes, is_of_type, bounds_by}
+use Rattle.span_value.specs.Numbers.{is_int64}
 
 -- ---- values of a type
 
@@ -49,7 +50,7 @@ bytes_are : (bs : List ℕ) → are_bytes bs ≡ true → AreBytes bs
 bytes_are [] is = tt {0}
 bytes_are (b ∷ bs) is = let parts = and_parts (nat_lt b 256) (are_bytes bs) is in ((let e : nat_lt b 256 ≡ true = parts.0 in grind (arith, nat_tests)), bytes_are bs parts.1)
 
-number_fits : (i : ℤ) → is_number i ≡ true → FitsSigned w64 i
+number_fits : (i : ℤ) → is_int64 i ≡ true → FitsSigned w64 i
 number_fits (pos n) is = record { sfits = grind (arith, nat_tests) }
 number_fits (negsuc n) is = record { sfits = grind (arith, nat_tests) }
 

@@ -11,11 +11,12 @@ use Rattle.span_value.specs.declared.value.Value.TheVariants as value
 use Rattle.span_schema.specs.Fitting.{Fits, AreBytes, is_of_kind}
 use Rattle.span_schema.specs.declared.layout.KeyPart.{KeyPart}
 use Rattle.span_keycode.specs.declared.range.KeyRange.{KeyRange}
-use Rattle.span_planner.specs.Ranges.{KeyBound, bounded, narrowed_by, is_number, are_bytes, is_of_type}
+use Rattle.span_planner.specs.Ranges.{KeyBound, bounded, narrowed_by, are_bytes, is_of_type}
+use Rattle.span_value.specs.Numbers.{is_int64}
 
 -- ---- values of a type
 
-number_is : (i : ℤ) → FitsSigned w64 i → is_number i ≡ true
+number_is : (i : ℤ) → FitsSigned w64 i → is_int64 i ≡ true
 number_is (pos n) fits = let below = fits.sfits in grind (arith, nat_tests)
 number_is (negsuc n) fits = let below = fits.sfits in grind (arith, nat_tests)
 

@@ -1,5 +1,5 @@
 -- The range of coded keys of a leaf: the family of its tables, narrowed by comparisons of the first root key column with literals.
-use Rattle.std.specs.Prelude.{ℕ, ℤ, pos, negsuc, ◌+◌, ◌^◌, ◌==◌, nat_lt, Bool, true, false, ◌&&◌, List, [], ◌∷◌, ◌++◌, Option, Some, None, filter, flat_map, if◌then◌else◌}
+use Rattle.std.specs.Prelude.{ℕ, ◌+◌, ◌==◌, nat_lt, Bool, true, false, ◌&&◌, List, [], ◌∷◌, ◌++◌, Option, Some, None, filter, flat_map, if◌then◌else◌}
 use Rattle.std.specs.List.{fold, list_all}
 use Rattle.std.specs.Str.{is_utf8}
 use Rattle.std.specs.Option.{option_map}
@@ -7,6 +7,7 @@ use Rattle.span_value.specs.declared.value.Kind.{Kind}
 use Rattle.span_value.specs.declared.value.Kind.TheVariants as kind
 use Rattle.span_value.specs.declared.value.Value.{Value}
 use Rattle.span_value.specs.declared.value.Value.TheVariants as value
+use Rattle.span_value.specs.Numbers.{is_int64}
 use Rattle.span_schema.specs.declared.table.Table.{Table}
 use Rattle.span_schema.specs.declared.layout.KeyPart.{KeyPart}
 use Rattle.span_schema.specs.Numbers.{root_of, key_columns, key_places}
@@ -69,18 +70,13 @@ bounds place e = bounds_at place (out-Expr e)
 
 -- ---- values of a type
 
--- the number has 64 bits
-abbrev pub is_number : ℤ → Bool
-is_number (pos n) = nat_lt n (2 ^ 63)
-is_number (negsuc n) = nat_lt n (2 ^ 63)
-
 abbrev pub are_bytes : List ℕ → Bool
 are_bytes bs = list_all (λ b. nat_lt b 256) bs
 
 -- NULL, or a value of the type
 abbrev pub is_of_type : Kind → Value → Bool
 is_of_type k value.Null = true
-is_of_type kind.Int (value.Int i) = is_number i
+is_of_type kind.Int (value.Int i) = is_int64 i
 is_of_type kind.Str (value.Str bs) = is_utf8 bs && are_bytes bs
 is_of_type kind.Bytes (value.Bytes bs) = are_bytes bs
 is_of_type kind.Bool (value.Bool b) = true

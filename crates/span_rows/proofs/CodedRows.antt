@@ -21,9 +21,10 @@ use Rattle.span_query.specs.Rows.{Row}
 use Rattle.span_query.specs.Sorting.{reverse_if, or_next, key_order, row_order, comes_before, insert_sorted, insertion_sort, sorted}
 use Rattle.span_rows.specs.declared.coded.CodedRow.{CodedRow}
 use Rattle.span_rows.specs.Codes.{code_of, is_exact, IsInRange, value_at, key_code, first_code, next_code, second_code, are_exact, AreInRange, IsCoded, IsCodedAs, code_order, code_before, uncoded}
-use Rattle.span_rows.proofs.Codes.{code_agrees, exact_order, exact_same, code_end, less_is, greater_is, equal_is}
+use Rattle.span_rows.proofs.Codes.{code_agrees, exact_order, exact_same, code_end}
 use Rattle.span_rows.proofs.Sorting.{all_in_order, from_sorted, is_the_order}
 use Rattle.span_rows.proofs.RowOrder.{rows_total, same_next}
+use Rattle.span_value.proofs.Comparisons.{number_less, number_greater, number_equal}
 
 -- ---- the rows so far
 
@@ -43,9 +44,9 @@ backwards : (a b c d : ℕ) → a ≤ 5 * 2 ^ 64 → b ≤ 5 * 2 ^ 64 → c ≡ 
 backwards a b c d f g e h = by_order (nat_cmp a b) refl
   where
     by_order : (o : Ordering) → nat_cmp a b ≡ o → nat_cmp c d ≡ reverse_if true o
-    by_order Less k = let lt : a < b = grind (arith, nat_tests, k) in greater_is c d (omega (arith, lt, e, h, g))
-    by_order Greater k = let lt : b < a = grind (arith, nat_tests, k) in less_is c d (omega (arith, lt, e, h, f))
-    by_order Equal k = let same : a ≡ b = grind (arith, nat_tests, k) in equal_is c d (omega (arith, same, e, h))
+    by_order Less k = let lt : a < b = grind (arith, nat_tests, k) in number_greater c d (omega (arith, lt, e, h, g))
+    by_order Greater k = let lt : b < a = grind (arith, nat_tests, k) in number_less c d (omega (arith, lt, e, h, f))
+    by_order Equal k = let same : a ≡ b = grind (arith, nat_tests, k) in number_equal c d (omega (arith, same, e, h))
 
 reversed_next : (b : Bool) (o n : Ordering) → or_next (reverse_if b o) (reverse_if b n) ≡ reverse_if b (or_next o n)
 reversed_next false o n = refl

@@ -13,15 +13,7 @@ use Rattle.span_value.specs.declared.value.Value.TheVariants.{Null, Int, Str, By
 use Rattle.span_value.specs.Orders.{value_order, kind_rank}
 use Rattle.span_query.specs.Sorting.{or_next}
 use Rattle.span_rows.specs.Codes.{to_unsigned, with_bytes, code_of, is_exact, AreBytes, IsInRange}
-
-pub less_is : (a b : ℕ) → a < b → nat_cmp a b ≡ Less
-less_is a b lt = grind (arith, nat_tests)
-
-pub greater_is : (a b : ℕ) → b < a → nat_cmp a b ≡ Greater
-greater_is a b lt = grind (arith, nat_tests)
-
-pub equal_is : (a b : ℕ) → a ≡ b → nat_cmp a b ≡ Equal
-equal_is a b e = grind (arith, nat_tests)
+use Rattle.span_value.proofs.Comparisons.{number_less, number_greater, number_equal}
 
 -- ---- the digits so far
 
@@ -105,11 +97,11 @@ first_byte : (k p q x y : ℕ) (a b : List ℕ) → AreBytes a → AreBytes b �
     → or_next (nat_cmp (with_bytes k p a) (with_bytes k q b)) (ordering_then (nat_cmp x y) (slice_cmp nat_cmp a b)) ≡ ordering_then (nat_cmp x y) (slice_cmp nat_cmp a b)
 first_byte k p q x y a b f g Less e less more same rest =
     let lt : x < y = grind (arith, nat_tests, e) in
-    let codes : nat_cmp (with_bytes k p a) (with_bytes k q b) ≡ Less = less_is (with_bytes k p a) (with_bytes k q b) (digits_first k p q a b f (less lt)) in
+    let codes : nat_cmp (with_bytes k p a) (with_bytes k q b) ≡ Less = number_less (with_bytes k p a) (with_bytes k q b) (digits_first k p q a b f (less lt)) in
     rw (e, codes) refl
 first_byte k p q x y a b f g Greater e less more same rest =
     let lt : y < x = grind (arith, nat_tests, e) in
-    let codes : nat_cmp (with_bytes k p a) (with_bytes k q b) ≡ Greater = greater_is (with_bytes k p a) (with_bytes k q b) (digits_first k q p b a g (more lt)) in
+    let codes : nat_cmp (with_bytes k p a) (with_bytes k q b) ≡ Greater = number_greater (with_bytes k p a) (with_bytes k q b) (digits_first k q p b a g (more lt)) in
     rw (e, codes) refl
 first_byte k p q x y a b f g Equal e less more same rest =
     let is : x ≡ y = grind (arith, nat_tests, e) in
@@ -119,8 +111,8 @@ first_byte k p q x y a b f g Equal e less more same rest =
 -- what the digits of strings say of their order
 bytes_agree : (k p : ℕ) (a b : List ℕ) → AreBytes a → AreBytes b
     → or_next (nat_cmp (with_bytes k p a) (with_bytes k p b)) (slice_cmp nat_cmp a b) ≡ slice_cmp nat_cmp a b
-bytes_agree zero p a b f g = ap (λ o. or_next o (slice_cmp nat_cmp a b)) (equal_is p p refl)
-bytes_agree (suc k) p [] [] f g = ap (λ o. or_next o Equal) (equal_is (with_bytes k (p * 256) []) (with_bytes k (p * 256) []) refl)
+bytes_agree zero p a b f g = ap (λ o. or_next o (slice_cmp nat_cmp a b)) (number_equal p p refl)
+bytes_agree (suc k) p [] [] f g = ap (λ o. or_next o Equal) (number_equal (with_bytes k (p * 256) []) (with_bytes k (p * 256) []) refl)
 bytes_agree (suc k) p [] (y ∷ b) f g = not_greater (with_bytes k (p * 256) []) (with_bytes k (p * 256 + y) b) (least k (p * 256) (p * 256 + y) b (omega arith))
 bytes_agree (suc k) p (x ∷ a) [] f g = not_less (with_bytes k (p * 256 + x) a) (with_bytes k (p * 256) []) (least k (p * 256) (p * 256 + x) a (omega arith))
 bytes_agree (suc k) p (x ∷ a) (y ∷ b) f g =
@@ -157,8 +149,8 @@ rank_order : (m n c d : ℕ) → Within m c → Within n d → (m ≡ n → ⊥)
 rank_order m n c d f g apart = by_rank (nat_cmp m n) refl
   where
     by_rank : (o : Ordering) → nat_cmp m n ≡ o → nat_cmp c d ≡ o
-    by_rank Less e = less_is c d (ranks_first m n c d f g (grind (arith, nat_tests, e)))
-    by_rank Greater e = greater_is c d (ranks_first n m d c g f (grind (arith, nat_tests, e)))
+    by_rank Less e = number_less c d (ranks_first m n c d f g (grind (arith, nat_tests, e)))
+    by_rank Greater e = number_greater c d (ranks_first n m d c g f (grind (arith, nat_tests, e)))
     by_rank Equal e = absurd (apart (grind (arith, nat_tests, e)))
 
 apart_order : (v w : Value) → IsInRange v → IsInRange w → nat_eq (kind_rank v) (kind_rank w) ≡ false → nat_cmp (code_of v) (code_of w) ≡ nat_cmp (kind_rank v) (kind_rank w)

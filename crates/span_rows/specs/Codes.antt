@@ -1,10 +1,10 @@
 -- Numbers that are in the order of values: rows are compared by those of their first two keys before their values.
-use Rattle.std.specs.Prelude.{◌≡◌, ℕ, ℤ, pos, negsuc, zero, suc, ◌+◌, ◌-◌, ◌*◌, ◌<◌, ◌^◌, Bool, true, false, ◌&&◌, List, [], ◌∷◌, FitsSigned, if◌then◌else◌}
+use Rattle.std.specs.Prelude.{◌≡◌, ℕ, zero, suc, ◌+◌, ◌-◌, ◌*◌, ◌^◌, Bool, true, false, ◌&&◌, List, [], ◌∷◌, FitsSigned, if◌then◌else◌}
 use Rattle.std.specs.Int.{w64}
-use Rattle.std.specs.List.{AllByRecursion}
 use Rattle.std.specs.Ordering.{nat_cmp, is_lt}
 use Rattle.std.specs.declared.cmp.Ordering.{Ordering}
 use Rattle.std.specs.declared.cmp.Ordering.TheVariants.{Equal}
+pub use Rattle.span_value.specs.Numbers.{AreBytes, to_unsigned}
 use Rattle.span_value.specs.declared.value.Value.{Value}
 use Rattle.span_value.specs.declared.value.Value.TheVariants as value
 use Rattle.span_expr.specs.Operators.{column_of}
@@ -12,11 +12,6 @@ use Rattle.span_query.specs.declared.query.SortKey.{SortKey}
 use Rattle.span_query.specs.Rows.{Row}
 use Rattle.span_query.specs.Sorting.{or_next, row_order}
 use Rattle.span_rows.specs.declared.coded.CodedRow.{CodedRow}
-
--- a signed number, moved up by 2^63 so that it is never below 0
-abbrev pub to_unsigned : ℤ → ℕ
-to_unsigned (pos n) = n + 2 ^ 63
-to_unsigned (negsuc n) = 2 ^ 63 - suc n
 
 -- the number with `count` bytes more as its last digits; a byte that is not there counts as 0
 abbrev pub with_bytes : ℕ → ℕ → List ℕ → ℕ
@@ -40,9 +35,6 @@ is_exact (value.Bool b) = true
 is_exact (value.Int n) = true
 is_exact (value.Str text) = false
 is_exact (value.Bytes bytes) = false
-
-abbrev pub AreBytes : List ℕ → Type 0
-AreBytes = AllByRecursion (λ b. b < 256)
 
 -- what the types of the code say of a value
 abbrev pub IsInRange : Value → Type 0
