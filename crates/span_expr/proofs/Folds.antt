@@ -26,13 +26,13 @@ pub fold-fusion : (A B : Type 0) (h : A → B) (step : Expr-F A → A) (next : E
 fold-fusion A B h step next follows =
     let P : Expr → Type 0 = λ e. h (fold-Expr A step e) ≡ fold-Expr B next e in
     ind-Expr P (λ x y is. subst (λ (z : Expr-F Expr). P (roll-Expr z)) is
-    (let Told : Type 0 = (e : Expr) × P e in
-    let z : Expr-F Expr = map-Expr Told Expr (λ (e : Told). e.0) y in
+    (let Witness : Type 0 = (e : Expr) × P e in
+    let z : Expr-F Expr = map-Expr Witness Expr (λ (e : Witness). e.0) y in
     let inner : map-Expr A B h (map-Expr Expr A (fold-Expr A step) z) ≡ map-Expr Expr B (fold-Expr B next) z =
     map-map-Expr Expr A B (fold-Expr A step) h z
-    ∙ map-map-Expr Told Expr B (λ (e : Told). e.0) (λ (e : Expr). h (fold-Expr A step e)) y
-    ∙ map-same Told B (λ (e : Told). h (fold-Expr A step e.0)) (λ (e : Told). fold-Expr B next e.0) (λ (e : Told). e.1) y
-    ∙ sym (map-map-Expr Told Expr B (λ (e : Told). e.0) (fold-Expr B next) y) in
+    ∙ map-map-Expr Witness Expr B (λ (e : Witness). e.0) (λ (e : Expr). h (fold-Expr A step e)) y
+    ∙ map-same Witness B (λ (e : Witness). h (fold-Expr A step e.0)) (λ (e : Witness). fold-Expr B next e.0) (λ (e : Witness). e.1) y
+    ∙ sym (map-map-Expr Witness Expr B (λ (e : Witness). e.0) (fold-Expr B next) y) in
     ap h (fold-roll-Expr A step z) ∙ follows (map-Expr Expr A (fold-Expr A step) z) ∙ ap next inner ∙ sym (fold-roll-Expr B next z)))
 
 -- the fold that puts an expression together again
@@ -40,11 +40,11 @@ pub fold-roll : (e : Expr) → fold-Expr Expr roll-Expr e ≡ e
 fold-roll =
     let P : Expr → Type 0 = λ e. fold-Expr Expr roll-Expr e ≡ e in
     ind-Expr P (λ x y is. subst (λ (z : Expr-F Expr). P (roll-Expr z)) is
-    (let Told : Type 0 = (e : Expr) × P e in
-    let z : Expr-F Expr = map-Expr Told Expr (λ (e : Told). e.0) y in
+    (let Witness : Type 0 = (e : Expr) × P e in
+    let z : Expr-F Expr = map-Expr Witness Expr (λ (e : Witness). e.0) y in
     let inner : map-Expr Expr Expr (fold-Expr Expr roll-Expr) z ≡ z =
-    map-map-Expr Told Expr Expr (λ (e : Told). e.0) (fold-Expr Expr roll-Expr) y
-    ∙ map-same Told Expr (λ (e : Told). fold-Expr Expr roll-Expr e.0) (λ (e : Told). e.0) (λ (e : Told). e.1) y in
+    map-map-Expr Witness Expr Expr (λ (e : Witness). e.0) (fold-Expr Expr roll-Expr) y
+    ∙ map-same Witness Expr (λ (e : Witness). fold-Expr Expr roll-Expr e.0) (λ (e : Witness). e.0) (λ (e : Witness). e.1) y in
     fold-roll-Expr Expr roll-Expr z ∙ ap roll-Expr inner))
 
 -- folds whose steps agree

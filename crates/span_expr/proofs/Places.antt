@@ -98,17 +98,17 @@ own_passes-reads test A f y is = refl
 
 -- two functions of expressions that agree on each operand that reads only places that pass
 module _ (test : ℕ → Bool) (A : Type 0) (f g : Expr → A) where
-  abbrev Told : Type 0
-  Told = (e : Expr) × (reads_only test e ≡ true → f e ≡ g e)
+  abbrev Witness : Type 0
+  Witness = (e : Expr) × (reads_only test e ≡ true → f e ≡ g e)
 
-  abbrev told : Told → Expr
-  told e = e.0
+  abbrev bare : Witness → Expr
+  bare e = e.0
 
-  abbrev told_link : Link Told → Link Expr
-  told_link link = record { operator = link.operator; operand = link.operand.0 }
+  abbrev bare_link : Link Witness → Link Expr
+  bare_link link = record { operator = link.operator; operand = link.operand.0 }
 
-  abbrev told_arm : Arm Told → Arm Expr
-  told_arm arm = record { condition = arm.condition.0; value = arm.value.0 }
+  abbrev bare_arm : Arm Witness → Arm Expr
+  bare_arm arm = record { condition = arm.condition.0; value = arm.value.0 }
 
   abbrev linked : {B : Type 0} → (Expr → B) → Link Expr → Link B
   linked h link = record { operator = link.operator; operand = h link.operand }
@@ -116,37 +116,37 @@ module _ (test : ℕ → Bool) (A : Type 0) (f g : Expr → A) where
   abbrev armed : {B : Type 0} → (Expr → B) → Arm Expr → Arm B
   armed h arm = record { condition = h arm.condition; value = h arm.value }
 
-  operands_agree : (es : List Told) → list_all (λ b. b) (map (reads_only test) (map told es)) ≡ true → map f (map told es) ≡ map g (map told es)
+  operands_agree : (es : List Witness) → list_all (λ b. b) (map (reads_only test) (map bare es)) ≡ true → map f (map bare es) ≡ map g (map bare es)
   operands_agree [] is = refl
   operands_agree (e ∷ es) is =
-      let parts : (reads_only test e.0 ≡ true) × (list_all (λ b. b) (map (reads_only test) (map told es)) ≡ true) = and_parts (reads_only test e.0) (list_all (λ b. b) (map (reads_only test) (map told es))) is in
-      ap (λ (a : A). a ∷ map f (map told es)) (e.1 parts.0) ∙ ap (λ (all : List A). g e.0 ∷ all) (operands_agree es parts.1)
+      let parts : (reads_only test e.0 ≡ true) × (list_all (λ b. b) (map (reads_only test) (map bare es)) ≡ true) = and_parts (reads_only test e.0) (list_all (λ b. b) (map (reads_only test) (map bare es))) is in
+      ap (λ (a : A). a ∷ map f (map bare es)) (e.1 parts.0) ∙ ap (λ (all : List A). g e.0 ∷ all) (operands_agree es parts.1)
 
-  links_agree : (links : List (Link Told)) → list_all link_operand (map (linked (reads_only test)) (map told_link links)) ≡ true → map (linked f) (map told_link links) ≡ map (linked g) (map told_link links)
+  links_agree : (links : List (Link Witness)) → list_all link_operand (map (linked (reads_only test)) (map bare_link links)) ≡ true → map (linked f) (map bare_link links) ≡ map (linked g) (map bare_link links)
   links_agree [] is = refl
   links_agree (link ∷ links) is =
-      let parts : (reads_only test link.operand.0 ≡ true) × (list_all link_operand (map (linked (reads_only test)) (map told_link links)) ≡ true) = and_parts (reads_only test link.operand.0) (list_all link_operand (map (linked (reads_only test)) (map told_link links))) is in
-      ap (λ (a : A). record { operator = link.operator; operand = a } ∷ map (linked f) (map told_link links)) (link.operand.1 parts.0) ∙ ap (λ (all : List (Link A)). linked g (told_link link) ∷ all) (links_agree links parts.1)
+      let parts : (reads_only test link.operand.0 ≡ true) × (list_all link_operand (map (linked (reads_only test)) (map bare_link links)) ≡ true) = and_parts (reads_only test link.operand.0) (list_all link_operand (map (linked (reads_only test)) (map bare_link links))) is in
+      ap (λ (a : A). record { operator = link.operator; operand = a } ∷ map (linked f) (map bare_link links)) (link.operand.1 parts.0) ∙ ap (λ (all : List (Link A)). linked g (bare_link link) ∷ all) (links_agree links parts.1)
 
-  arms_agree : (arms : List (Arm Told)) → list_all is_total_arm (map (armed (reads_only test)) (map told_arm arms)) ≡ true → map (armed f) (map told_arm arms) ≡ map (armed g) (map told_arm arms)
+  arms_agree : (arms : List (Arm Witness)) → list_all is_total_arm (map (armed (reads_only test)) (map bare_arm arms)) ≡ true → map (armed f) (map bare_arm arms) ≡ map (armed g) (map bare_arm arms)
   arms_agree [] is = refl
   arms_agree (arm ∷ arms) is =
-      let parts : ((reads_only test arm.condition.0 && reads_only test arm.value.0) ≡ true) × (list_all is_total_arm (map (armed (reads_only test)) (map told_arm arms)) ≡ true) = and_parts (reads_only test arm.condition.0 && reads_only test arm.value.0) (list_all is_total_arm (map (armed (reads_only test)) (map told_arm arms))) is in
+      let parts : ((reads_only test arm.condition.0 && reads_only test arm.value.0) ≡ true) × (list_all is_total_arm (map (armed (reads_only test)) (map bare_arm arms)) ≡ true) = and_parts (reads_only test arm.condition.0 && reads_only test arm.value.0) (list_all is_total_arm (map (armed (reads_only test)) (map bare_arm arms))) is in
       let both : (reads_only test arm.condition.0 ≡ true) × (reads_only test arm.value.0 ≡ true) = and_parts (reads_only test arm.condition.0) (reads_only test arm.value.0) parts.0 in
-      ap (λ (a : A). record { condition = a; value = f arm.value.0 } ∷ map (armed f) (map told_arm arms)) (arm.condition.1 both.0)
-      ∙ ap (λ (a : A). record { condition = g arm.condition.0; value = a } ∷ map (armed f) (map told_arm arms)) (arm.value.1 both.1)
-      ∙ ap (λ (all : List (Arm A)). armed g (told_arm arm) ∷ all) (arms_agree arms parts.1)
+      ap (λ (a : A). record { condition = a; value = f arm.value.0 } ∷ map (armed f) (map bare_arm arms)) (arm.condition.1 both.0)
+      ∙ ap (λ (a : A). record { condition = g arm.condition.0; value = a } ∷ map (armed f) (map bare_arm arms)) (arm.value.1 both.1)
+      ∙ ap (λ (all : List (Arm A)). armed g (bare_arm arm) ∷ all) (arms_agree arms parts.1)
 
-  abbrev opened : {B : Type 0} → (Expr → B) → Expr-F Told → Expr-F B
-  opened {B} h y = map-Expr Expr B h (map-Expr Told Expr (λ (e : Told). e.0) y)
+  abbrev opened : {B : Type 0} → (Expr → B) → Expr-F Witness → Expr-F B
+  opened {B} h y = map-Expr Expr B h (map-Expr Witness Expr (λ (e : Witness). e.0) y)
 
-  layer_agrees : (y : Expr-F Told) → reads_at test (opened (reads_only test) y) ≡ true → opened f y ≡ opened g y
+  layer_agrees : (y : Expr-F Witness) → reads_at test (opened (reads_only test) y) ≡ true → opened f y ≡ opened g y
   layer_agrees (Expr-F.Literal v) is = refl
   layer_agrees (Expr-F.Column place) is = refl
   layer_agrees (Expr-F.Negative a) is = ap Expr-F.Negative (a.1 is)
   layer_agrees (Expr-F.Chain first links) is =
-      let parts : (reads_only test first.0 ≡ true) × (list_all link_operand (map (linked (reads_only test)) (map told_link links)) ≡ true) = and_parts (reads_only test first.0) (list_all link_operand (map (linked (reads_only test)) (map told_link links))) is in
-      ap (λ (a : A). Expr-F.Chain a (map (linked f) (map told_link links))) (first.1 parts.0) ∙ ap (λ (all : List (Link A)). Expr-F.Chain (g first.0) all) (links_agree links parts.1)
+      let parts : (reads_only test first.0 ≡ true) × (list_all link_operand (map (linked (reads_only test)) (map bare_link links)) ≡ true) = and_parts (reads_only test first.0) (list_all link_operand (map (linked (reads_only test)) (map bare_link links))) is in
+      ap (λ (a : A). Expr-F.Chain a (map (linked f) (map bare_link links))) (first.1 parts.0) ∙ ap (λ (all : List (Link A)). Expr-F.Chain (g first.0) all) (links_agree links parts.1)
   layer_agrees (Expr-F.Compare a c b) is =
       let parts : (reads_only test a.0 ≡ true) × (reads_only test b.0 ≡ true) = and_parts (reads_only test a.0) (reads_only test b.0) is in
       ap (λ (x : A). Expr-F.Compare x c (f b.0)) (a.1 parts.0) ∙ ap (λ (x : A). Expr-F.Compare (g a.0) c x) (b.1 parts.1)
@@ -155,8 +155,8 @@ module _ (test : ℕ → Bool) (A : Type 0) (f g : Expr → A) where
       let front : (reads_only test a.0 ≡ true) × (reads_only test low.0 ≡ true) = and_parts (reads_only test a.0) (reads_only test low.0) parts.0 in
       ap (λ (x : A). Expr-F.Between x (f low.0) (f high.0)) (a.1 front.0) ∙ ap (λ (x : A). Expr-F.Between (g a.0) x (f high.0)) (low.1 front.1) ∙ ap (λ (x : A). Expr-F.Between (g a.0) (g low.0) x) (high.1 parts.1)
   layer_agrees (Expr-F.In a members) is =
-      let parts : (reads_only test a.0 ≡ true) × (list_all (λ b. b) (map (reads_only test) (map told members)) ≡ true) = and_parts (reads_only test a.0) (list_all (λ b. b) (map (reads_only test) (map told members))) is in
-      ap (λ (x : A). Expr-F.In x (map f (map told members))) (a.1 parts.0) ∙ ap (λ (all : List A). Expr-F.In (g a.0) all) (operands_agree members parts.1)
+      let parts : (reads_only test a.0 ≡ true) × (list_all (λ b. b) (map (reads_only test) (map bare members)) ≡ true) = and_parts (reads_only test a.0) (list_all (λ b. b) (map (reads_only test) (map bare members))) is in
+      ap (λ (x : A). Expr-F.In x (map f (map bare members))) (a.1 parts.0) ∙ ap (λ (all : List A). Expr-F.In (g a.0) all) (operands_agree members parts.1)
   layer_agrees (Expr-F.Like a pattern) is = ap (λ (x : A). Expr-F.Like x pattern) (a.1 is)
   layer_agrees (Expr-F.StartsWith a front) is =
       let parts : (reads_only test a.0 ≡ true) × (reads_only test front.0 ≡ true) = and_parts (reads_only test a.0) (reads_only test front.0) is in
@@ -165,27 +165,27 @@ module _ (test : ℕ → Bool) (A : Type 0) (f g : Expr → A) where
   layer_agrees (Expr-F.IsNull a) is = ap Expr-F.IsNull (a.1 is)
   layer_agrees (Expr-F.Not a) is = ap Expr-F.Not (a.1 is)
   layer_agrees (Expr-F.And first more) is =
-      let parts : (reads_only test first.0 ≡ true) × (list_all (λ b. b) (map (reads_only test) (map told more)) ≡ true) = and_parts (reads_only test first.0) (list_all (λ b. b) (map (reads_only test) (map told more))) is in
-      ap (λ (x : A). Expr-F.And x (map f (map told more))) (first.1 parts.0) ∙ ap (λ (all : List A). Expr-F.And (g first.0) all) (operands_agree more parts.1)
+      let parts : (reads_only test first.0 ≡ true) × (list_all (λ b. b) (map (reads_only test) (map bare more)) ≡ true) = and_parts (reads_only test first.0) (list_all (λ b. b) (map (reads_only test) (map bare more))) is in
+      ap (λ (x : A). Expr-F.And x (map f (map bare more))) (first.1 parts.0) ∙ ap (λ (all : List A). Expr-F.And (g first.0) all) (operands_agree more parts.1)
   layer_agrees (Expr-F.Or first more) is =
-      let parts : (reads_only test first.0 ≡ true) × (list_all (λ b. b) (map (reads_only test) (map told more)) ≡ true) = and_parts (reads_only test first.0) (list_all (λ b. b) (map (reads_only test) (map told more))) is in
-      ap (λ (x : A). Expr-F.Or x (map f (map told more))) (first.1 parts.0) ∙ ap (λ (all : List A). Expr-F.Or (g first.0) all) (operands_agree more parts.1)
+      let parts : (reads_only test first.0 ≡ true) × (list_all (λ b. b) (map (reads_only test) (map bare more)) ≡ true) = and_parts (reads_only test first.0) (list_all (λ b. b) (map (reads_only test) (map bare more))) is in
+      ap (λ (x : A). Expr-F.Or x (map f (map bare more))) (first.1 parts.0) ∙ ap (λ (all : List A). Expr-F.Or (g first.0) all) (operands_agree more parts.1)
   layer_agrees (Expr-F.Case arms None) is =
-      let parts : (list_all is_total_arm (map (armed (reads_only test)) (map told_arm arms)) ≡ true) × (true ≡ true) = and_parts (list_all is_total_arm (map (armed (reads_only test)) (map told_arm arms))) true is in
+      let parts : (list_all is_total_arm (map (armed (reads_only test)) (map bare_arm arms)) ≡ true) × (true ≡ true) = and_parts (list_all is_total_arm (map (armed (reads_only test)) (map bare_arm arms))) true is in
       ap (λ (all : List (Arm A)). Expr-F.Case all None) (arms_agree arms parts.0)
   layer_agrees (Expr-F.Case arms (Some other)) is =
-      let parts : (list_all is_total_arm (map (armed (reads_only test)) (map told_arm arms)) ≡ true) × (reads_only test other.0 ≡ true) = and_parts (list_all is_total_arm (map (armed (reads_only test)) (map told_arm arms))) (reads_only test other.0) is in
-      ap (λ (all : List (Arm A)). Expr-F.Case all (Some (f other.0))) (arms_agree arms parts.0) ∙ ap (λ (x : A). Expr-F.Case (map (armed g) (map told_arm arms)) (Some x)) (other.1 parts.1)
+      let parts : (list_all is_total_arm (map (armed (reads_only test)) (map bare_arm arms)) ≡ true) × (reads_only test other.0 ≡ true) = and_parts (list_all is_total_arm (map (armed (reads_only test)) (map bare_arm arms))) (reads_only test other.0) is in
+      ap (λ (all : List (Arm A)). Expr-F.Case all (Some (f other.0))) (arms_agree arms parts.0) ∙ ap (λ (x : A). Expr-F.Case (map (armed g) (map bare_arm arms)) (Some x)) (other.1 parts.1)
   layer_agrees (Expr-F.Match a arms None) is =
-      let parts : ((reads_only test a.0 && list_all is_total_arm (map (armed (reads_only test)) (map told_arm arms))) ≡ true) × (true ≡ true) = and_parts (reads_only test a.0 && list_all is_total_arm (map (armed (reads_only test)) (map told_arm arms))) true is in
-      let front : (reads_only test a.0 ≡ true) × (list_all is_total_arm (map (armed (reads_only test)) (map told_arm arms)) ≡ true) = and_parts (reads_only test a.0) (list_all is_total_arm (map (armed (reads_only test)) (map told_arm arms))) parts.0 in
-      ap (λ (x : A). Expr-F.Match x (map (armed f) (map told_arm arms)) None) (a.1 front.0) ∙ ap (λ (all : List (Arm A)). Expr-F.Match (g a.0) all None) (arms_agree arms front.1)
+      let parts : ((reads_only test a.0 && list_all is_total_arm (map (armed (reads_only test)) (map bare_arm arms))) ≡ true) × (true ≡ true) = and_parts (reads_only test a.0 && list_all is_total_arm (map (armed (reads_only test)) (map bare_arm arms))) true is in
+      let front : (reads_only test a.0 ≡ true) × (list_all is_total_arm (map (armed (reads_only test)) (map bare_arm arms)) ≡ true) = and_parts (reads_only test a.0) (list_all is_total_arm (map (armed (reads_only test)) (map bare_arm arms))) parts.0 in
+      ap (λ (x : A). Expr-F.Match x (map (armed f) (map bare_arm arms)) None) (a.1 front.0) ∙ ap (λ (all : List (Arm A)). Expr-F.Match (g a.0) all None) (arms_agree arms front.1)
   layer_agrees (Expr-F.Match a arms (Some other)) is =
-      let parts : ((reads_only test a.0 && list_all is_total_arm (map (armed (reads_only test)) (map told_arm arms))) ≡ true) × (reads_only test other.0 ≡ true) = and_parts (reads_only test a.0 && list_all is_total_arm (map (armed (reads_only test)) (map told_arm arms))) (reads_only test other.0) is in
-      let front : (reads_only test a.0 ≡ true) × (list_all is_total_arm (map (armed (reads_only test)) (map told_arm arms)) ≡ true) = and_parts (reads_only test a.0) (list_all is_total_arm (map (armed (reads_only test)) (map told_arm arms))) parts.0 in
-      ap (λ (x : A). Expr-F.Match x (map (armed f) (map told_arm arms)) (Some (f other.0))) (a.1 front.0)
+      let parts : ((reads_only test a.0 && list_all is_total_arm (map (armed (reads_only test)) (map bare_arm arms))) ≡ true) × (reads_only test other.0 ≡ true) = and_parts (reads_only test a.0 && list_all is_total_arm (map (armed (reads_only test)) (map bare_arm arms))) (reads_only test other.0) is in
+      let front : (reads_only test a.0 ≡ true) × (list_all is_total_arm (map (armed (reads_only test)) (map bare_arm arms)) ≡ true) = and_parts (reads_only test a.0) (list_all is_total_arm (map (armed (reads_only test)) (map bare_arm arms))) parts.0 in
+      ap (λ (x : A). Expr-F.Match x (map (armed f) (map bare_arm arms)) (Some (f other.0))) (a.1 front.0)
       ∙ ap (λ (all : List (Arm A)). Expr-F.Match (g a.0) all (Some (f other.0))) (arms_agree arms front.1)
-      ∙ ap (λ (x : A). Expr-F.Match (g a.0) (map (armed g) (map told_arm arms)) (Some x)) (other.1 parts.1)
+      ∙ ap (λ (x : A). Expr-F.Match (g a.0) (map (armed g) (map bare_arm arms)) (Some x)) (other.1 parts.1)
   layer_agrees (Expr-F.Coalesce operands) is = ap Expr-F.Coalesce (operands_agree operands is)
 
 -- folds whose steps agree where a layer's own column passes

@@ -109,12 +109,12 @@ publish_allows n slots id o seen mine b c k x own len is s h homes at fits =
     let all = h.4 id (Keeper b ∷ Client o seen mine ∷ []) at in
     let facts = facts_at n b h.0 h.1 s.words s.views all.1 h.2 h.3 h.4 in
     let mine' = facts.fits id (Keeper b ∷ Client o seen mine ∷ []) at in
-    (published o mine b c, keeps, tt, publish_keeps n id o seen mine b h.1 c k s.words s.views own len facts mine', (refl, told mine'.2.1 x is))
+    (published o mine b c, keeps, tt, publish_keeps n id o seen mine b h.1 c k s.words s.views own len facts mine', (refl, by_change mine'.2.1 x is))
   where
-    told : (o < n) × IsPrefix seen b.commits × (owned o seen ≡ mine) × (owned o b.commits ≡ mine) → (x : Change) → is_commit_change x c → Publishes (Keeper b ∷ Client o seen mine ∷ []) (some x) (published o mine b c)
-    told f (Grown y) e = (ap (λ d. published o mine b d) (sym e), f.1, f.2, f.3)
-    told f Nothing e = tt
-    told f (Restated y) e = tt
+    by_change : (o < n) × IsPrefix seen b.commits × (owned o seen ≡ mine) × (owned o b.commits ≡ mine) → (x : Change) → is_commit_change x c → Publishes (Keeper b ∷ Client o seen mine ∷ []) (some x) (published o mine b c)
+    by_change f (Grown y) e = (ap (λ d. published o mine b d) (sym e), f.1, f.2, f.3)
+    by_change f Nothing e = tt
+    by_change f (Restated y) e = tt
 
 -- a look makes a session's beginning longer
 look_allows : (n slots id o : ℕ) (seen mine : List Commit)
@@ -177,12 +177,12 @@ restate_allows n slots id i vs b k x s h homes at fits =
     let facts = facts_at n b h.0 h.1 s.words s.views all.1 h.2 h.3 h.4 in
     let mine' = facts.fits id (Keeper b ∷ Holder i vs ∷ []) at in
     let ws = shard_of_change x in
-    (Keeper (restated b i ws) ∷ Holder i ws ∷ [], keeps, tt, restate_keeps n id i vs ws b h.1 k s.words s.views facts mine', (refl, told mine'.2.1 x))
+    (Keeper (restated b i ws) ∷ Holder i ws ∷ [], keeps, tt, restate_keeps n id i vs ws b h.1 k s.words s.views facts mine', (refl, by_change mine'.2.1 x))
   where
-    told : (i < length b.slots) × (vs ≡ kept b i) → (x : Change) → Restates (Keeper b ∷ Holder i vs ∷ []) (some x) (Keeper (restated b i (shard_of_change x)) ∷ Holder i (shard_of_change x) ∷ [])
-    told f (Restated y) = (refl, f.1, f.0)
-    told f Nothing = tt
-    told f (Grown y) = tt
+    by_change : (i < length b.slots) × (vs ≡ kept b i) → (x : Change) → Restates (Keeper b ∷ Holder i vs ∷ []) (some x) (Keeper (restated b i (shard_of_change x)) ∷ Holder i (shard_of_change x) ∷ [])
+    by_change f (Restated y) = (refl, f.1, f.0)
+    by_change f Nothing = tt
+    by_change f (Grown y) = tt
 
 -- a look at both tells that they agree
 agree_allows : (n slots id i : ℕ) (vs : List KeyVersions) (b : Known)

@@ -34,10 +34,10 @@ pub extended_begun : (o : ℕ) (seen mine log : List Commit) (d : Commit) (ts : 
     × (left ≡ remove s.begun place))
 extended_begun o seen mine log d ts r v begun left place s is e made p own all there gone =
     let after : SessionHistory = record { owner = o; seen = seen_of v; mine = mine_of v; begun = left } in
-    let Told : SessionHistory → Begun → Type 0 = λ x b. Extends x (record { timestamp = ts; number = b.number; owner = x.owner; mutations = b.mutations }) after × (left ≡ remove x.begun place) in
+    let IsExtended : SessionHistory → Begun → Type 0 = λ x b. Extends x (record { timestamp = ts; number = b.number; owner = x.owner; mutations = b.mutations }) after × (left ≡ remove x.begun place) in
     let before : SessionHistory = record { owner = o; seen = seen; mine = mine; begun = begun } in
-    let told : Told before r = (extended o seen mine log d (record { timestamp = ts; number = r.number; owner = o; mutations = r.mutations }) v begun left e made p own all, gone) in
-    subst (λ (x : SessionHistory). IfSome (slice_get x.begun place) (Told x)) is (subst (λ (b : Option Begun). IfSome b (Told before)) (sym there) told)
+    let is_extended : IsExtended before r = (extended o seen mine log d (record { timestamp = ts; number = r.number; owner = o; mutations = r.mutations }) v begun left e made p own all, gone) in
+    subst (λ (x : SessionHistory). IfSome (slice_get x.begun place) (IsExtended x)) is (subst (λ (b : Option Begun). IfSome b (IsExtended before)) (sym there) is_extended)
 
 -- a session that has seen the whole log
 pub caught : (o : ℕ) (seen mine log : List Commit) (v : List Role) (begun : List Begun) → v ≡ Client o log mine ∷ [] → IsPrefix seen log

@@ -23,34 +23,34 @@ module _ (schema : List Table) (tables : List ℕ) (keyed : (t : ℕ) → AllByR
   abbrev pub AreLeavesKnown : BoundQuery → Type 0
   AreLeavesKnown q = is_sized schema tables q ≡ true → AllByRecursion (IsPlanned schema) (planned schema tables q).leaves
 
-  abbrev Told : Type 0
-  Told = (q : BoundQuery) × AreLeavesKnown q
+  abbrev Witness : Type 0
+  Witness = (q : BoundQuery) × AreLeavesKnown q
 
-  abbrev told_query : Told → BoundQuery
-  told_query t = t.0
+  abbrev bare_query : Witness → BoundQuery
+  bare_query t = t.0
 
-  knows_item : (i : Item Told) → KnowsItem schema tables keyed told_query i
+  knows_item : (i : Item Witness) → KnowsItem schema tables keyed bare_query i
   knows_item (item.Table n) = tt {0}
   knows_item (item.Derived t) = t.1
 
-  knows_joins : (js : List (Join Told)) → AllByRecursion (KnowsJoin schema tables keyed told_query) js
+  knows_joins : (js : List (Join Witness)) → AllByRecursion (KnowsJoin schema tables keyed bare_query) js
   knows_joins [] = tt {0}
   knows_joins (j ∷ js) = (knows_item j.item, knows_joins js)
 
-  knows_blocks : (bs : List (Block Told)) → AllByRecursion (KnowsBlock schema tables keyed told_query) bs
+  knows_blocks : (bs : List (Block Witness)) → AllByRecursion (KnowsBlock schema tables keyed bare_query) bs
   knows_blocks [] = tt {0}
   knows_blocks (b ∷ bs) = (record { first = knows_item b.from; rest = knows_joins b.joins }, knows_blocks bs)
 
-  layer_known : (y : BoundQuery-F Told) → AreLeavesKnown (roll-BoundQuery (map-BoundQuery Told BoundQuery told_query y))
+  layer_known : (y : BoundQuery-F Witness) → AreLeavesKnown (roll-BoundQuery (map-BoundQuery Witness BoundQuery bare_query y))
   layer_known y sized =
-      let d : BoundQuery-F BoundQuery = map-BoundQuery Told BoundQuery told_query y in
-      let planned_is : planned schema tables (roll-BoundQuery d) ≡ planned_query schema tables (map_layer (λ t. planned schema tables (told_query t)) y) =
-      fold-roll-BoundQuery Planned (planned_query schema tables) d ∙ ap (planned_query schema tables) (layer_twice told_query (planned schema tables) y) in
-      let shape_is : shape schema tables (roll-BoundQuery d) ≡ query_shape schema tables (map_layer (λ t. shape schema tables (told_query t)) y) =
-      fold-roll-BoundQuery Shape (query_shape schema tables) d ∙ ap (query_shape schema tables) (layer_twice told_query (shape schema tables) y) in
-      let parts = and_parts (list_all (is_sized_block schema tables) (map (map_block (λ t. shape schema tables (told_query t))) (y.first ∷ y.others)))
-      (list_all (λ (b : Block Shape). length b.outputs == length y.first.outputs) (map (map_block (λ t. shape schema tables (told_query t))) y.others)) (ap (λ (s : Shape). s.is_sized) (sym shape_is) ∙ sized) in
-      subst (λ (p : Planned). AllByRecursion (IsPlanned schema) p.leaves) (sym planned_is) (blocks_planned schema tables keyed told_query (y.first ∷ y.others) (knows_blocks (y.first ∷ y.others)) parts.0)
+      let d : BoundQuery-F BoundQuery = map-BoundQuery Witness BoundQuery bare_query y in
+      let planned_is : planned schema tables (roll-BoundQuery d) ≡ planned_query schema tables (map_layer (λ t. planned schema tables (bare_query t)) y) =
+      fold-roll-BoundQuery Planned (planned_query schema tables) d ∙ ap (planned_query schema tables) (layer_twice bare_query (planned schema tables) y) in
+      let shape_is : shape schema tables (roll-BoundQuery d) ≡ query_shape schema tables (map_layer (λ t. shape schema tables (bare_query t)) y) =
+      fold-roll-BoundQuery Shape (query_shape schema tables) d ∙ ap (query_shape schema tables) (layer_twice bare_query (shape schema tables) y) in
+      let parts = and_parts (list_all (is_sized_block schema tables) (map (map_block (λ t. shape schema tables (bare_query t))) (y.first ∷ y.others)))
+      (list_all (λ (b : Block Shape). length b.outputs == length y.first.outputs) (map (map_block (λ t. shape schema tables (bare_query t))) y.others)) (ap (λ (s : Shape). s.is_sized) (sym shape_is) ∙ sized) in
+      subst (λ (p : Planned). AllByRecursion (IsPlanned schema) p.leaves) (sym planned_is) (blocks_planned schema tables keyed bare_query (y.first ∷ y.others) (knows_blocks (y.first ∷ y.others)) parts.0)
 
   pub leaves_known : (q : BoundQuery) → AreLeavesKnown q
   leaves_known = ind-BoundQuery AreLeavesKnown (λ x y is. subst (λ (z : BoundQuery-F BoundQuery). AreLeavesKnown (roll-BoundQuery z)) is (layer_known y))

@@ -125,77 +125,77 @@ module _ (schema : List Table) (tables : List ℕ) (w : ℕ → List Row) (f0 f 
   IsAbove q = is_sized schema tables q ≡ true → (before : ℕ) → AgreesAt w before (plan_q q).leaves f → meaning_over f ((plan_q q).top before) ≡ mean q
 
   -- a query of which the law is known
-  abbrev Told : Type 0
-  Told = (q : BoundQuery) × IsAbove q
+  abbrev Witness : Type 0
+  Witness = (q : BoundQuery) × IsAbove q
 
-  abbrev told_query : Told → BoundQuery
-  told_query t = t.0
+  abbrev bare_query : Witness → BoundQuery
+  bare_query t = t.0
 
-  abbrev told_plan : Told → Planned
-  told_plan t = plan_q t.0
+  abbrev bare_plan : Witness → Planned
+  bare_plan t = plan_q t.0
 
-  abbrev told_mean : Told → Rows
-  told_mean t = mean t.0
+  abbrev bare_mean : Witness → Rows
+  bare_mean t = mean t.0
 
-  abbrev told_shape : Told → Shape
-  told_shape t = shape_q t.0
+  abbrev bare_shape : Witness → Shape
+  bare_shape t = shape_q t.0
 
-  keeps_item : (i : Item Told) → (item_shape schema tables (map_item told_shape i)).is_sized ≡ true → KeepsItem schema tables w f0 f Told told_plan told_mean i
+  keeps_item : (i : Item Witness) → (item_shape schema tables (map_item bare_shape i)).is_sized ≡ true → KeepsItem schema tables w f0 f Witness bare_plan bare_mean i
   keeps_item (item.Table n) sized = tt {0}
   keeps_item (item.Derived t) sized = t.1 sized
 
   equal_width : (n k : ℕ) (o : Rows) → (n == k) ≡ true → IsWide k o → IsWide n o
   equal_width n k o same wide = let e : k ≡ n = grind (arith, nat_tests) in subst (λ (m : ℕ). IsWide m o) e wide
 
-  wide_item : (i : Item Told) (width : ℕ) → (width == (item_shape schema tables (map_item told_shape i)).width) ≡ true → (item_shape schema tables (map_item told_shape i)).is_sized ≡ true
-      → IsWide width (item_rows f0 (map_item told_mean i))
+  wide_item : (i : Item Witness) (width : ℕ) → (width == (item_shape schema tables (map_item bare_shape i)).width) ≡ true → (item_shape schema tables (map_item bare_shape i)).is_sized ≡ true
+      → IsWide width (item_rows f0 (map_item bare_mean i))
   wide_item (item.Table n) width same sized = subst (IsWide width) (sym (table_given n)) (equal_width width (width_of schema (table_of tables n)) (Some (w (table_of tables n))) same (wide_tables (table_of tables n)))
   wide_item (item.Derived t) width same sized =
       let known = wide_meaning t.0 in
       equal_width width (shape_q t.0).width (mean t.0) same (subst (λ (m : ℕ). IsWide m (mean t.0)) known.0 (known.1 sized))
 
-  first_sized : (i : Item Told) → (item_shape schema tables (map_item told_shape i)).is_sized ≡ true → IsSizedFirst schema tables w f0 f Told told_plan told_mean i
+  first_sized : (i : Item Witness) → (item_shape schema tables (map_item bare_shape i)).is_sized ≡ true → IsSizedFirst schema tables w f0 f Witness bare_plan bare_mean i
   first_sized (item.Table n) sized = wide_tables (table_of tables n)
   first_sized (item.Derived t) sized = (wide_meaning t.0).1 sized
 
-  joins_known : (js : List (Join Told)) → list_all (is_sized_join schema tables) (map (map_join told_shape) js) ≡ true
-      → AllByRecursion (KeepsJoin schema tables w f0 f Told told_plan told_mean) js × AreWide (map (further schema tables w f0 f Told told_plan told_mean) js)
+  joins_known : (js : List (Join Witness)) → list_all (is_sized_join schema tables) (map (map_join bare_shape) js) ≡ true
+      → AllByRecursion (KeepsJoin schema tables w f0 f Witness bare_plan bare_mean) js × AreWide (map (further schema tables w f0 f Witness bare_plan bare_mean) js)
   joins_known [] sized = (tt {0}, tt {0})
   joins_known (j ∷ js) sized =
-      let parts = and_parts (is_sized_join schema tables (map_join told_shape j)) (list_all (is_sized_join schema tables) (map (map_join told_shape) js)) sized in
-      let here = and_parts (j.width == (item_shape schema tables (map_item told_shape j.item)).width) ((item_shape schema tables (map_item told_shape j.item)).is_sized) parts.0 in
+      let parts = and_parts (is_sized_join schema tables (map_join bare_shape j)) (list_all (is_sized_join schema tables) (map (map_join bare_shape) js)) sized in
+      let here = and_parts (j.width == (item_shape schema tables (map_item bare_shape j.item)).width) ((item_shape schema tables (map_item bare_shape j.item)).is_sized) parts.0 in
       let rest = joins_known js parts.1 in
       ((keeps_item j.item here.1, rest.0), (wide_item j.item j.width here.0 here.1, rest.1))
 
-  one_block : (b : Block Told) → is_sized_block schema tables (map_block told_shape b) ≡ true → (before : ℕ) → AgreesAt w before (block_leaves schema tables (map_block told_plan b)) f
-      → block_rows f (map_block (meaning_over f) (top_block schema tables before (map_block told_plan b))) ≡ block_rows f0 (map_block told_mean b)
+  one_block : (b : Block Witness) → is_sized_block schema tables (map_block bare_shape b) ≡ true → (before : ℕ) → AgreesAt w before (block_leaves schema tables (map_block bare_plan b)) f
+      → block_rows f (map_block (meaning_over f) (top_block schema tables before (map_block bare_plan b))) ≡ block_rows f0 (map_block bare_mean b)
   one_block b sized before agrees =
-      let parts = and_parts ((item_shape schema tables (map_item told_shape b.from)).is_sized) (list_all (is_sized_join schema tables) (map (map_join told_shape) b.joins)) sized in
+      let parts = and_parts ((item_shape schema tables (map_item bare_shape b.from)).is_sized) (list_all (is_sized_join schema tables) (map (map_join bare_shape) b.joins)) sized in
       let joins = joins_known b.joins parts.1 in
-      block_above schema tables w f0 f Told told_plan told_mean table_given b (record { first = keeps_item b.from parts.0; rest = joins.0 }) (record { first = first_sized b.from parts.0; rest = joins.1 }) before agrees
+      block_above schema tables w f0 f Witness bare_plan bare_mean table_given b (record { first = keeps_item b.from parts.0; rest = joins.0 }) (record { first = first_sized b.from parts.0; rest = joins.1 }) before agrees
 
-  all_blocks : (bs : List (Block Told)) → list_all (is_sized_block schema tables) (map (map_block told_shape) bs) ≡ true → (before : ℕ)
-      → AgreesAt w before (flat_map (block_leaves schema tables) (map (map_block told_plan) bs)) f
-      → concat_map (block_rows f) (map (map_block (meaning_over f)) (top_blocks schema tables before (map (map_block told_plan) bs))) ≡ concat_map (block_rows f0) (map (map_block told_mean) bs)
+  all_blocks : (bs : List (Block Witness)) → list_all (is_sized_block schema tables) (map (map_block bare_shape) bs) ≡ true → (before : ℕ)
+      → AgreesAt w before (flat_map (block_leaves schema tables) (map (map_block bare_plan) bs)) f
+      → concat_map (block_rows f) (map (map_block (meaning_over f)) (top_blocks schema tables before (map (map_block bare_plan) bs))) ≡ concat_map (block_rows f0) (map (map_block bare_mean) bs)
   all_blocks [] sized before agrees = refl
   all_blocks (b ∷ bs) sized before agrees =
-      let parts = and_parts (is_sized_block schema tables (map_block told_shape b)) (list_all (is_sized_block schema tables) (map (map_block told_shape) bs)) sized in
-      let own : List Leaf = block_leaves schema tables (map_block told_plan b) in
-      let rest : List Leaf = flat_map (block_leaves schema tables) (map (map_block told_plan) bs) in
-      let later : List (Block BoundQuery) = top_blocks schema tables (before + length own) (map (map_block told_plan) bs) in
+      let parts = and_parts (is_sized_block schema tables (map_block bare_shape b)) (list_all (is_sized_block schema tables) (map (map_block bare_shape) bs)) sized in
+      let own : List Leaf = block_leaves schema tables (map_block bare_plan b) in
+      let rest : List Leaf = flat_map (block_leaves schema tables) (map (map_block bare_plan) bs) in
+      let later : List (Block BoundQuery) = top_blocks schema tables (before + length own) (map (map_block bare_plan) bs) in
       ap (λ (o : Rows). append_results o (concat_map (block_rows f) (map (map_block (meaning_over f)) later))) (one_block b parts.0 before (agrees_front w before own rest f agrees))
-      ∙ ap (append_results (block_rows f0 (map_block told_mean b))) (all_blocks bs parts.1 (before + length own) (agrees_rest w before own rest f agrees))
+      ∙ ap (append_results (block_rows f0 (map_block bare_mean b))) (all_blocks bs parts.1 (before + length own) (agrees_rest w before own rest f agrees))
 
   -- what comes after the blocks
-  abbrev finished : BoundQuery-F Told → Rows → Rows
+  abbrev finished : BoundQuery-F Witness → Rows → Rows
   finished y o = o >>= (λ (rows : List Row). Some (limit_rows y.limit (sorted y.order rows)))
 
-  layer_above : (y : BoundQuery-F Told) → IsAbove (query_with told_query y)
+  layer_above : (y : BoundQuery-F Witness) → IsAbove (query_with bare_query y)
   layer_above y sized before agrees =
-      let q : BoundQuery = query_with told_query y in
-      let layer : BoundQuery-F Planned = map_layer told_plan y in
-      let parts = layer_sized told_query y (ap (λ (x : Shape). x.is_sized) (sym (shape_roll told_query y)) ∙ sized) in
-      let leaves_are : (plan_q q).leaves ≡ (planned_query schema tables layer).leaves = ap (λ (p : Planned). p.leaves) (planned_roll told_query y) in
+      let q : BoundQuery = query_with bare_query y in
+      let layer : BoundQuery-F Planned = map_layer bare_plan y in
+      let parts = layer_sized bare_query y (ap (λ (x : Shape). x.is_sized) (sym (shape_roll bare_query y)) ∙ sized) in
+      let leaves_are : (plan_q q).leaves ≡ (planned_query schema tables layer).leaves = ap (λ (p : Planned). p.leaves) (planned_roll bare_query y) in
       let known = subst (λ (ls : List Leaf). AgreesAt w before ls f) leaves_are agrees in
       let top : BoundQuery-F BoundQuery = record {
         first = top_block schema tables before layer.first;
@@ -203,11 +203,11 @@ module _ (schema : List Table) (tables : List ℕ) (w : ℕ → List Row) (f0 f 
         order = y.order;
         limit = y.limit;
       } in
-      ap (λ (p : Planned). meaning_over f (p.top before)) (planned_roll told_query y)
+      ap (λ (p : Planned). meaning_over f (p.top before)) (planned_roll bare_query y)
       ∙ fold-roll-BoundQuery Rows (query_rows f) top
       ∙ ap (query_rows f) (layer_mapped (meaning_over f) top)
       ∙ ap (finished y) (all_blocks (y.first ∷ y.others) parts.0 before known)
-      ∙ sym (mean_roll told_query f0 y)
+      ∙ sym (mean_roll bare_query f0 y)
 
   -- THE LAW OF A PLAN: above its leaves, which give what they give on whole tables, a query means what it means on whole tables.
   pub query_above : (q : BoundQuery) → IsAbove q

@@ -81,33 +81,33 @@ module _ (schema : List Table) (tables : List ℕ) where
   abbrev AreLeavesRanged : BoundQuery → Type 0
   AreLeavesRanged q = AreRanged (planned schema tables q)
 
-  abbrev Told : Type 0
-  Told = (q : BoundQuery) × AreLeavesRanged q
+  abbrev Witness : Type 0
+  Witness = (q : BoundQuery) × AreLeavesRanged q
 
-  abbrev told_query : Told → BoundQuery
-  told_query t = t.0
+  abbrev bare_query : Witness → BoundQuery
+  bare_query t = t.0
 
-  abbrev told_plan : Told → Planned
-  told_plan t = planned schema tables t.0
+  abbrev bare_plan : Witness → Planned
+  bare_plan t = planned schema tables t.0
 
-  told_item : (i : Item Told) → IsRangedItem (map_item told_plan i)
-  told_item (item.Table n) = tt {0}
-  told_item (item.Derived t) = t.1
+  bare_item : (i : Item Witness) → IsRangedItem (map_item bare_plan i)
+  bare_item (item.Table n) = tt {0}
+  bare_item (item.Derived t) = t.1
 
-  told_joins : (js : List (Join Told)) → AllByRecursion IsRangedJoin (map (map_join told_plan) js)
-  told_joins [] = tt {0}
-  told_joins (j ∷ js) = (told_item j.item, told_joins js)
+  bare_joins : (js : List (Join Witness)) → AllByRecursion IsRangedJoin (map (map_join bare_plan) js)
+  bare_joins [] = tt {0}
+  bare_joins (j ∷ js) = (bare_item j.item, bare_joins js)
 
-  told_blocks : (bs : List (Block Told)) → AllByRecursion IsRangedBlock (map (map_block told_plan) bs)
-  told_blocks [] = tt {0}
-  told_blocks (b ∷ bs) = (record { first = told_item b.from; rest = told_joins b.joins }, told_blocks bs)
+  bare_blocks : (bs : List (Block Witness)) → AllByRecursion IsRangedBlock (map (map_block bare_plan) bs)
+  bare_blocks [] = tt {0}
+  bare_blocks (b ∷ bs) = (record { first = bare_item b.from; rest = bare_joins b.joins }, bare_blocks bs)
 
-  layer_ranged : (y : BoundQuery-F Told) → AreLeavesRanged (roll-BoundQuery (map-BoundQuery Told BoundQuery told_query y))
+  layer_ranged : (y : BoundQuery-F Witness) → AreLeavesRanged (roll-BoundQuery (map-BoundQuery Witness BoundQuery bare_query y))
   layer_ranged y =
-      let d : BoundQuery-F BoundQuery = map-BoundQuery Told BoundQuery told_query y in
-      let planned_is : planned schema tables (roll-BoundQuery d) ≡ planned_query schema tables (map_layer told_plan y) =
-      fold-roll-BoundQuery Planned (planned_query schema tables) d ∙ ap (planned_query schema tables) (layer_twice told_query (planned schema tables) y) in
-      subst AreRanged (sym planned_is) (blocks_ranged (map (map_block told_plan) (y.first ∷ y.others)) (told_blocks (y.first ∷ y.others)))
+      let d : BoundQuery-F BoundQuery = map-BoundQuery Witness BoundQuery bare_query y in
+      let planned_is : planned schema tables (roll-BoundQuery d) ≡ planned_query schema tables (map_layer bare_plan y) =
+      fold-roll-BoundQuery Planned (planned_query schema tables) d ∙ ap (planned_query schema tables) (layer_twice bare_query (planned schema tables) y) in
+      subst AreRanged (sym planned_is) (blocks_ranged (map (map_block bare_plan) (y.first ∷ y.others)) (bare_blocks (y.first ∷ y.others)))
 
   pub leaves_ranged : (q : BoundQuery) → AreLeavesRanged q
   leaves_ranged = ind-BoundQuery AreLeavesRanged (λ x y is. subst (λ (z : BoundQuery-F BoundQuery). AreLeavesRanged (roll-BoundQuery z)) is (layer_ranged y))

@@ -92,17 +92,17 @@ module _ (masks : ℕ → List Bool) where
         × (is_sized schema tables q ≡ true → (before : ℕ) → MasksAt before (planned schema tables q).leaves
         → (is_within masks ((planned schema tables q).top before) ≡ true) × ((reading masks ((planned schema tables q).top before)).width ≡ (planned schema tables q).width))
 
-    abbrev Told : Type 0
-    Told = (q : BoundQuery) × IsReadAbove q
+    abbrev Witness : Type 0
+    Witness = (q : BoundQuery) × IsReadAbove q
 
-    abbrev told_query : Told → BoundQuery
-    told_query t = t.0
+    abbrev bare_query : Witness → BoundQuery
+    bare_query t = t.0
 
-    abbrev told_plan : Told → Planned
-    told_plan t = planned schema tables t.0
+    abbrev bare_plan : Witness → Planned
+    bare_plan t = planned schema tables t.0
 
-    abbrev told_shape : Told → Shape
-    told_shape t = shape schema tables t.0
+    abbrev bare_shape : Witness → Shape
+    bare_shape t = shape schema tables t.0
 
     abbrev read : BoundQuery → Reading
     read = reading masks
@@ -114,15 +114,15 @@ module _ (masks : ℕ → List Bool) where
     counted rs es at is_left width (item.Derived p) = refl
 
     -- above the leaves, after the given number of them
-    abbrev item_above : ℕ → Item Told → Item Reading
-    item_above before i = map_item read (top_item before (map_item told_plan i))
+    abbrev item_above : ℕ → Item Witness → Item Reading
+    item_above before i = map_item read (top_item before (map_item bare_plan i))
 
     abbrev joins_above : ℕ → List (Join Planned) → List (Join Reading)
     joins_above before js = map (map_join read) (top_joins before js)
 
-    item_read : (rs : List Bool) (es : List Expr) (at before : ℕ) (is_left : Bool) (width : ℕ) (i : Item Told)
-        → (width == (item_shape schema tables (map_item told_shape i)).width) ≡ true → (item_shape schema tables (map_item told_shape i)).is_sized ≡ true → at + width ≤ length rs
-        → MasksAt before (join_leaves schema tables rs at es is_left width (map_item told_plan i))
+    item_read : (rs : List Bool) (es : List Expr) (at before : ℕ) (is_left : Bool) (width : ℕ) (i : Item Witness)
+        → (width == (item_shape schema tables (map_item bare_shape i)).width) ≡ true → (item_shape schema tables (map_item bare_shape i)).is_sized ≡ true → at + width ≤ length rs
+        → MasksAt before (join_leaves schema tables rs at es is_left width (map_item bare_plan i))
         → (item_within (item_above before i) ≡ true) × (width ≡ length (item_mask masks (item_above before i)))
         × ((ms : List Bool) → Covers (drop (at + width) rs) ms → Covers (drop at rs) (item_mask masks (item_above before i) ++ ms))
     item_read rs es at before is_left width (item.Table n) same sized fits masks_at = (
@@ -134,38 +134,38 @@ module _ (masks : ℕ → List Bool) where
     )
     item_read rs es at before is_left width (item.Derived t) same sized fits masks_at =
         let known = t.1.1 sized before masks_at in
-        let is : width ≡ (read ((told_plan t).top before)).width =
-        (let e : width ≡ (told_shape t).width = grind (arith, nat_tests) in e) ∙ sym t.1.0 ∙ sym known.1 in (
+        let is : width ≡ (read ((bare_plan t).top before)).width =
+        (let e : width ≡ (bare_shape t).width = grind (arith, nat_tests) in e) ∙ sym t.1.0 ∙ sym known.1 in (
           known.0,
-          is ∙ sym (length-replicate (read ((told_plan t).top before)).width true),
+          is ∙ sym (length-replicate (read ((bare_plan t).top before)).width true),
           λ ms covers.
               subst (λ (n : ℕ). Covers (drop at rs) (replicate n true ++ ms)) is
               (covers_all width (drop at rs) ms (subst (λ (l : List Bool). Covers l ms) (sym (drop_more at width rs)) covers)),
         )
 
-    abbrev planned_joins : List (Join Told) → List (Join Planned)
-    planned_joins js = map (map_join told_plan) js
+    abbrev planned_joins : List (Join Witness) → List (Join Planned)
+    planned_joins js = map (map_join bare_plan) js
 
-    abbrev are_sized : List (Join Told) → Bool
-    are_sized js = list_all (is_sized_join schema tables) (map (map_join told_shape) js)
+    abbrev are_sized : List (Join Witness) → Bool
+    are_sized js = list_all (is_sized_join schema tables) (map (map_join bare_shape) js)
 
     append_more : (xs ys zs : List Bool) → (xs ++ ys) ++ zs ≡ xs ++ (ys ++ zs)
     append_more [] ys zs = refl
     append_more (x ∷ xs) ys zs = ap (λ (l : List Bool). x ∷ l) (append_more xs ys zs)
 
-    joins_read : (rs : List Bool) (es : List Expr) (at before : ℕ) (js : List (Join Told)) → are_sized js ≡ true → at + widths (planned_joins js) ≤ length rs
+    joins_read : (rs : List Bool) (es : List Expr) (at before : ℕ) (js : List (Join Witness)) → are_sized js ≡ true → at + widths (planned_joins js) ≤ length rs
         → MasksAt before (rest_leaves schema tables rs es at (planned_joins js))
         → (list_all (join_within masks) (joins_above before (planned_joins js)) ≡ true) × Covers (drop at rs) (flat_map (join_mask masks) (joins_above before (planned_joins js)))
     joins_read rs es at before [] sized fits masks_at = (refl, λ k has. refl)
     joins_read rs es at before (j ∷ js) sized fits masks_at =
-        let parts = and_parts (is_sized_join schema tables (map_join told_shape j)) (are_sized js) sized in
-        let here = and_parts (j.width == (item_shape schema tables (map_item told_shape j.item)).width) ((item_shape schema tables (map_item told_shape j.item)).is_sized) parts.0 in
-        let own : List Leaf = join_leaves schema tables rs at es j.is_left j.width (map_item told_plan j.item) in
+        let parts = and_parts (is_sized_join schema tables (map_join bare_shape j)) (are_sized js) sized in
+        let here = and_parts (j.width == (item_shape schema tables (map_item bare_shape j.item)).width) ((item_shape schema tables (map_item bare_shape j.item)).is_sized) parts.0 in
+        let own : List Leaf = join_leaves schema tables rs at es j.is_left j.width (map_item bare_plan j.item) in
         let later : List Leaf = rest_leaves schema tables rs es (at + j.width) (planned_joins js) in
-        let count : ℕ = count_leaves (map_item told_plan j.item) in
+        let count : ℕ = count_leaves (map_item bare_plan j.item) in
         let one = item_read rs es at before j.is_left j.width j.item here.0 here.1 (omega arith) (masks_front before own later masks_at) in
         let rest = joins_read rs es (at + j.width) (before + count) js parts.1 (omega arith)
-        (subst (λ (n : ℕ). MasksAt (before + n) later) (counted rs es at j.is_left j.width (map_item told_plan j.item)) (masks_rest before own later masks_at)) in
+        (subst (λ (n : ℕ). MasksAt (before + n) later) (counted rs es at j.is_left j.width (map_item bare_plan j.item)) (masks_rest before own later masks_at)) in
         let mask : List Bool = item_mask masks (item_above before j.item) in (
           and_from (join_within masks (record { is_left = j.is_left; item = item_above before j.item; width = j.width; on = j.on })) (list_all (join_within masks) (joins_above (before + count) (planned_joins js)))
               (and_from (j.width == length mask) (item_within (item_above before j.item)) (is_itself j.width (length mask) one.1) one.0) rest.0,
@@ -174,18 +174,18 @@ module _ (masks : ℕ → List Bool) where
 
     -- ---- blocks
 
-    abbrev block_read : ℕ → Block Told → Block Reading
-    block_read before b = map_block read (top_block schema tables before (map_block told_plan b))
+    abbrev block_read : ℕ → Block Witness → Block Reading
+    block_read before b = map_block read (top_block schema tables before (map_block bare_plan b))
 
-    from_read : (b : Block Told) (i : Item Told) (before : ℕ) → (item_shape schema tables (map_item told_shape i)).is_sized ≡ true → are_sized b.joins ≡ true
-        → MasksAt before (leaves_from schema tables (map_block told_plan b) (map_item told_plan i)) → block_within masks (map_block read (top_from schema tables before (map_block told_plan b) (map_item told_plan i))) ≡ true
+    from_read : (b : Block Witness) (i : Item Witness) (before : ℕ) → (item_shape schema tables (map_item bare_shape i)).is_sized ≡ true → are_sized b.joins ≡ true
+        → MasksAt before (leaves_from schema tables (map_block bare_plan b) (map_item bare_plan i)) → block_within masks (map_block read (top_from schema tables before (map_block bare_plan b) (map_item bare_plan i))) ≡ true
     from_read b (item.Table n) before first_sized sized masks_at =
-        let p : Block Planned = map_block told_plan b in
+        let p : Block Planned = map_block bare_plan b in
         let width : ℕ = width_of schema (table_of tables n) in
         let len : ℕ = leaf_len schema tables (table_of tables n) width p.joins in
         let at : ℕ = width + widths (take len p.joins) in
         let rs : List Bool = reads_of width p in
-        let same : drop len p.joins ≡ planned_joins (drop len b.joins) = drop_map (map_join told_plan) len b.joins in
+        let same : drop len p.joins ≡ planned_joins (drop len b.joins) = drop_map (map_join bare_plan) len b.joins in
         let all : length rs ≡ width + widths p.joins = reads_of_len width p in
         let split : widths (take len p.joins) + widths (drop len p.joins) ≡ widths p.joins = widths_split len p.joins in
         let split_too : widths (drop len p.joins) ≡ widths (planned_joins (drop len b.joins)) = ap widths same in
@@ -199,36 +199,36 @@ module _ (masks : ℕ → List Bool) where
         and_from (true && list_all (join_within masks) later) (block_reads (has_place (from_mask masks top)) top) rest.0
         (reads_above (has_place (from_mask masks top)) schema tables before p (item.Table n) (covered width p (from_mask masks top) covers))
       where
-        sized_drop : (n : ℕ) (js : List (Join Told)) → are_sized js ≡ true → are_sized (drop n js) ≡ true
+        sized_drop : (n : ℕ) (js : List (Join Witness)) → are_sized js ≡ true → are_sized (drop n js) ≡ true
         sized_drop zero js is = is
         sized_drop (suc n) [] is = is
-        sized_drop (suc n) (j ∷ js) is = sized_drop n js (and_parts (is_sized_join schema tables (map_join told_shape j)) (are_sized js) is).1
+        sized_drop (suc n) (j ∷ js) is = sized_drop n js (and_parts (is_sized_join schema tables (map_join bare_shape j)) (are_sized js) is).1
     from_read b (item.Derived t) before first_sized sized masks_at =
-        let p : Block Planned = map_block told_plan b in
-        let width : ℕ = (told_plan t).width in
+        let p : Block Planned = map_block bare_plan b in
+        let width : ℕ = (bare_plan t).width in
         let rs : List Bool = reads_of width p in
-        let own : List Leaf = (told_plan t).leaves in
+        let own : List Leaf = (bare_plan t).leaves in
         let later : List Leaf = rest_leaves schema tables rs (pushable p) width p.joins in
         let known = t.1.1 first_sized before (masks_front before own later masks_at) in
         let all : length rs ≡ width + widths p.joins = reads_of_len width p in
         let above : List (Join Reading) = joins_above (before + length own) p.joins in
         let rest = joins_read rs (pushable p) width (before + length own) b.joins sized (omega arith) (masks_rest before own later masks_at) in
-        let covers : Covers rs (replicate (read ((told_plan t).top before)).width true ++ flat_map (join_mask masks) above) =
+        let covers : Covers rs (replicate (read ((bare_plan t).top before)).width true ++ flat_map (join_mask masks) above) =
         subst (λ (n : ℕ). Covers rs (replicate n true ++ flat_map (join_mask masks) above)) (sym known.1) (covers_all width rs (flat_map (join_mask masks) above) rest.1) in
-        let top : Block Reading = map_block read (top_from schema tables before p (item.Derived (told_plan t))) in
-        and_from ((read ((told_plan t).top before)).is_within && list_all (join_within masks) above) (block_reads (has_place (from_mask masks top)) top)
-        (and_from ((read ((told_plan t).top before)).is_within) (list_all (join_within masks) above) known.0 rest.0)
-        (reads_above (has_place (from_mask masks top)) schema tables before p (item.Derived (told_plan t)) (covered width p (from_mask masks top) covers))
+        let top : Block Reading = map_block read (top_from schema tables before p (item.Derived (bare_plan t))) in
+        and_from ((read ((bare_plan t).top before)).is_within && list_all (join_within masks) above) (block_reads (has_place (from_mask masks top)) top)
+        (and_from ((read ((bare_plan t).top before)).is_within) (list_all (join_within masks) above) known.0 rest.0)
+        (reads_above (has_place (from_mask masks top)) schema tables before p (item.Derived (bare_plan t)) (covered width p (from_mask masks top) covers))
 
-    blocks_read : (bs : List (Block Told)) (before : ℕ) → list_all (is_sized_block schema tables) (map (map_block told_shape) bs) ≡ true
-        → MasksAt before (flat_map (block_leaves schema tables) (map (map_block told_plan) bs)) → list_all (block_within masks) (map (map_block read) (top_blocks schema tables before (map (map_block told_plan) bs))) ≡ true
+    blocks_read : (bs : List (Block Witness)) (before : ℕ) → list_all (is_sized_block schema tables) (map (map_block bare_shape) bs) ≡ true
+        → MasksAt before (flat_map (block_leaves schema tables) (map (map_block bare_plan) bs)) → list_all (block_within masks) (map (map_block read) (top_blocks schema tables before (map (map_block bare_plan) bs))) ≡ true
     blocks_read [] before sized masks_at = refl
     blocks_read (b ∷ bs) before sized masks_at =
-        let parts = and_parts (is_sized_block schema tables (map_block told_shape b)) (list_all (is_sized_block schema tables) (map (map_block told_shape) bs)) sized in
-        let here = and_parts ((item_shape schema tables (map_item told_shape b.from)).is_sized) (are_sized b.joins) parts.0 in
-        let own : List Leaf = block_leaves schema tables (map_block told_plan b) in
-        let later : List Leaf = flat_map (block_leaves schema tables) (map (map_block told_plan) bs) in
-        and_from (block_within masks (block_read before b)) (list_all (block_within masks) (map (map_block read) (top_blocks schema tables (before + length own) (map (map_block told_plan) bs))))
+        let parts = and_parts (is_sized_block schema tables (map_block bare_shape b)) (list_all (is_sized_block schema tables) (map (map_block bare_shape) bs)) sized in
+        let here = and_parts ((item_shape schema tables (map_item bare_shape b.from)).is_sized) (are_sized b.joins) parts.0 in
+        let own : List Leaf = block_leaves schema tables (map_block bare_plan b) in
+        let later : List Leaf = flat_map (block_leaves schema tables) (map (map_block bare_plan) bs) in
+        and_from (block_within masks (block_read before b)) (list_all (block_within masks) (map (map_block read) (top_blocks schema tables (before + length own) (map (map_block bare_plan) bs))))
         (from_read b b.from before here.0 here.1 (masks_front before own later masks_at)) (blocks_read bs (before + length own) parts.1 (masks_rest before own later masks_at))
 
     -- ---- select lists stay as they are
@@ -246,28 +246,28 @@ module _ (masks : ℕ → List Bool) where
         and_from (length (top_block schema tables before b).outputs == n) (list_all (λ (b : Block Reading). length b.outputs == n) (map (map_block read) (top_blocks schema tables after bs)))
         (ap (λ (es : List Expr). length es == n) (outputs_from b.from b before) ∙ parts.0) (outputs_above n bs after parts.1)
 
-    outputs_planned : (n : ℕ) (bs : List (Block Told)) → list_all (λ (b : Block Shape). length b.outputs == n) (map (map_block told_shape) bs) ≡ true
-        → list_all (λ (b : Block Planned). length b.outputs == n) (map (map_block told_plan) bs) ≡ true
+    outputs_planned : (n : ℕ) (bs : List (Block Witness)) → list_all (λ (b : Block Shape). length b.outputs == n) (map (map_block bare_shape) bs) ≡ true
+        → list_all (λ (b : Block Planned). length b.outputs == n) (map (map_block bare_plan) bs) ≡ true
     outputs_planned n [] is = refl
     outputs_planned n (b ∷ bs) is =
-        let parts = and_parts (length b.outputs == n) (list_all (λ (b : Block Shape). length b.outputs == n) (map (map_block told_shape) bs)) is in
-        and_from (length b.outputs == n) (list_all (λ (b : Block Planned). length b.outputs == n) (map (map_block told_plan) bs)) parts.0 (outputs_planned n bs parts.1)
+        let parts = and_parts (length b.outputs == n) (list_all (λ (b : Block Shape). length b.outputs == n) (map (map_block bare_shape) bs)) is in
+        and_from (length b.outputs == n) (list_all (λ (b : Block Planned). length b.outputs == n) (map (map_block bare_plan) bs)) parts.0 (outputs_planned n bs parts.1)
 
     -- ---- queries
 
-    layer_read : (y : BoundQuery-F Told) → IsReadAbove (roll-BoundQuery (map-BoundQuery Told BoundQuery told_query y))
+    layer_read : (y : BoundQuery-F Witness) → IsReadAbove (roll-BoundQuery (map-BoundQuery Witness BoundQuery bare_query y))
     layer_read y =
-        let d : BoundQuery-F BoundQuery = map-BoundQuery Told BoundQuery told_query y in
+        let d : BoundQuery-F BoundQuery = map-BoundQuery Witness BoundQuery bare_query y in
         let q : BoundQuery = roll-BoundQuery d in
-        let layer : BoundQuery-F Planned = map_layer told_plan y in
+        let layer : BoundQuery-F Planned = map_layer bare_plan y in
         let planned_is : planned schema tables q ≡ planned_query schema tables layer =
-        fold-roll-BoundQuery Planned (planned_query schema tables) d ∙ ap (planned_query schema tables) (layer_twice told_query (planned schema tables) y) in
-        let shape_is : shape schema tables q ≡ query_shape schema tables (map_layer told_shape y) =
-        fold-roll-BoundQuery Shape (query_shape schema tables) d ∙ ap (query_shape schema tables) (layer_twice told_query (shape schema tables) y) in (
+        fold-roll-BoundQuery Planned (planned_query schema tables) d ∙ ap (planned_query schema tables) (layer_twice bare_query (planned schema tables) y) in
+        let shape_is : shape schema tables q ≡ query_shape schema tables (map_layer bare_shape y) =
+        fold-roll-BoundQuery Shape (query_shape schema tables) d ∙ ap (query_shape schema tables) (layer_twice bare_query (shape schema tables) y) in (
           ap (λ (p : Planned). p.width) planned_is ∙ sym (ap (λ (s : Shape). s.width) shape_is),
           λ sized before masks_at.
-              (let parts = and_parts (list_all (is_sized_block schema tables) (map (map_block told_shape) (y.first ∷ y.others)))
-              (list_all (λ (b : Block Shape). length b.outputs == length y.first.outputs) (map (map_block told_shape) y.others)) (ap (λ (s : Shape). s.is_sized) (sym shape_is) ∙ sized) in
+              (let parts = and_parts (list_all (is_sized_block schema tables) (map (map_block bare_shape) (y.first ∷ y.others)))
+              (list_all (λ (b : Block Shape). length b.outputs == length y.first.outputs) (map (map_block bare_shape) y.others)) (ap (λ (s : Shape). s.is_sized) (sym shape_is) ∙ sized) in
               let top : BoundQuery-F BoundQuery = record {
                 first = top_block schema tables before layer.first;
                 others = top_blocks schema tables (before + length (block_leaves schema tables layer.first)) layer.others;
@@ -277,7 +277,7 @@ module _ (masks : ℕ → List Bool) where
               let read_is : read ((planned schema tables q).top before) ≡ query_reading masks (map_layer read top) =
               ap (λ (p : Planned). read (p.top before)) planned_is ∙ fold-roll-BoundQuery Reading (query_reading masks) top ∙ ap (query_reading masks) (layer_mapped read top) in
               let leaves_are : (planned schema tables q).leaves ≡ (planned_query schema tables layer).leaves = ap (λ (p : Planned). p.leaves) planned_is in
-              let first_is : top.first.outputs ≡ y.first.outputs = outputs_from (map_item told_plan y.first.from) layer.first before in
+              let first_is : top.first.outputs ≡ y.first.outputs = outputs_from (map_item bare_plan y.first.from) layer.first before in
               let outputs : list_all (λ (b : Block Reading). length b.outputs == length top.first.outputs) (map (map_block read) top.others) ≡ true =
               subst (λ (es : List Expr). list_all (λ (b : Block Reading). length b.outputs == length es) (map (map_block read) top.others) ≡ true) (sym first_is)
               (outputs_above (length y.first.outputs) layer.others (before + length (block_leaves schema tables layer.first)) (outputs_planned (length y.first.outputs) y.others parts.1)) in

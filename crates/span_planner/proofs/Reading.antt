@@ -51,17 +51,17 @@ by_same f g same by test all = same test ∙ by test (λ k out. all k (same (is_
 
 -- ---- expressions
 
-abbrev ToldExpr : Type 0
-ToldExpr = (e : Expr) × ByPlace (λ t. reads_only t e)
+abbrev WitnessExpr : Type 0
+WitnessExpr = (e : Expr) × ByPlace (λ t. reads_only t e)
 
-abbrev told_expr : ToldExpr → Expr
-told_expr e = e.0
+abbrev bare_expr : WitnessExpr → Expr
+bare_expr e = e.0
 
-abbrev told_link : Link ToldExpr → Link Expr
-told_link link = record { operator = link.operator; operand = link.operand.0 }
+abbrev bare_link : Link WitnessExpr → Link Expr
+bare_link link = record { operator = link.operator; operand = link.operand.0 }
 
-abbrev told_arm : Arm ToldExpr → Arm Expr
-told_arm arm = record { condition = arm.condition.0; value = arm.value.0 }
+abbrev bare_arm : Arm WitnessExpr → Arm Expr
+bare_arm arm = record { condition = arm.condition.0; value = arm.value.0 }
 
 abbrev linked : (Expr → Bool) → Link Expr → Link Bool
 linked h link = record { operator = link.operator; operand = h link.operand }
@@ -69,44 +69,44 @@ linked h link = record { operator = link.operator; operand = h link.operand }
 abbrev armed : (Expr → Bool) → Arm Expr → Arm Bool
 armed h arm = record { condition = h arm.condition; value = h arm.value }
 
-operands_by : (es : List ToldExpr) → ByPlace (λ t. list_all (λ b. b) (map (reads_only t) (map told_expr es)))
+operands_by : (es : List WitnessExpr) → ByPlace (λ t. list_all (λ b. b) (map (reads_only t) (map bare_expr es)))
 operands_by [] = by_none
-operands_by (e ∷ es) = by_both (λ t. reads_only t e.0) (λ t. list_all (λ b. b) (map (reads_only t) (map told_expr es))) e.1 (operands_by es)
+operands_by (e ∷ es) = by_both (λ t. reads_only t e.0) (λ t. list_all (λ b. b) (map (reads_only t) (map bare_expr es))) e.1 (operands_by es)
 
-links_by : (links : List (Link ToldExpr)) → ByPlace (λ t. list_all link_operand (map (linked (reads_only t)) (map told_link links)))
+links_by : (links : List (Link WitnessExpr)) → ByPlace (λ t. list_all link_operand (map (linked (reads_only t)) (map bare_link links)))
 links_by [] = by_none
-links_by (link ∷ links) = by_both (λ t. reads_only t link.operand.0) (λ t. list_all link_operand (map (linked (reads_only t)) (map told_link links))) link.operand.1 (links_by links)
+links_by (link ∷ links) = by_both (λ t. reads_only t link.operand.0) (λ t. list_all link_operand (map (linked (reads_only t)) (map bare_link links))) link.operand.1 (links_by links)
 
-arms_by : (arms : List (Arm ToldExpr)) → ByPlace (λ t. list_all is_total_arm (map (armed (reads_only t)) (map told_arm arms)))
+arms_by : (arms : List (Arm WitnessExpr)) → ByPlace (λ t. list_all is_total_arm (map (armed (reads_only t)) (map bare_arm arms)))
 arms_by [] = by_none
 arms_by (arm ∷ arms) =
-    by_both (λ t. reads_only t arm.condition.0 && reads_only t arm.value.0) (λ t. list_all is_total_arm (map (armed (reads_only t)) (map told_arm arms)))
+    by_both (λ t. reads_only t arm.condition.0 && reads_only t arm.value.0) (λ t. list_all is_total_arm (map (armed (reads_only t)) (map bare_arm arms)))
     (by_both (λ t. reads_only t arm.condition.0) (λ t. reads_only t arm.value.0) arm.condition.1 arm.value.1) (arms_by arms)
 
-layer_by : (y : Expr-F ToldExpr) → ByPlace (λ t. reads_at t (map-Expr Expr Bool (reads_only t) (map-Expr ToldExpr Expr told_expr y)))
+layer_by : (y : Expr-F WitnessExpr) → ByPlace (λ t. reads_at t (map-Expr Expr Bool (reads_only t) (map-Expr WitnessExpr Expr bare_expr y)))
 layer_by (Expr-F.Literal v) = by_none
 layer_by (Expr-F.Column place) = by_place place
 layer_by (Expr-F.Negative a) = a.1
-layer_by (Expr-F.Chain first links) = by_both (λ t. reads_only t first.0) (λ t. list_all link_operand (map (linked (reads_only t)) (map told_link links))) first.1 (links_by links)
+layer_by (Expr-F.Chain first links) = by_both (λ t. reads_only t first.0) (λ t. list_all link_operand (map (linked (reads_only t)) (map bare_link links))) first.1 (links_by links)
 layer_by (Expr-F.Compare a c b) = by_both (λ t. reads_only t a.0) (λ t. reads_only t b.0) a.1 b.1
 layer_by (Expr-F.Between a low high) =
     by_both (λ t. reads_only t a.0 && reads_only t low.0) (λ t. reads_only t high.0) (by_both (λ t. reads_only t a.0) (λ t. reads_only t low.0) a.1 low.1) high.1
-layer_by (Expr-F.In a members) = by_both (λ t. reads_only t a.0) (λ t. list_all (λ b. b) (map (reads_only t) (map told_expr members))) a.1 (operands_by members)
+layer_by (Expr-F.In a members) = by_both (λ t. reads_only t a.0) (λ t. list_all (λ b. b) (map (reads_only t) (map bare_expr members))) a.1 (operands_by members)
 layer_by (Expr-F.Like a pattern) = a.1
 layer_by (Expr-F.StartsWith a front) = by_both (λ t. reads_only t a.0) (λ t. reads_only t front.0) a.1 front.1
 layer_by (Expr-F.Length a) = a.1
 layer_by (Expr-F.IsNull a) = a.1
 layer_by (Expr-F.Not a) = a.1
-layer_by (Expr-F.And first more) = by_both (λ t. reads_only t first.0) (λ t. list_all (λ b. b) (map (reads_only t) (map told_expr more))) first.1 (operands_by more)
-layer_by (Expr-F.Or first more) = by_both (λ t. reads_only t first.0) (λ t. list_all (λ b. b) (map (reads_only t) (map told_expr more))) first.1 (operands_by more)
-layer_by (Expr-F.Case arms None) = by_both (λ t. list_all is_total_arm (map (armed (reads_only t)) (map told_arm arms))) (λ t. true) (arms_by arms) by_none
-layer_by (Expr-F.Case arms (Some other)) = by_both (λ t. list_all is_total_arm (map (armed (reads_only t)) (map told_arm arms))) (λ t. reads_only t other.0) (arms_by arms) other.1
+layer_by (Expr-F.And first more) = by_both (λ t. reads_only t first.0) (λ t. list_all (λ b. b) (map (reads_only t) (map bare_expr more))) first.1 (operands_by more)
+layer_by (Expr-F.Or first more) = by_both (λ t. reads_only t first.0) (λ t. list_all (λ b. b) (map (reads_only t) (map bare_expr more))) first.1 (operands_by more)
+layer_by (Expr-F.Case arms None) = by_both (λ t. list_all is_total_arm (map (armed (reads_only t)) (map bare_arm arms))) (λ t. true) (arms_by arms) by_none
+layer_by (Expr-F.Case arms (Some other)) = by_both (λ t. list_all is_total_arm (map (armed (reads_only t)) (map bare_arm arms))) (λ t. reads_only t other.0) (arms_by arms) other.1
 layer_by (Expr-F.Match a arms None) =
-    by_both (λ t. reads_only t a.0 && list_all is_total_arm (map (armed (reads_only t)) (map told_arm arms))) (λ t. true)
-    (by_both (λ t. reads_only t a.0) (λ t. list_all is_total_arm (map (armed (reads_only t)) (map told_arm arms))) a.1 (arms_by arms)) by_none
+    by_both (λ t. reads_only t a.0 && list_all is_total_arm (map (armed (reads_only t)) (map bare_arm arms))) (λ t. true)
+    (by_both (λ t. reads_only t a.0) (λ t. list_all is_total_arm (map (armed (reads_only t)) (map bare_arm arms))) a.1 (arms_by arms)) by_none
 layer_by (Expr-F.Match a arms (Some other)) =
-    by_both (λ t. reads_only t a.0 && list_all is_total_arm (map (armed (reads_only t)) (map told_arm arms))) (λ t. reads_only t other.0)
-    (by_both (λ t. reads_only t a.0) (λ t. list_all is_total_arm (map (armed (reads_only t)) (map told_arm arms))) a.1 (arms_by arms)) other.1
+    by_both (λ t. reads_only t a.0 && list_all is_total_arm (map (armed (reads_only t)) (map bare_arm arms))) (λ t. reads_only t other.0)
+    (by_both (λ t. reads_only t a.0) (λ t. list_all is_total_arm (map (armed (reads_only t)) (map bare_arm arms))) a.1 (arms_by arms)) other.1
 layer_by (Expr-F.Coalesce operands) = operands_by operands
 
 abbrev pub IsByPlace : Expr → Type 0
@@ -114,8 +114,8 @@ IsByPlace e = ByPlace (λ t. reads_only t e)
 
 pub expr_by : (e : Expr) → IsByPlace e
 expr_by = ind-Expr IsByPlace (λ x y is. subst (λ (z : Expr-F Expr). IsByPlace (roll-Expr z)) is
-    (by_same (λ t. reads_at t (map-Expr Expr Bool (reads_only t) (map-Expr ToldExpr Expr told_expr y))) (λ t. reads_only t (roll-Expr (map-Expr ToldExpr Expr told_expr y)))
-    (λ t. fold-roll-Expr Bool (reads_at t) (map-Expr ToldExpr Expr told_expr y)) (layer_by y)))
+    (by_same (λ t. reads_at t (map-Expr Expr Bool (reads_only t) (map-Expr WitnessExpr Expr bare_expr y))) (λ t. reads_only t (roll-Expr (map-Expr WitnessExpr Expr bare_expr y)))
+    (λ t. fold-roll-Expr Bool (reads_at t) (map-Expr WitnessExpr Expr bare_expr y)) (layer_by y)))
 
 -- ---- blocks
 

@@ -20,49 +20,49 @@ module _ (schema : List Table) (tables : List ℕ) where
   abbrev pub IsNumberedToo : BoundQuery → Type 0
   IsNumberedToo q = is_sized schema tables q ≡ true → is_numbered tables q ≡ true
 
-  abbrev Told : Type 0
-  Told = (q : BoundQuery) × IsNumberedToo q
+  abbrev Witness : Type 0
+  Witness = (q : BoundQuery) × IsNumberedToo q
 
-  abbrev told_query : Told → BoundQuery
-  told_query t = t.0
+  abbrev bare_query : Witness → BoundQuery
+  bare_query t = t.0
 
-  abbrev told_shape : Told → Shape
-  told_shape t = shape schema tables t.0
+  abbrev bare_shape : Witness → Shape
+  bare_shape t = shape schema tables t.0
 
-  abbrev told_test : Told → Bool
-  told_test t = is_numbered tables t.0
+  abbrev bare_test : Witness → Bool
+  bare_test t = is_numbered tables t.0
 
-  item_too : (i : Item Told) → (item_shape schema tables (map_item told_shape i)).is_sized ≡ true → numbered_item tables (map_item told_test i) ≡ true
+  item_too : (i : Item Witness) → (item_shape schema tables (map_item bare_shape i)).is_sized ≡ true → numbered_item tables (map_item bare_test i) ≡ true
   item_too (item.Table n) is = is
   item_too (item.Derived t) is = t.1 is
 
-  joins_too : (js : List (Join Told)) → list_all (is_sized_join schema tables) (map (map_join told_shape) js) ≡ true → list_all (numbered_join tables) (map (map_join told_test) js) ≡ true
+  joins_too : (js : List (Join Witness)) → list_all (is_sized_join schema tables) (map (map_join bare_shape) js) ≡ true → list_all (numbered_join tables) (map (map_join bare_test) js) ≡ true
   joins_too [] is = refl
   joins_too (j ∷ js) is =
-      let parts = and_parts (is_sized_join schema tables (map_join told_shape j)) (list_all (is_sized_join schema tables) (map (map_join told_shape) js)) is in
-      let here = and_parts (j.width == (item_shape schema tables (map_item told_shape j.item)).width) ((item_shape schema tables (map_item told_shape j.item)).is_sized) parts.0 in
-      and_from (numbered_join tables (map_join told_test j)) (list_all (numbered_join tables) (map (map_join told_test) js)) (item_too j.item here.1) (joins_too js parts.1)
+      let parts = and_parts (is_sized_join schema tables (map_join bare_shape j)) (list_all (is_sized_join schema tables) (map (map_join bare_shape) js)) is in
+      let here = and_parts (j.width == (item_shape schema tables (map_item bare_shape j.item)).width) ((item_shape schema tables (map_item bare_shape j.item)).is_sized) parts.0 in
+      and_from (numbered_join tables (map_join bare_test j)) (list_all (numbered_join tables) (map (map_join bare_test) js)) (item_too j.item here.1) (joins_too js parts.1)
 
-  block_too : (b : Block Told) → is_sized_block schema tables (map_block told_shape b) ≡ true → numbered_block tables (map_block told_test b) ≡ true
+  block_too : (b : Block Witness) → is_sized_block schema tables (map_block bare_shape b) ≡ true → numbered_block tables (map_block bare_test b) ≡ true
   block_too b is =
-      let parts = and_parts ((item_shape schema tables (map_item told_shape b.from)).is_sized) (list_all (is_sized_join schema tables) (map (map_join told_shape) b.joins)) is in
-      and_from (numbered_item tables (map_item told_test b.from)) (list_all (numbered_join tables) (map (map_join told_test) b.joins)) (item_too b.from parts.0) (joins_too b.joins parts.1)
+      let parts = and_parts ((item_shape schema tables (map_item bare_shape b.from)).is_sized) (list_all (is_sized_join schema tables) (map (map_join bare_shape) b.joins)) is in
+      and_from (numbered_item tables (map_item bare_test b.from)) (list_all (numbered_join tables) (map (map_join bare_test) b.joins)) (item_too b.from parts.0) (joins_too b.joins parts.1)
 
-  blocks_too : (bs : List (Block Told)) → list_all (is_sized_block schema tables) (map (map_block told_shape) bs) ≡ true → list_all (numbered_block tables) (map (map_block told_test) bs) ≡ true
+  blocks_too : (bs : List (Block Witness)) → list_all (is_sized_block schema tables) (map (map_block bare_shape) bs) ≡ true → list_all (numbered_block tables) (map (map_block bare_test) bs) ≡ true
   blocks_too [] is = refl
   blocks_too (b ∷ bs) is =
-      let parts = and_parts (is_sized_block schema tables (map_block told_shape b)) (list_all (is_sized_block schema tables) (map (map_block told_shape) bs)) is in
-      and_from (numbered_block tables (map_block told_test b)) (list_all (numbered_block tables) (map (map_block told_test) bs)) (block_too b parts.0) (blocks_too bs parts.1)
+      let parts = and_parts (is_sized_block schema tables (map_block bare_shape b)) (list_all (is_sized_block schema tables) (map (map_block bare_shape) bs)) is in
+      and_from (numbered_block tables (map_block bare_test b)) (list_all (numbered_block tables) (map (map_block bare_test) bs)) (block_too b parts.0) (blocks_too bs parts.1)
 
-  layer_too : (y : BoundQuery-F Told) → IsNumberedToo (roll-BoundQuery (map-BoundQuery Told BoundQuery told_query y))
+  layer_too : (y : BoundQuery-F Witness) → IsNumberedToo (roll-BoundQuery (map-BoundQuery Witness BoundQuery bare_query y))
   layer_too y sized =
-      let d : BoundQuery-F BoundQuery = map-BoundQuery Told BoundQuery told_query y in
-      let shape_is : shape schema tables (roll-BoundQuery d) ≡ query_shape schema tables (map_layer told_shape y) =
-      fold-roll-BoundQuery Shape (query_shape schema tables) d ∙ ap (query_shape schema tables) (layer_twice told_query (shape schema tables) y) in
-      let test_is : is_numbered tables (roll-BoundQuery d) ≡ numbered_query tables (map_layer told_test y) =
-      fold-roll-BoundQuery Bool (numbered_query tables) d ∙ ap (numbered_query tables) (layer_twice told_query (is_numbered tables) y) in
-      let parts = and_parts (list_all (is_sized_block schema tables) (map (map_block told_shape) (y.first ∷ y.others)))
-      (list_all (λ (b : Block Shape). length b.outputs == length y.first.outputs) (map (map_block told_shape) y.others)) (ap (λ (s : Shape). s.is_sized) (sym shape_is) ∙ sized) in
+      let d : BoundQuery-F BoundQuery = map-BoundQuery Witness BoundQuery bare_query y in
+      let shape_is : shape schema tables (roll-BoundQuery d) ≡ query_shape schema tables (map_layer bare_shape y) =
+      fold-roll-BoundQuery Shape (query_shape schema tables) d ∙ ap (query_shape schema tables) (layer_twice bare_query (shape schema tables) y) in
+      let test_is : is_numbered tables (roll-BoundQuery d) ≡ numbered_query tables (map_layer bare_test y) =
+      fold-roll-BoundQuery Bool (numbered_query tables) d ∙ ap (numbered_query tables) (layer_twice bare_query (is_numbered tables) y) in
+      let parts = and_parts (list_all (is_sized_block schema tables) (map (map_block bare_shape) (y.first ∷ y.others)))
+      (list_all (λ (b : Block Shape). length b.outputs == length y.first.outputs) (map (map_block bare_shape) y.others)) (ap (λ (s : Shape). s.is_sized) (sym shape_is) ∙ sized) in
       test_is ∙ blocks_too (y.first ∷ y.others) parts.0
 
   pub sized_numbered : (q : BoundQuery) → IsNumberedToo q

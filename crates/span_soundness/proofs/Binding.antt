@@ -344,40 +344,40 @@ module _ (scope : Scope) where
     LinkSound l = SoundLink (link_fold l)
 
     -- a part of a tree, with what is known of it
-    abbrev ToldTree : Type 0
-    ToldTree = (e : Expr) × TreeSound e
+    abbrev WitnessTree : Type 0
+    WitnessTree = (e : Expr) × TreeSound e
 
-    abbrev ToldArm : Type 0
-    ToldArm = (a : Arm) × ArmSound a
+    abbrev WitnessArm : Type 0
+    WitnessArm = (a : Arm) × ArmSound a
 
-    abbrev ToldLink : Type 0
-    ToldLink = (l : Link) × LinkSound l
+    abbrev WitnessLink : Type 0
+    WitnessLink = (l : Link) × LinkSound l
 
-    abbrev tree_of : ToldTree → Expr
+    abbrev tree_of : WitnessTree → Expr
     tree_of e = e.0
 
-    abbrev arm_of : ToldArm → Arm
+    abbrev arm_of : WitnessArm → Arm
     arm_of a = a.0
 
-    abbrev link_of : ToldLink → Link
+    abbrev link_of : WitnessLink → Link
     link_of l = l.0
 
-    trees_sound : (es : List ToldTree) → AllByRecursion Sound (map (typing scope params) (map tree_of es))
+    trees_sound : (es : List WitnessTree) → AllByRecursion Sound (map (typing scope params) (map tree_of es))
     trees_sound [] = tt {0}
     trees_sound (e ∷ es) = (e.1, trees_sound es)
 
-    tree_arms_sound : (os : List ToldArm) → AllByRecursion SoundArm (map arm_fold (map arm_of os))
+    tree_arms_sound : (os : List WitnessArm) → AllByRecursion SoundArm (map arm_fold (map arm_of os))
     tree_arms_sound [] = tt {0}
     tree_arms_sound (a ∷ os) = (a.1, tree_arms_sound os)
 
-    tree_links_sound : (ls : List ToldLink) → AllByRecursion SoundLink (map link_fold (map link_of ls))
+    tree_links_sound : (ls : List WitnessLink) → AllByRecursion SoundLink (map link_fold (map link_of ls))
     tree_links_sound [] = tt {0}
     tree_links_sound (l ∷ ls) = (l.1, tree_links_sound ls)
 
-    abbrev layer : Expr-F ToldTree ToldArm ToldLink → Expr-F Operand (Operand × Operand) (Operator × Operand)
-    layer y = map-Expr Expr Arm Link Operand (Operand × Operand) (Operator × Operand) (typing scope params) arm_fold link_fold (map-Expr ToldTree ToldArm ToldLink Expr Arm Link tree_of arm_of link_of y)
+    abbrev layer : Expr-F WitnessTree WitnessArm WitnessLink → Expr-F Operand (Operand × Operand) (Operator × Operand)
+    layer y = map-Expr Expr Arm Link Operand (Operand × Operand) (Operator × Operand) (typing scope params) arm_fold link_fold (map-Expr WitnessTree WitnessArm WitnessLink Expr Arm Link tree_of arm_of link_of y)
 
-    layer_sound : (y : Expr-F ToldTree ToldArm ToldLink) → Sound (at_operands scope params (layer y))
+    layer_sound : (y : Expr-F WitnessTree WitnessArm WitnessLink) → Sound (at_operands scope params (layer y))
     layer_sound (Expr-F.Integer n) = given_sound (Ok (integer n)) (λ types. integer_right types n)
     layer_sound (Expr-F.Str s) = given_sound (Ok (string s.text)) (λ types. string_right types s.text)
     layer_sound (Expr-F.Bytes s) = given_sound (Ok (bytes s.text)) (λ types. bytes_right types s.text)
@@ -405,11 +405,11 @@ module _ (scope : Scope) where
     pub sound : (e : Expr) → TreeSound e
     sound = ind-Expr TreeSound ArmSound LinkSound
         (λ x y is. subst (λ (z : Expr-F Expr Arm Link). TreeSound (roll-Expr z)) is
-        (subst Sound (sym (fold-roll-Expr Operand (Operand × Operand) (Operator × Operand) (at_operands scope params) arm_at link_at (map-Expr ToldTree ToldArm ToldLink Expr Arm Link tree_of arm_of link_of y))) (layer_sound y)))
+        (subst Sound (sym (fold-roll-Expr Operand (Operand × Operand) (Operator × Operand) (at_operands scope params) arm_at link_at (map-Expr WitnessTree WitnessArm WitnessLink Expr Arm Link tree_of arm_of link_of y))) (layer_sound y)))
         (λ x y is. subst (λ (z : Arm-F Expr Arm Link). ArmSound (roll-Arm z)) is
-        (subst SoundArm (sym (fold-roll-Arm Operand (Operand × Operand) (Operator × Operand) (at_operands scope params) arm_at link_at (map-Arm ToldTree ToldArm ToldLink Expr Arm Link tree_of arm_of link_of y))) (y.condition.1, y.value.1)))
+        (subst SoundArm (sym (fold-roll-Arm Operand (Operand × Operand) (Operator × Operand) (at_operands scope params) arm_at link_at (map-Arm WitnessTree WitnessArm WitnessLink Expr Arm Link tree_of arm_of link_of y))) (y.condition.1, y.value.1)))
         (λ x y is. subst (λ (z : Link-F Expr Arm Link). LinkSound (roll-Link z)) is
-        (subst SoundLink (sym (fold-roll-Link Operand (Operand × Operand) (Operator × Operand) (at_operands scope params) arm_at link_at (map-Link ToldTree ToldArm ToldLink Expr Arm Link tree_of arm_of link_of y))) y.operand.1))
+        (subst SoundLink (sym (fold-roll-Link Operand (Operand × Operand) (Operator × Operand) (at_operands scope params) arm_at link_at (map-Link WitnessTree WitnessArm WitnessLink Expr Arm Link tree_of arm_of link_of y))) y.operand.1))
 
 pub types_are_right : TypesAreRight
 types_are_right scope params tree m found after kinds x params_are are is =

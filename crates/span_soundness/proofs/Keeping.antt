@@ -226,16 +226,16 @@ module _ (types : List Kind) (row : List Value) (row_is : IsRowOf types row) whe
   KeepsTypes e = (k : Kind) → is_of types e k ≡ true → IsOutcomeOf k (val row e)
 
   -- an operand, with what is known of it
-  abbrev Told : Type 0
-  Told = (e : Expr) × KeepsTypes e
+  abbrev Witness : Type 0
+  Witness = (e : Expr) × KeepsTypes e
 
-  abbrev expr_of : Told → Expr
+  abbrev expr_of : Witness → Expr
   expr_of e = e.0
 
-  abbrev of_link : Link Told → Link Expr
+  abbrev of_link : Link Witness → Link Expr
   of_link link = record { operator = link.operator; operand = link.operand.0 }
 
-  abbrev of_arm : Arm Told → Arm Expr
+  abbrev of_arm : Arm Witness → Arm Expr
   of_arm arm = record { condition = arm.condition.0; value = arm.value.0 }
 
   abbrev link_type : Link Expr → Link Typing
@@ -244,26 +244,26 @@ module _ (types : List Kind) (row : List Value) (row_is : IsRowOf types row) whe
   abbrev arm_type : Arm Expr → Arm Typing
   arm_type arm = record { condition = is_of types arm.condition; value = is_of types arm.value }
 
-  operands_kept : (k : Kind) (es : List Told) → all_are (map (is_of types) (map expr_of es)) k ≡ true → AllAre k (map (val row) (map expr_of es))
+  operands_kept : (k : Kind) (es : List Witness) → all_are (map (is_of types) (map expr_of es)) k ≡ true → AllAre k (map (val row) (map expr_of es))
   operands_kept k [] is = tt {0}
   operands_kept k (e ∷ es) is =
       let parts : (is_of types e.0 k ≡ true) × (all_are (map (is_of types) (map expr_of es)) k ≡ true) = and_parts (is_of types e.0 k) (all_are (map (is_of types) (map expr_of es)) k) is in
       (e.1 k parts.0, operands_kept k es parts.1)
 
-  links_kept : (k : Kind) (links : List (Link Told)) → list_all (is_link_of k) (map link_type (map of_link links)) ≡ true → AllLinks k (map (link_val row) (map of_link links))
+  links_kept : (k : Kind) (links : List (Link Witness)) → list_all (is_link_of k) (map link_type (map of_link links)) ≡ true → AllLinks k (map (link_val row) (map of_link links))
   links_kept k [] is = tt {0}
   links_kept k (link ∷ links) is =
       let parts : (is_link_of k (link_type (of_link link)) ≡ true) × (list_all (is_link_of k) (map link_type (map of_link links)) ≡ true) = and_parts (is_link_of k (link_type (of_link link))) (list_all (is_link_of k) (map link_type (map of_link links))) is in
       let here : (is_operand link.operator k ≡ true) × (is_of types link.operand.0 k ≡ true) = and_parts (is_operand link.operator k) (is_of types link.operand.0 k) parts.0 in
       (here.0, link.operand.1 k here.1, links_kept k links parts.1)
 
-  arms_kept : (k : Kind) (arms : List (Arm Told)) → list_all (has_value k) (map arm_type (map of_arm arms)) ≡ true → AllValues k (map (arm_val row) (map of_arm arms))
+  arms_kept : (k : Kind) (arms : List (Arm Witness)) → list_all (has_value k) (map arm_type (map of_arm arms)) ≡ true → AllValues k (map (arm_val row) (map of_arm arms))
   arms_kept k [] is = tt {0}
   arms_kept k (arm ∷ arms) is =
       let parts : (is_of types arm.value.0 k ≡ true) × (list_all (has_value k) (map arm_type (map of_arm arms)) ≡ true) = and_parts (is_of types arm.value.0 k) (list_all (has_value k) (map arm_type (map of_arm arms))) is in
       (arm.value.1 k parts.0, arms_kept k arms parts.1)
 
-  layer_kept : (y : Expr-F Told) (k : Kind) → typing_at types (map-Expr Expr Typing (is_of types) (map-Expr Told Expr expr_of y)) k ≡ true → IsOutcomeOf k (at_operands row (map-Expr Expr Outcome (val row) (map-Expr Told Expr expr_of y)))
+  layer_kept : (y : Expr-F Witness) (k : Kind) → typing_at types (map-Expr Expr Typing (is_of types) (map-Expr Witness Expr expr_of y)) k ≡ true → IsOutcomeOf k (at_operands row (map-Expr Expr Outcome (val row) (map-Expr Witness Expr expr_of y)))
   layer_kept (Expr-F.Literal v) k t = t
   layer_kept (Expr-F.Column place) k t = column_kept types row place k row_is t
   layer_kept (Expr-F.Negative a) k t = of_same kind.Int k (is_of types a.0 kind.Int) (at_value (val row a.0) arithmetic_negation) t (then_kept kind.Int (val row a.0) arithmetic_negation opposite_kept)
@@ -306,8 +306,8 @@ module _ (types : List Kind) (row : List Value) (row_is : IsRowOf types row) whe
 
   pub kept : (e : Expr) → KeepsTypes e
   kept = ind-Expr KeepsTypes (λ x y is. subst (λ (z : Expr-F Expr). KeepsTypes (roll-Expr z)) is (λ k t.
-      subst (IsOutcomeOf k) (sym (fold-roll-Expr Outcome (at_operands row) (map-Expr Told Expr expr_of y)))
-      (layer_kept y k (sym (ap (λ (f : Typing). f k) (fold-roll-Expr Typing (typing_at types) (map-Expr Told Expr expr_of y))) ∙ t))))
+      subst (IsOutcomeOf k) (sym (fold-roll-Expr Outcome (at_operands row) (map-Expr Witness Expr expr_of y)))
+      (layer_kept y k (sym (ap (λ (f : Typing). f k) (fold-roll-Expr Typing (typing_at types) (map-Expr Witness Expr expr_of y))) ∙ t))))
 
 pub expressions_keep_types : ExpressionsKeepTypes
 expressions_keep_types types row e k row_is is = kept types row row_is e k is

@@ -141,27 +141,27 @@ module _ (leaves : List (List Kind)) (tables : List (List Row)) (are : AreTables
   KeepsTypes q = (types : List Kind) → IsQueryOf leaves q types → AreResultsOf types (meaning tables q)
 
   -- a query, with what is known of it
-  abbrev Told : Type 0
-  Told = (q : BoundQuery) × KeepsTypes q
+  abbrev Witness : Type 0
+  Witness = (q : BoundQuery) × KeepsTypes q
 
-  abbrev query_of : Told → BoundQuery
+  abbrev query_of : Witness → BoundQuery
   query_of q = q.0
 
   -- of which types a query in its place is
-  abbrev IsToldOf : Told → List Kind → Type 0
-  IsToldOf q types = IsQueryOf leaves q.0 types
+  abbrev IsWitnessOf : Witness → List Kind → Type 0
+  IsWitnessOf q types = IsQueryOf leaves q.0 types
 
   -- what it means is of these types
   abbrev MeansOf : BoundQuery → List Kind → Type 0
   MeansOf q types = AreResultsOf types (meaning tables q)
 
-  layer_keeps : (y : BoundQuery-F Told) (types : List Kind) → IsQueryOf leaves (roll-BoundQuery (map-BoundQuery Told BoundQuery query_of y)) types
-      → AreResultsOf types (query_rows (table_results tables) (map-BoundQuery BoundQuery Rows (meaning tables) (map-BoundQuery Told BoundQuery query_of y)))
+  layer_keeps : (y : BoundQuery-F Witness) (types : List Kind) → IsQueryOf leaves (roll-BoundQuery (map-BoundQuery Witness BoundQuery query_of y)) types
+      → AreResultsOf types (query_rows (table_results tables) (map-BoundQuery BoundQuery Rows (meaning tables) (map-BoundQuery Witness BoundQuery query_of y)))
   layer_keeps y types is =
-      let told : IsLayerOf IsToldOf leaves y types = subst (λ (claim : List Kind → Type 0). claim types) (sym (layer_path query_of (IsQueryOf leaves) leaves y)) (layer_read leaves (map-BoundQuery Told BoundQuery query_of y) types is) in
-      let means : IsLayerOf MeansOf leaves (map-BoundQuery Told BoundQuery query_of y) types = layer_moved query_of IsToldOf MeansOf (λ q ts q_is. q.1 ts q_is) leaves y types told in
-      layer_is leaves tables (map-BoundQuery BoundQuery Rows (meaning tables) (map-BoundQuery Told BoundQuery query_of y)) types are (layer_moved (meaning tables) MeansOf Gives (λ q ts q_is. q_is) leaves (map-BoundQuery Told BoundQuery query_of y) types means)
+      let of_witnesses : IsLayerOf IsWitnessOf leaves y types = subst (λ (claim : List Kind → Type 0). claim types) (sym (layer_path query_of (IsQueryOf leaves) leaves y)) (layer_read leaves (map-BoundQuery Witness BoundQuery query_of y) types is) in
+      let means : IsLayerOf MeansOf leaves (map-BoundQuery Witness BoundQuery query_of y) types = layer_moved query_of IsWitnessOf MeansOf (λ q ts q_is. q.1 ts q_is) leaves y types of_witnesses in
+      layer_is leaves tables (map-BoundQuery BoundQuery Rows (meaning tables) (map-BoundQuery Witness BoundQuery query_of y)) types are (layer_moved (meaning tables) MeansOf Gives (λ q ts q_is. q_is) leaves (map-BoundQuery Witness BoundQuery query_of y) types means)
 
   pub keeps_types : (q : BoundQuery) → KeepsTypes q
   keeps_types = ind-BoundQuery KeepsTypes (λ x y is. subst (λ (z : BoundQuery-F BoundQuery). KeepsTypes (roll-BoundQuery z)) is (λ types q_is.
-      subst (AreResultsOf types) (sym (fold-roll-BoundQuery Rows (query_rows (table_results tables)) (map-BoundQuery Told BoundQuery query_of y))) (layer_keeps y types q_is)))
+      subst (AreResultsOf types) (sym (fold-roll-BoundQuery Rows (query_rows (table_results tables)) (map-BoundQuery Witness BoundQuery query_of y))) (layer_keeps y types q_is)))

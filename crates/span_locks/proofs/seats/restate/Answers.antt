@@ -30,5 +30,5 @@ split_seat-requires g c =
     let m = c.requires.holder in
     let l = c.compare_exchange_with.ensures in
     let shape = ap (λ z. z.0) j.2 ∙ (λ z. view z ++ (m z).0) in
-    let told = subst (λ (v : List Role). Restates v (some (Restated c.args.shard)) c.compare_exchange_with.new.seat.me.0) shape l.2.1 in
-    (l.0 ∙ (j.0 ∙ (c.requires.tables.0 ∙ sym t.table_is)), subst (λ n. 0 < n) (sym t.words) (omega arith), splits_at _ _ _ _ _ told.0 (apart_holder (number_of c.args.seat.now.me.0) c.args.shard))
+    let shaped = subst (λ (v : List Role). Restates v (some (Restated c.args.shard)) c.compare_exchange_with.new.seat.me.0) shape l.2.1 in
+    (l.0 ∙ (j.0 ∙ (c.requires.tables.0 ∙ sym t.table_is)), subst (λ n. 0 < n) (sym t.words) (omega arith), splits_at _ _ _ _ _ shaped.0 (apart_holder (number_of c.args.seat.now.me.0) c.args.shard))

@@ -28,5 +28,5 @@ split_seat-requires g c =
     let m = c.requires.client in
     let l = c.load.ensures in
     let shape = ap (λ z. z.0) j.2 ∙ (λ z. view z ++ (m z).0) in
-    let told = subst (λ (v : List Role). Catches v c.load.new.seat.me.0) shape l.2.1 in
-    (l.0 ∙ (j.0 ∙ (c.requires.tables.0 ∙ sym t.table_is)), subst (λ n. 0 < n) (sym t.words) (omega arith), splits_at _ _ _ _ _ told.0 (apart_client c.args.owner (known_at c.args.keeper.views).commits (mine_of c.args.seat.now.me.0)))
+    let shaped = subst (λ (v : List Role). Catches v c.load.new.seat.me.0) shape l.2.1 in
+    (l.0 ∙ (j.0 ∙ (c.requires.tables.0 ∙ sym t.table_is)), subst (λ n. 0 < n) (sym t.words) (omega arith), splits_at _ _ _ _ _ shaped.0 (apart_client c.args.owner (known_at c.args.keeper.views).commits (mine_of c.args.seat.now.me.0)))
