@@ -12,7 +12,7 @@ use span_value::refusal::Refusal;
 use std::alloc::Global;
 
 /// How many bytes the buffer has at first.
-const FIRST_ROOM: usize = 65_536;
+const FIRST_CAPACITY: usize = 65_536;
 
 impl Lines {
     /// No lines: nothing is held. It takes no memory.
@@ -71,7 +71,7 @@ impl Lines {
     {
         self.let_go();
         self.move_to_front();
-        self.make_room()?;
+        self.reserve_capacity()?;
         let count = read_after(input, &mut self.buffer, self.end)?;
         if count == 0 {
             self.has_ended = true;
@@ -106,17 +106,17 @@ impl Lines {
         self.taken_to = 0;
     }
 
-    /// Makes capacity after the bytes that are held, where there is none. `OutOfMemory` is the only refusal.
-    fn make_room(&mut self) -> Result<(), Refusal>
+    /// Reserves capacity after the bytes that are held, where there is none. `OutOfMemory` is the only refusal.
+    fn reserve_capacity(&mut self) -> Result<(), Refusal>
         ensures same { HoldsSame self.old self.new }
-        ensures room { OnOk result (self.new.end < vec_len self.new.buffer) }
+        ensures capacity { OnOk result (self.new.end < vec_len self.new.buffer) }
         ensures memory { IsOkUnless result Refusal.OutOfMemory }
     {
         if self.end < self.buffer.len() {
             return Ok(());
         }
-        let room = self.end.saturating_mul(2).max(FIRST_ROOM);
-        self.buffer.resize(room, 0)?;
+        let capacity = self.end.saturating_mul(2).max(FIRST_CAPACITY);
+        self.buffer.resize(capacity, 0)?;
         Ok(())
     }
 

@@ -5,15 +5,15 @@ use Rattle.span_command.proofs.Steps.{stays, came, failed, still_none, ends, goe
 use Rattle.span_command.proofs.line.Lines.read.Goals as goal
 
 -- what was held before the read is held once there is capacity
-with_room : (old less front wide : Lines) (known : Option (List ℕ)) (text : List ℕ)
+with_capacity : (old less front wide : Lines) (known : Option (List ℕ)) (text : List ℕ)
     → ((known : Option (List ℕ)) (text : List ℕ) → IsStillToCome old known text → IsStillToCome less known text) → HoldsSame less front → HoldsSame front wide
     → IsStillToCome old known text → IsStillToCome wide known text
-with_room old less front wide known text gone moved grown stood =
+with_capacity old less front wide known text gone moved grown stood =
     stays front wide grown known text (stays less front moved known text (gone known text stood))
 
 pub invariant_of-self : goal.invariant_of-self
 invariant_of-self g c =
-    let lines = c.make_room.new.self in
+    let lines = c.reserve_capacity.new.self in
     let read = c.read_after.ensures in
     record {
       taken_in_order = lines.taken_in_order;
@@ -26,16 +26,16 @@ invariant_of-self g c =
 
 pub returns-in_err-count-clause-stands : goal.returns-in_err-count-clause-stands
 returns-in_err-count-clause-stands g c =
-    let lines = c.make_room.new.self in
+    let lines = c.reserve_capacity.new.self in
     let before = g.I.Input.remaining c.args.input.now in
     λ text stood.
     failed lines.is_cut lines.has_ended lines.buffer.items c.read_after.new.buffer.items lines.start lines.end text before (g.I.Input.remaining c.read_after.new.input)
     c.read_after.ensures.front c.in_err-count.ensures.kept
-    (with_room c.args.self.now c.let_go.new.self c.move_to_front.new.self lines before text c.let_go.ensures c.move_to_front.ensures c.make_room.ensures.same stood)
+    (with_capacity c.args.self.now c.let_go.new.self c.move_to_front.new.self lines before text c.let_go.ensures c.move_to_front.ensures c.reserve_capacity.ensures.same stood)
 
 pub invariant_of-self-then-count-eq0 : goal.invariant_of-self-then-count-eq0
 invariant_of-self-then-count-eq0 g c =
-    let lines = c.make_room.new.self in
+    let lines = c.reserve_capacity.new.self in
     let read = c.read_after.ensures in
     record {
       taken_in_order = lines.taken_in_order;
@@ -48,22 +48,22 @@ invariant_of-self-then-count-eq0 g c =
 
 pub returns-then-count-eq0-clause-stands : goal.returns-then-count-eq0-clause-stands
 returns-then-count-eq0-clause-stands g c =
-    let lines = c.make_room.new.self in
+    let lines = c.reserve_capacity.new.self in
     let before = g.I.Input.remaining c.args.input.now in
     λ text stood.
     came lines.is_cut lines.has_ended true lines.buffer.items c.read_after.new.buffer.items lines.start lines.end c.in_ok-count.count lines.end text before
     (g.I.Input.remaining c.read_after.new.input) c.read_after.ensures.front (omega (arith, lines.in_order, lines.searched_within)) (omega (arith, c.if-count-eq0.true))
     c.in_ok-count.ensures.bytes (λ ended. inl (c.in_ok-count.ensures.end c.if-count-eq0.true))
-    (with_room c.args.self.now c.let_go.new.self c.move_to_front.new.self lines before text c.let_go.ensures c.move_to_front.ensures c.make_room.ensures.same stood)
+    (with_capacity c.args.self.now c.let_go.new.self c.move_to_front.new.self lines before text c.let_go.ensures c.move_to_front.ensures c.reserve_capacity.ensures.same stood)
 
 pub returns-then-count-eq0-clause-advances : goal.returns-then-count-eq0-clause-advances
 returns-then-count-eq0-clause-advances g c =
     ends (g.I.Input.remaining c.args.input.now) (g.I.Input.remaining c.read_after.new.input)
-    (take c.in_ok-count.count (drop c.make_room.new.self.end c.read_after.new.buffer.items)) c.in_ok-count.ensures.bytes
+    (take c.in_ok-count.count (drop c.reserve_capacity.new.self.end c.read_after.new.buffer.items)) c.in_ok-count.ensures.bytes
 
 pub invariant_of-self-2 : goal.invariant_of-self-2
 invariant_of-self-2 g c =
-    let lines = c.make_room.new.self in
+    let lines = c.reserve_capacity.new.self in
     record {
       taken_in_order = lines.taken_in_order;
       taken_before = lines.taken_before;
@@ -75,17 +75,17 @@ invariant_of-self-2 g c =
 
 pub returns-clause-stands : goal.returns-clause-stands
 returns-clause-stands g c =
-    let lines = c.make_room.new.self in
+    let lines = c.reserve_capacity.new.self in
     let before = g.I.Input.remaining c.args.input.now in
     λ text stood.
     came lines.is_cut lines.has_ended lines.has_ended lines.buffer.items c.read_after.new.buffer.items lines.start lines.end c.in_ok-count.count (lines.end + c.in_ok-count.count) text before
     (g.I.Input.remaining c.read_after.new.input) c.read_after.ensures.front (omega (arith, lines.in_order, lines.searched_within)) refl
     c.in_ok-count.ensures.bytes (λ ended. inr ended)
-    (with_room c.args.self.now c.let_go.new.self c.move_to_front.new.self lines before text c.let_go.ensures c.move_to_front.ensures c.make_room.ensures.same stood)
+    (with_capacity c.args.self.now c.let_go.new.self c.move_to_front.new.self lines before text c.let_go.ensures c.move_to_front.ensures c.reserve_capacity.ensures.same stood)
 
 pub returns-clause-advances : goal.returns-clause-advances
 returns-clause-advances g c =
-    let lines = c.make_room.new.self in
+    let lines = c.reserve_capacity.new.self in
     let buffer = c.read_after.new.buffer in
     let count = c.in_ok-count.count in
     let room : count ≤ length (drop lines.end buffer.items) = omega (arith, length-drop lines.end buffer.items, c.in_ok-count.ensures.fits, buffer.ok) in
