@@ -80,7 +80,7 @@ pub enum Command<'a> {
         bound: Bound,
         text: &'a str,
     },
-    /// Tells the leaves of the plan of a query text.
+    /// Answers the leaves of the plan of a query text.
     Explain {
         text: &'a str,
     },

@@ -41,7 +41,7 @@ pub record IsNumberAt (ks : List Kind) (cell : ℕ) : Type 0 where
   pub within : cell < length ks
   pub kind : get_or ks cell kind.Int ≡ kind.Int
 
--- ---- what tests tell of a condition
+-- ---- what tests say of a condition
 
 -- a condition is known to be TRUE where the answer is true, and to be FALSE or NULL where it is not
 abbrev pub IsKnown : Condition → Bool → Type 0

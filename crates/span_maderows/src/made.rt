@@ -59,8 +59,8 @@ impl MadeRows {
         }
     }
 
-    /// Leaves a row at a key, in the place of any that was there, and tells whether there was none. `near` is a number of the caller's,
-    /// which `RowsLeft::pop` gives back with the row, and of which no contract speaks. `AllocError`: memory ran out.
+    /// Leaves a row at a key, in the place of any that was there. Whether there was none is returned. `near` is a number of the
+    /// caller's, which `RowsLeft::pop` gives back with the row, and of which no contract speaks. `AllocError`: memory ran out.
     pub fn insert(&mut self, key: Key, row: Seq<u8>, near: u32) -> Result<bool, AllocError>
         ensures absent { IfOk result (λ absent. absent ≡ is_none (made_at self.old key)) }
         ensures set { OnOk result (IsSetAt key (Some row) self.old self.new) }

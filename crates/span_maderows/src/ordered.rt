@@ -91,7 +91,7 @@ impl OrderedRows {
         Ok(())
     }
 
-    /// Leaves a row at a key, and tells whether there was none.
+    /// Leaves a row at a key. Whether there was none is returned.
     pub(crate) fn insert(&mut self, key: Key, row: MadeRow) -> Result<bool, AllocError>
         ensures absent { IfOk result (λ absent. absent ≡ is_none (made_at self.old key)) }
         ensures set { OnOk result (IsSetAt key (Some row) self.old self.new) }
