@@ -26,6 +26,7 @@ use Rattle.span_planner.specs.Results.{as_join, join_tables, leaf_rows}
 use Rattle.span_planner.proofs.Joins.{Joined, run_join, run_joins, run_where, AreGiven, AreTotal, AllGiven, all_map}
 use Rattle.span_planner.proofs.Pushing.{is_kept, AreOfWidth, filter_where-all_true, left_out_below}
 use Rattle.span_planner.proofs.Narrowing.{own, are_on, all_total, refused_by, narrowing, Further, narrow_item, narrow, joined_of, IsWide, AreWide, wide_join, wide_filter, narrowed_below, some_of}
+use Rattle.std.proofs.lemmas.List.{map-append}
 
 bind-same : {A B : Type 0} (o : OrFault A) (g h : A → OrFault B) → ((x : A) → g x ≡ h x) → (o >>= g) ≡ (o >>= h)
 bind-same (Some x) g h same = same x
@@ -235,10 +236,6 @@ module _ (schema : List Table) (tables : List ℕ) (w : ℕ → List Row) (f0 f 
   take_drop zero xs = refl
   take_drop (suc n) [] = refl
   take_drop (suc n) (x ∷ xs) = ap (λ (l : List _). x ∷ l) (take_drop n xs)
-
-  map-append : {A B : Type 0} (g : A → B) (xs ys : List A) → map g (xs ++ ys) ≡ map g xs ++ map g ys
-  map-append g [] ys = refl
-  map-append g (x ∷ xs) ys = ap (λ (l : List _). g x ∷ l) (map-append g xs ys)
 
   -- the items of the first leaf, and those after them
   abbrev joined_items : List (Join Q) → List Joined

@@ -43,6 +43,7 @@ use Rattle.span_planner.specs.Conditions.{conjuncts_on}
 use Rattle.span_planner.proofs.Pushing.{is_left_out}
 use Rattle.span_planner.specs.Ranges.{KeyBound, bound_of, exchanged, bound_at, bounds_between, bounds_at, bounds, are_bytes, is_of_type, bounds_by}
 use Rattle.span_value.specs.Numbers.{is_int64}
+use Rattle.std.proofs.Math.Bool.{or-true}
 
 -- ---- values of a type
 
@@ -244,10 +245,6 @@ module _ (k : Kind) (row : List Value) (place : ℕ) (fits : Fits k (column_of r
       ∙ ap (λ (b : Bool). is_refused o || b) (refuses-condition_of p)
       ∙ is
 
-  or_true : (b : Bool) → (b || true) ≡ true
-  or_true true = refl
-  or_true false = refl
-
   column_between : (a low high : Expr) (p : Option ℕ) (l h : Option Value) → as_column a ≡ p → as_literal low ≡ l → as_literal high ≡ h
       → AreRefusedOut (between (val row a) (val row low) (val row high)) (bounds_between place p l h)
   column_between a low high None l h ea el eh = tt {0}
@@ -277,7 +274,7 @@ module _ (k : Kind) (row : List Value) (place : ℕ) (fits : Fits k (column_of r
             ∙ ap (λ (o : Outcome). is_refused (outcomes.strict (compare_values comparison.AtMost) (Val (column_of row place)) o)) (val-literal row high h eh)
             ∙ comparison_refused k comparison.AtMost range.AtMost refl (column_of row place) h fits fh out in
             refused_and (outcomes.strict (compare_values comparison.AtLeast) (val row a) (val row low)) (outcomes.strict (compare_values comparison.AtMost) (val row a) (val row high))
-            (ap (λ (b : Bool). is_refused (outcomes.strict (compare_values comparison.AtLeast) (val row a) (val row low)) || b) second ∙ or_true (is_refused (outcomes.strict (compare_values comparison.AtLeast) (val row a) (val row low))))),
+            (ap (λ (b : Bool). is_refused (outcomes.strict (compare_values comparison.AtLeast) (val row a) (val row low)) || b) second ∙ or-true (is_refused (outcomes.strict (compare_values comparison.AtLeast) (val row a) (val row low))))),
         tt {0},
       ),
     )
@@ -419,10 +416,7 @@ module _ (k : Kind) (row : List Value) (place low high : ℕ) (fits : Fits k (co
   left_out_of_bounds (e ∷ es) out =
       of_first (is_in_bounds (filter (λ (b : KeyBound). is_of_type k b.1) (bounds place e)) (column_of row place)) refl (sym (in_both (bounds place e) (flat_map (bounds place) es)) ∙ out) (left_out_of_bounds es) where
         kept_rest : (t : Bool) → is_left_out (conjuncts_on low high es) row ≡ true → is_left_out (if t then e ∷ conjuncts_on low high es else conjuncts_on low high es) row ≡ true
-        kept_rest true rest = ap (λ (b : Bool). is_refused (val row e) || b) rest ∙ or_true (is_refused (val row e)) where
-          or_true : (b : Bool) → (b || true) ≡ true
-          or_true true = refl
-          or_true false = refl
+        kept_rest true rest = ap (λ (b : Bool). is_refused (val row e) || b) rest ∙ or-true (is_refused (val row e))
         kept_rest false rest = rest
 
         is_only : (bs : List KeyBound) → bs ≡ bounds place e → is_in_bounds (filter (λ (b : KeyBound). is_of_type k b.1) bs) (column_of row place) ≡ false → ((bounds place e ≡ []) ⊎ ((is_total e ≡ true) × (reads_only (is_in low high) e ≡ true))) → (is_total e && reads_only (is_in low high) e) ≡ true

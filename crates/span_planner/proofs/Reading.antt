@@ -18,6 +18,7 @@ use Rattle.span_query.specs.declared.query.Aggregate.TheVariants.{CountRows, Of}
 use Rattle.span_query.specs.declared.query.Join.{Join}
 use Rattle.span_planner.specs.Leaves.{widths, reads_of}
 use Rattle.span_planner.specs.Reads.{has_place, is_not, is_read, condition_reads, on_reads, aggregate_reads, selection_reads, block_reads}
+use Rattle.std.proofs.Math.Bool.{and-false}
 
 -- ---- tests of the places that something reads
 
@@ -33,14 +34,7 @@ by_place p test all = all p (let e : (p == p) ≡ true = grind (arith, nat_tests
 
 pub by_both : (f g : (ℕ → Bool) → Bool) → ByPlace f → ByPlace g → ByPlace (λ t. f t && g t)
 by_both f g first second test all =
-    and_from (f test) (g test) (first test (λ k out. all k (first_false (f (is_not k)) (g (is_not k)) out))) (second test (λ k out. all k (second_false (f (is_not k)) (g (is_not k)) out))) where
-      first_false : (a b : Bool) → a ≡ false → (a && b) ≡ false
-      first_false true b is = cc
-      first_false false b is = refl
-
-      second_false : (a b : Bool) → b ≡ false → (a && b) ≡ false
-      second_false true b is = is
-      second_false false b is = refl
+    and_from (f test) (g test) (first test (λ k out. all k (ap (λ (b : Bool). b && g (is_not k)) out))) (second test (λ k out. all k (ap (λ (b : Bool). f (is_not k) && b) out ∙ and-false (f (is_not k)))))
 
 pub by_list : {A : Type 0} (p : (ℕ → Bool) → A → Bool) (xs : List A) → AllByRecursion (λ x. ByPlace (λ t. p t x)) xs → ByPlace (λ t. list_all (p t) xs)
 by_list p [] all = by_none
