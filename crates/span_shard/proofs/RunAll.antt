@@ -48,10 +48,6 @@ or_false : (b : Bool) → (b || false) ≡ true → b ≡ true
 or_false true e = refl
 or_false false e = e
 
-or_true : (b : Bool) → b ≡ true → (b || false) ≡ true
-or_true true e = refl
-or_true false e = absurd (let f : false ≡ true = e in cc)
-
 -- ---- bytes that are no row
 
 pub unpacked_number : (tables : List Table) → MeetsRules tables → (cs : List KeyVersions) (es : Changes) (m : CheckedMutation) → IsTypedMutation tables m → AreTableRows tables es → IsUnpacked tables m.table (row_before tables cs es m)
@@ -71,7 +67,7 @@ unpacked_number tables rules cs es m typed made = of_change (changed_at es code)
     of_now (Some row) e u = record {
       key = code;
       row = row;
-      touched = or_true (begins_with code (root_code tables m)) (own_begins tables rules m typed.0.0);
+      touched = ap (λ (b : Bool). b || false) (own_begins tables rules m typed.0.0);
       now = e;
       unread = record { none = λ r tr f g. no_row row u (record { of = r; typed = tr; key_is = f; row_is = g }) };
       number = inr refl;
@@ -96,7 +92,7 @@ stray_number tables rules cs es m typed made s = of_change (changed_at es k) ref
     of_now (Some row) e u = record {
       key = k;
       row = row;
-      touched = or_true (begins_with k (root_code tables m)) (below_in tables rules m typed k below.0);
+      touched = ap (λ (b : Bool). b || false) (below_in tables rules m typed k below.0);
       now = e;
       unread = record { none = λ r tr f g. s.stray.none.none r.table r.key tr.0 f };
       number = inl refl;

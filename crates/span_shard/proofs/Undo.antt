@@ -15,6 +15,7 @@ use Rattle.span_shard.specs.KeyVersions.{KeyVersions}
 use Rattle.span_shard.specs.Versions.{is_empty, is_used, with_prepared, with_version, applied_write, applied_to_key}
 use Rattle.span_shard.specs.Shard.{by_order, with_write, with_writes, new_key, prepared_write, applied, IsInUse, IsNotOf, HasNoneOf, HasSomeOf, IsFree}
 use Rattle.span_shard.proofs.Owned.{all_back_of}
+use Rattle.std.proofs.Math.Bool.{or-true}
 
 same_number : (n : ℕ) → (n == n) ≡ true
 same_number n = grind (arith, nat_tests)
@@ -122,12 +123,8 @@ given_back txn tables ms ws cs ds used none free touched some =
 
 -- ---- every key stays in use
 
-or_true : (b : Bool) → (b || true) ≡ true
-or_true true = refl
-or_true false = refl
-
 used_prepared : (w : PreparedWrite) (c : KeyVersions) → IsInUse (with_prepared w c)
-used_prepared w c = or_true (not (is_empty c.versions))
+used_prepared w c = or-true (not (is_empty c.versions))
 
 pub used_with_write : (txn : ℕ) (w : Write) (cs : List KeyVersions) → AllByRecursion IsInUse cs → AllByRecursion IsInUse (with_write txn w cs)
 used_with_write txn w [] used = (refl, tt)

@@ -14,6 +14,7 @@ use Rattle.span_shard.specs.Versions.{is_empty, is_used}
 use Rattle.span_shard.specs.Stored.{version_of, chain_versions, is_for, write_of, write_for, kept, kept_entry, all_kept, count_for, IsNodeOf, AreOwned}
 use Rattle.span_shard.proofs.Lists.{all_whole}
 use Rattle.span_shard.proofs.Owned.{write-same, kept_equal}
+use Rattle.std.proofs.Math.Bool.{and-false}
 
 -- lists with equal results of a function
 pub map_alike : {X Y : Type 0} (f g : X → Y) (xs : List X) → AllByRecursion (λ x. f x ≡ g x) xs → map f xs ≡ map g xs
@@ -102,13 +103,9 @@ module _ (es : List Entry) (a b : Content) (ps : List PreparedNode) (owned : Are
         let one : one_for p.chain.number (get_or a.prepared p.node.number None) ≡ 1 = ap (one_for p.chain.number) h.prepared ∙ one_for-same p.chain.number h.image in
         let some : 1 ≤ prepared_for p.chain.number a.prepared = omega (arith, one_for-at p.chain.number a.prepared p.node.number) in
         let t : nat_eq (prepared_for p.chain.number a.prepared) 0 ≡ false = grind (arith, nat_tests) in
-        let used : is_unused a p.chain.number ≡ false = ap (λ z. nat_eq (length (versions a p.chain.number)) 0 && z) t ∙ and_false (nat_eq (length (versions a p.chain.number)) 0) in
+        let used : is_unused a p.chain.number ≡ false = ap (λ z. nat_eq (length (versions a p.chain.number)) 0 && z) t ∙ and-false (nat_eq (length (versions a p.chain.number)) 0) in
         (h.is_chain.0, chain_is p.chain.number used ∙ h.is_chain.1);
   }
-    where
-      and_false : (t : Bool) → (t && false) ≡ false
-      and_false true = refl
-      and_false false = refl
 
   pub owned_used : AreOwned b ps
   owned_used = record {

@@ -1,5 +1,5 @@
 -- The rows at keys as mutations leave them, over those that are there now.
-use Rattle.std.specs.Prelude.{◌≡◌, ◌⊎◌, ℕ, ◌≤◌, Bool, true, false, if◌then◌else◌, ◌&&◌, ◌||◌, List, [], ◌∷◌, length, find, take, is_some, is_none, not, nat_lt, Option, Some, None, Ok, Err}
+use Rattle.std.specs.Prelude.{◌≡◌, ◌⊎◌, ℕ, ◌≤◌, ◌<◌, Bool, true, false, if◌then◌else◌, ◌&&◌, ◌||◌, List, [], ◌∷◌, length, find, take, is_some, is_none, not, nat_lt, Option, Some, None, Ok, Err}
 use Rattle.std.specs.List.{list_any, AllByRecursion}
 use Rattle.std.specs.Option.{unwrap_or}
 use Rattle.span_value.specs.declared.value.Value.{Value}
@@ -14,6 +14,7 @@ use Rattle.span_keycode.specs.Reads.{IsNoKey}
 use Rattle.span_rowcode.specs.Rows.{IsRow, IsNoRow, row_code}
 use Rattle.span_rowcode.specs.Limits.{longest_row}
 use Rattle.span_mutate.specs.declared.mutation.CheckedMutation.{CheckedMutation}
+use Rattle.span_mutate.specs.declared.mutation.MutationKind.{MutationKind}
 use Rattle.span_mutate.specs.declared.row.TableRow.{TableRow}
 use Rattle.span_mutate.specs.Database.{is_insert, is_update, merge_cells, blocks_delete, apply_one, apply}
 use Rattle.span_mutate.specs.Directories.{IsDatabase}
@@ -184,6 +185,25 @@ pub record IsPutRow (tables : List Table) (cs : List KeyVersions) (es : Changes)
   pub cells : AreCellsOf tables m.table (row_before tables cs es m) old
   pub cause : cause_over tables cs es m old ≡ None
   pub is : row ≡ row_code (merge_cells m.cells old)
+
+-- the packed row of a row's cells once the named ones have changed, which is not too long
+abbrev pub IsMergedRow : List (Option Value) → List Value → List ℕ → Type 0
+IsMergedRow named old row =
+    (row ≡ row_code (merge_cells named old)) × (length (row_code (merge_cells named old)) ≤ longest_row)
+
+-- it is too long, or out of memory
+abbrev pub IsMergeRefused : List (Option Value) → List Value → Refusal → Type 0
+IsMergeRefused named old why =
+    ((why ≡ RowTooLong) × (longest_row < length (row_code (merge_cells named old)))) ⊎ (why ≡ OutOfMemory)
+
+-- an insert is where its key has no row, and an update where it has one
+abbrev pub IsPresenceRight : MutationKind → Bool → Type 0
+IsPresenceRight kind present = (is_insert kind && present ≡ false) × (is_update kind && not present ≡ false)
+
+abbrev pub IsPresenceRefused : MutationKind → Bool → Refusal → Type 0
+IsPresenceRefused kind present why =
+    ((why ≡ Exists) × (is_insert kind && present ≡ true))
+    ⊎ ((why ≡ Missing) × (is_insert kind && present ≡ false) × (is_update kind && not present ≡ true))
 
 -- whichever cells were there, the mutation is refused so
 abbrev pub IsPutFault : List Table → List KeyVersions → Changes → CheckedMutation → Refusal → Type 0

@@ -5,6 +5,7 @@ ghost use Rattle.span_rowcode.specs.Limits.{longest_row};
 ghost use Rattle.span_rowcode.specs.Rows.{cell_code, row_code};
 ghost use Rattle.span_rowcode.specs.declared.pack.TheConstants.{MOST_BYTES};
 ghost use Rattle.span_mutate.specs.Database.{merge_cells};
+ghost use Rattle.span_shard.specs.Overlay.{IsMergedRow, IsMergeRefused};
 
 use span_rowcode::pack::{MOST_BYTES, bytes_left_after_cell, push_cell};
 use span_value::refusal::Refusal;
@@ -19,12 +20,8 @@ pub(crate) fn pack_merged(
     old: &[Value],
 ) -> Result<Vec<u8>, Refusal>
     ensures { MatchResult result
-        (λ bytes.
-        (bytes.items ≡ row_code (merge_cells named.now old.now))
-        × (length (row_code (merge_cells named.now old.now)) ≤ longest_row))
-        (λ why.
-        ((why ≡ Refusal.RowTooLong) × (longest_row < length (row_code (merge_cells named.now old.now))))
-        ⊎ (why ≡ Refusal.OutOfMemory)) }
+        (λ bytes. IsMergedRow named.now old.now bytes.items)
+        (λ why. IsMergeRefused named.now old.now why) }
 {
     match bytes_left(named, old) {
         None => Err(Refusal::RowTooLong),

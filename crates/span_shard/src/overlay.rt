@@ -62,7 +62,7 @@ impl Changes {
         Ok(())
     }
 
-    /// Leaves a row at a key, and tells whether mutations had made none there. It takes one search.
+    /// Leaves a row at a key. Whether mutations had made none there is returned. It takes one search.
     pub(crate) fn add(&mut self, key: Key, row: Seq<u8>, near: u32) -> Result<bool, AllocError>
         ensures absent { IfOk result (λ absent. absent ≡ is_none (made_at self.old.made key)) }
         ensures put { OnOk result (IsPutAt key row self.old self.new) }

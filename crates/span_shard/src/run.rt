@@ -9,7 +9,7 @@ ghost use Rattle.span_mutate.specs.Database.{is_insert, is_update, merge_cells};
 ghost use Rattle.span_mutate.specs.Typed.{IsTypedMutation, AreTypedMutations};
 ghost use Rattle.span_maderows.specs.Made.{made_at};
 ghost use Rattle.span_shard.specs.Shard.{AreInOrder};
-ghost use Rattle.span_shard.specs.Overlay.{lacks_parent_over, own_code, HasFront, HasParent, HasPutRow, HasSameCleared, IsAddedAt, IsRowAlone, AreCellsOf, IsUnpacked, IsBlocked, HasNoKey, IsPutRow, IsNoPut, row_over, AreCleared, AreUnder, HasDeleted, IsNoDelete, AreTableRows, IsRunOf, IsRunFault, AreRunsOf};
+ghost use Rattle.span_shard.specs.Overlay.{lacks_parent_over, own_code, HasFront, HasParent, HasPutRow, HasSameCleared, IsAddedAt, IsRowAlone, AreCellsOf, IsMergedRow, IsMergeRefused, IsPresenceRight, IsPresenceRefused, IsUnpacked, IsBlocked, HasNoKey, IsPutRow, IsNoPut, row_over, AreCleared, AreUnder, HasDeleted, IsNoDelete, AreTableRows, IsRunOf, IsRunFault, AreRunsOf};
 ghost use Rattle.span_shard.specs.Reading.{IsFault, IsPrepareRefusal};
 
 use super::ahead::Ahead;
@@ -111,12 +111,8 @@ fn cells_of(
 // The packed row that a mutation makes of the cells that were there.
 fn new_row(alloc: Global, mutation: &CheckedMutation, old: &[Value]) -> Result<Seq<u8>, Refusal>
     ensures { MatchResult result
-        (λ row.
-        (row ≡ row_code (merge_cells mutation.now.cells old.now))
-        × (length (row_code (merge_cells mutation.now.cells old.now)) ≤ longest_row))
-        (λ why.
-        ((why ≡ Refusal.RowTooLong) × (longest_row < length (row_code (merge_cells mutation.now.cells old.now))))
-        ⊎ (why ≡ Refusal.OutOfMemory)) }
+        (λ row. IsMergedRow mutation.now.cells old.now row)
+        (λ why. IsMergeRefused mutation.now.cells old.now why) }
 {
     Ok(Seq::from_vec(pack_merged(alloc, mutation.cells.as_slice(), old)?))
 }
@@ -124,12 +120,8 @@ fn new_row(alloc: Global, mutation: &CheckedMutation, old: &[Value]) -> Result<S
 // Why a row can't be put, by whether its key has a row: `Exists` or `Missing`.
 fn check_presence(kind: MutationKind, is_present: bool) -> Result<(), Refusal>
     ensures { MatchResult result
-        (λ _. (is_insert kind && is_present ≡ false) × (is_update kind && not is_present ≡ false))
-        (λ why.
-        ((why ≡ Refusal.Exists) × (is_insert kind && is_present ≡ true))
-        ⊎ ((why ≡ Refusal.Missing)
-        × (is_insert kind && is_present ≡ false)
-        × (is_update kind && not is_present ≡ true))) }
+        (λ _. IsPresenceRight kind is_present)
+        (λ why. IsPresenceRefused kind is_present why) }
 {
     if kind == MutationKind::Insert && is_present {
         return Err(Refusal::Exists);
@@ -227,7 +219,7 @@ fn add_row(changes: &mut Changes, key: Key, row: Seq<u8>, near: u32) -> Result<(
 }
 
 // Puts the row of a mutation at its key. An insert mostly finds none there, and none that mutations made: so its row is made as if
-// there were none, and the search for its place tells whether there was one.
+// there were none, and the search for its place returns whether there was one.
 fn run_put(
     alloc: Global,
     schema: &Schema,
