@@ -62,7 +62,27 @@ pub adding-fails : {A : Type 0} (why : Failure) (o : OrFault (List A)) (old new 
 adding-fails Fault o old new fails = fails
 adding-fails OutOfMemory o old new fails = tt {0}
 
+pub fails-adding : {A : Type 0} (why : Failure) (o : OrFault (List A)) (old new : List A) → Gives (Err why) o → Adds (Err why) o old new
+fails-adding Fault o old new fails = fails
+fails-adding OutOfMemory o old new fails = tt {0}
+
 -- ---- the same for a loop over places, each of which adds what its item gives
+
+pub added_more : {A B : Type 0} (f : A → OrFault (List B)) (xs : List A) (k : ℕ) (x : A) → k < length xs → x ≡ get_or xs k x → (first old new : List B)
+    → append_results (Some first) (concat_map f xs) ≡ append_results (Some old) (concat_map f (drop k xs)) → append_results (Some old) (f x) ≡ Some new
+    → append_results (Some first) (concat_map f xs) ≡ append_results (Some new) (concat_map f (drop (k + 1) xs))
+added_more f xs k x below is first old new so_far adds = one_adds _ _ (f x) _ old new so_far (gathered_at f xs k x below is) adds
+
+none_after : {A : Type 0} (front : List A) (o : OrFault (List A)) → append_results (Some front) o ≡ None → o ≡ None
+none_after front None fails = refl
+none_after front (Some xs) fails = absurd cc
+
+pub more_fails_at : {A B : Type 0} (why : Failure) (f : A → OrFault (List B)) (xs : List A) (k : ℕ) (x : A) → k < length xs → x ≡ get_or xs k x → (first old new : List B)
+    → append_results (Some first) (concat_map f xs) ≡ append_results (Some old) (concat_map f (drop k xs)) → Adds (Err why) (f x) old new → Adds (Err why) (concat_map f xs) first new
+more_fails_at Fault f xs k x below is first old new so_far fails =
+    none_after first (concat_map f xs)
+    (so_far ∙ ap (append_results (Some old)) (gathered_at f xs k x below is ∙ ap (λ (o : OrFault (List _)). append_results o (concat_map f (drop (k + 1) xs))) fails))
+more_fails_at OutOfMemory f xs k x below is first old new so_far fails = tt {0}
 
 pub added_at : {A B : Type 0} (f : A → OrFault (List B)) (xs : List A) (k : ℕ) (x : A) → k < length xs → x ≡ get_or xs k x → (old new : List B)
     → concat_map f xs ≡ append_results (Some old) (concat_map f (drop k xs)) → append_results (Some old) (f x) ≡ Some new
