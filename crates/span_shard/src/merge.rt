@@ -1,7 +1,6 @@
 //! The packed row of the cells that a mutation names, over those that were there. No cell is copied.
-ghost use Rattle.std.specs.Prelude.{◌≡◌, ◌⊎◌, ◌+◌, ◌<◌, ◌≤◌, ◌++◌, MatchOption, MatchResult, OnOk, length};
+ghost use Rattle.std.specs.Prelude.{◌≡◌, ◌+◌, ◌<◌, ◌≤◌, ◌++◌, MatchOption, MatchResult, OnOk, length};
 ghost use Rattle.std.specs.Option.{option_copied, unwrap_or};
-ghost use Rattle.span_rowcode.specs.Limits.{longest_row};
 ghost use Rattle.span_rowcode.specs.Rows.{cell_code, row_code};
 ghost use Rattle.span_rowcode.specs.declared.pack.TheConstants.{MOST_BYTES};
 ghost use Rattle.span_mutate.specs.Database.{merge_cells};

@@ -1,11 +1,9 @@
 //! Mutations one after another, on the rows at the keys that they touch.
-ghost use Rattle.std.specs.Prelude.{◌≡◌, ◌⊎◌, ◌≤◌, ◌<◌, ◌&&◌, not, length, is_some, true, false, IfOk, IfErr, IfSome, IsTrue, OnOk, MatchResult};
+ghost use Rattle.std.specs.Prelude.{◌≡◌, ◌⊎◌, ◌<◌, ◌&&◌, not, is_some, true, false, IfOk, IfErr, IfSome, IsTrue, OnOk, MatchResult};
 ghost use Rattle.std.specs.Option.{option_copied};
 ghost use Rattle.span_schema.specs.Numbers.{IsTable, parent_of};
-ghost use Rattle.span_rowcode.specs.Rows.{row_code};
-ghost use Rattle.span_rowcode.specs.Limits.{longest_row};
 ghost use Rattle.span_mutate.specs.Columns.{is_delete};
-ghost use Rattle.span_mutate.specs.Database.{is_insert, is_update, merge_cells};
+ghost use Rattle.span_mutate.specs.Database.{is_insert};
 ghost use Rattle.span_mutate.specs.Typed.{IsTypedMutation, AreTypedMutations};
 ghost use Rattle.span_maderows.specs.Made.{made_at};
 ghost use Rattle.span_shard.specs.Shard.{AreInOrder};
