@@ -11,14 +11,22 @@ ghost use Rattle.span_algebra.specs.Parts.{aggregate_of, AreMeasuresOf, HaveGrou
 
 use super::firsts::{FirstPlaces, lend_firsts};
 use super::group::{Group, groups_where};
+use indexmap::IndexSet;
 use span_expr::cell::Failure;
 use span_expr::expr::Expr;
 use span_query::query::{Aggregate, Function, Grouping, SortKey};
+use span_rows::key::LentKey;
 use span_rows::row_list::{RowList, lend_rows};
 use span_rows::rows_with_order::RowsWithOrder;
 use span_value::value::Value;
 use std::alloc::{AllocError, Global};
 use std::marker::Model;
+
+/// The number of rows at the beginning of a part by whose groups it is judged whether the part has many.
+const FIRST_ROWS: usize = 1024;
+
+/// The number of rows that a part has at least where this is judged.
+const LEAST_ROWS: usize = 4096;
 
 /// An aggregate of a column, or the number of rows.
 #[derive(Debug, Drop)]
@@ -109,7 +117,8 @@ impl Model for PartRows {
     ghost invariant = { λ a. IsPart a.rows a.groups a.firsts };
 }
 
-/// The groups of rows. None where an operand is no column, or at one an aggregate is an arithmetic error.
+/// The groups of rows. None where an operand is no column, at one an aggregate is an arithmetic error,
+/// or the groups are many.
 fn groups_of(
     alloc: Global,
     grouping: &Grouping,
@@ -120,14 +129,14 @@ fn groups_of(
     let Some(measures) = measures_of(alloc, grouping.aggregates.as_slice())? else {
         return Ok(None);
     };
+    if are_many(alloc, grouping, rows)? {
+        return Ok(None);
+    }
     let groups = match groups_where(alloc, &None, grouping, rows) {
         Ok(groups) => groups,
         Err(Failure::Fault) => return Ok(None),
         Err(Failure::OutOfMemory) => return Err(AllocError),
     };
-    if are_many(groups.len(), rows.len()) {
-        return Ok(None);
-    }
     Ok(Some(Groups {
         keys: grouping.keys.as_slice().to_vec(alloc)?,
         measures,
@@ -135,10 +144,18 @@ fn groups_of(
     }))
 }
 
-/// Whether there are more than half as many groups as rows: it then takes less time to make the groups of all rows than to put those of parts
-/// together. Only how fast a query is answered rests on it.
-fn are_many(groups: usize, rows: usize) -> bool {
-    groups > rows / 2
+/// Whether more than half of the first rows of a part are the first of their groups: it then takes less time to make the groups of all rows than
+/// to put those of parts together. A part that has few rows more than these is not looked at. Only how fast a query is answered rests on it.
+fn are_many(alloc: Global, grouping: &Grouping, rows: &RowList) -> Result<bool, AllocError> {
+    if rows.len() < LEAST_ROWS {
+        return Ok(false);
+    }
+    let places = grouping.keys.as_slice();
+    let mut keys = IndexSet::new(alloc);
+    for at in 0..FIRST_ROWS {
+        keys.insert(LentKey::new(rows.row(at), places))?;
+    }
+    Ok(keys.len() > FIRST_ROWS / 2)
 }
 
 impl PartRows {
