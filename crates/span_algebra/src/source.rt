@@ -1,5 +1,5 @@
 //! The rows of an item of a FROM, and the tables that a query reads. Rows that are there already are lent and not copied.
-ghost use Rattle.std.specs.Prelude.{◌≡◌, [], ◌∷◌, ◌++◌, Err, IfOk, IfSome, List, MatchResult, map, Some, None, slice_get, OnOk, OnErr};
+ghost use Rattle.std.specs.Prelude.{◌≡◌, ◌*◌, [], ◌∷◌, ◌++◌, length, Err, IfOk, IfSome, List, MatchResult, map, Some, None, slice_get, OnOk, OnErr};
 ghost use Rattle.std.specs.Option.{option_copied};
 ghost use Rattle.span_query.specs.Meaning as spec;
 ghost use Rattle.span_query.specs.Groups.{groups};
@@ -8,11 +8,12 @@ ghost use Rattle.span_query.specs.Sorting.{sorted};
 ghost use Rattle.span_rows.specs.Answers.{Gives};
 ghost use Rattle.span_rows.specs.Columns.{distinct_at};
 ghost use Rattle.span_rows.specs.LentRows.{lent_rows};
+ghost use Rattle.span_algebra.specs.GroupStates.{keys_at, AreGroupLists};
 ghost use Rattle.span_algebra.specs.Parts.{all_rows};
 ghost use Rattle.span_algebra.specs.Sources.{GivesRows, HasSameValues, IsGivenBy, SortsAs, source_rows, source_result};
 
-use super::group::rows_of;
-use super::merge::merge_parts;
+use super::group::{rows_of, rows_of_lists};
+use super::merge::{LentGroups, merge_parts};
 use super::part_rows::PartRows;
 use span_expr::cell::Failure;
 use span_query::query::{Grouping, SortKey};
@@ -252,12 +253,32 @@ fn groups_of(
 {
     if let [part] = parts {
         return match part.groups_by(grouping) {
-            Some(groups) => Ok(Some(rows_of(alloc, groups)?)),
+            Some(groups) => Ok(Some(rows_of_lists(alloc, grouping, part.rows(), groups)?)),
             None => Ok(None),
         };
     }
     match merge_parts(alloc, grouping, parts)? {
-        Some(groups) => Ok(Some(rows_of(alloc, groups.as_slice())?)),
+        Some(groups) => Ok(Some(rows_of_merged(alloc, grouping, &groups)?)),
         None => Ok(None),
     }
+}
+
+/// The row of each of the groups of parts.
+fn rows_of_merged(
+    alloc: Global,
+    grouping: &Grouping,
+    merged: &LentGroups<'_>,
+) -> Result<RowList, Failure>
+    requires { length merged.now.states.items ≡ length merged.now.firsts.items * length grouping.now.aggregates }
+    ensures { (rows : List Row)
+        → AreGroupLists grouping.now rows (keys_at grouping.now.keys (lent_rows merged.now.firsts.items)) merged.now.states.items
+        → Gives result (groups grouping.now rows) }
+{
+    rows_of(
+        alloc,
+        grouping.keys.as_slice(),
+        grouping.aggregates.len(),
+        merged.firsts.as_slice(),
+        merged.states.as_slice(),
+    )
 }

@@ -19,7 +19,7 @@ returns-in_err-is_kept c =
     let why = c.in_err-is_kept.field-0.0 in
     let known : Gives (Err why) (holds_where filter row) = search rules in
     let fails : Gives (Err why) (filter_where filter rows >>= groups c.args.grouping.now) =
-    pass_fails filter c.args.grouping.now rows c.loop-at.at c.loop-at.groups.items c.loop-at.invariant.passed row within c.row-row.ensures why known in
+    pass_fails filter c.args.grouping.now rows c.loop-at.at c.loop-at.index.keys c.loop-at.groups.states.items c.loop-at.invariant.passed row within c.row-row.ensures why known in
     search (rules, fails)
 
 pub returns-in_err-take_row : goal.returns-in_err-take_row
@@ -31,7 +31,7 @@ returns-in_err-take_row c =
     let why = c.in_err-take_row.field-0.0 in
     let holds : holds_where filter row ≡ Some true = search rules in
     let fails : Gives (Err why) (filter_where filter rows >>= groups c.args.grouping.now) =
-    take_fails filter c.args.grouping.now rows c.loop-at.at c.loop-at.groups.items c.loop-at.invariant.passed row within c.row-row.ensures holds why (search rules) in
+    take_fails filter c.args.grouping.now rows c.loop-at.at c.loop-at.index.keys c.loop-at.groups.states.items c.loop-at.invariant.passed row within c.row-row.ensures holds why (search rules) in
     search (rules, fails)
 
 pub loop-at-preserved : goal.loop-at-preserved
@@ -46,14 +46,14 @@ loop-at-preserved c =
       | then-branch+in_ok-take_row w ↦
           let holds : holds_where filter row ≡ Some true = search rules in
           let takes : (rs : List Row) → AreGroupsOf g rs c.loop-at.groups.items → AreGroupsOf g (rs ++ row ∷ []) w.take_row.new.groups.items = w.in_ok-take_row.ensures.ok in
-          let kept : HavePassed filter g rows (i + 1) w.take_row.new.groups.items = pass_keeps filter g rows i c.loop-at.groups.items c.loop-at.invariant.passed row within c.row-row.ensures holds w.take_row.new.groups.items takes in
+          let kept : HavePassed filter g rows (i + 1) w.take_row.new.groups.items = pass_keeps filter g rows i c.loop-at.index.keys c.loop-at.groups.states.items c.loop-at.invariant.passed row within c.row-row.ensures holds w.take_row.new.groups.items takes in
           record {
             passed = subst (λ (v : Vec Group Global). HavePassed filter g rows (i + 1) v.items) (sym w.groups-is) kept;
             indexed = ap (λ (v : HashSet Row _). v.keys) w.index-is ∙ w.in_ok-take_row.ensures.indexed ∙ ap (λ (v : Vec Group Global). keys_of v.items) (sym w.groups-is);
           }
       | else-branch w ↦
           let holds : holds_where filter row ≡ Some false = search rules in
-          let kept : HavePassed filter g rows (i + 1) c.loop-at.groups.items = pass_drops filter g rows i c.loop-at.groups.items c.loop-at.invariant.passed row within c.row-row.ensures holds in
+          let kept : HavePassed filter g rows (i + 1) c.loop-at.groups.items = pass_drops filter g rows i c.loop-at.index.keys c.loop-at.groups.states.items c.loop-at.invariant.passed row within c.row-row.ensures holds in
           record {
             passed = subst (λ (v : Vec Group Global). HavePassed filter g rows (i + 1) v.items) (sym w.groups-is) kept;
             indexed = ap (λ (v : HashSet Row _). v.keys) w.index-is ∙ c.loop-at.invariant.indexed ∙ ap (λ (v : Vec Group Global). keys_of v.items) (sym w.groups-is);
@@ -61,4 +61,4 @@ loop-at-preserved c =
     ]
 
 pub returns : goal.returns
-returns c = groups_passed c.args.filter.now c.args.grouping.now c.args.rows.now c.loop-at.at c.loop-at.groups.items c.loop-at.invariant.passed (search rules)
+returns c = groups_passed c.args.filter.now c.args.grouping.now c.args.rows.now c.loop-at.at c.loop-at.index.keys c.loop-at.groups.states.items c.loop-at.invariant.passed (search rules)
