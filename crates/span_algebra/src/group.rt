@@ -39,11 +39,12 @@ fn copy_at(alloc: Global, row: &[Value], place: usize) -> Result<Value, AllocErr
     }
 }
 
-/// The key of a row.
-fn key_of(alloc: Global, places: &[usize], row: &[Value]) -> Result<Row, AllocError>
+/// The key of a row, with reserved capacity for a number of values more.
+fn key_of(alloc: Global, places: &[usize], more: usize, row: &[Value]) -> Result<Row, AllocError>
     ensures { IfOk result (λ key. key ≡ spec.columns_at places.now row.now) }
 {
-    let mut key = Vec::with_capacity(alloc, places.len())?;
+    let count = places.len().checked_add(more).ok_or(AllocError)?;
+    let mut key = Vec::with_capacity(alloc, count)?;
     for place in places {
         key.push(copy_at(alloc, row, *place)?)?;
     }
@@ -107,11 +108,10 @@ fn group_of<'a>(
     }
     let (at, _) = index.insert_full(LentKey::new(row, places))?;
     if at == groups.len() {
-        let key = key_of(alloc, places, row)?;
-        add(
-            groups,
-            new_group(alloc, grouping.aggregates.as_slice(), key)?,
-        )?;
+        // The row of the group will be its key and then its aggregates.
+        let aggregates = grouping.aggregates.as_slice();
+        let key = key_of(alloc, places, aggregates.len(), row)?;
+        add(groups, new_group(alloc, aggregates, key)?)?;
     }
     Ok(at)
 }
@@ -160,7 +160,7 @@ fn first_index(alloc: Global, grouping: &Grouping) -> Result<IndexSet<LentKey<'_
     Ok(index)
 }
 
-/// The row of each group.
+/// The row of each group, with a copy of its key.
 pub(crate) fn rows_of(alloc: Global, groups: &[Group]) -> Result<RowList, Failure>
     ensures { (g : Grouping) (rows : List Row) → AreGroupsOf g rows groups.now → Gives result (spec.groups g rows) }
 {
@@ -168,6 +168,17 @@ pub(crate) fn rows_of(alloc: Global, groups: &[Group]) -> Result<RowList, Failur
     for group in groups {
         let key = copy_row(alloc, group.key.as_slice())?;
         rows.push_row(row_with(alloc, key, group.states.as_slice())?)?;
+    }
+    Ok(rows)
+}
+
+/// The row of each group, whose key is moved into it.
+pub(crate) fn into_rows(alloc: Global, groups: Vec<Group>) -> Result<RowList, Failure>
+    ensures { (g : Grouping) (rows : List Row) → AreGroupsOf g rows groups.items → Gives result (spec.groups g rows) }
+{
+    let mut rows = RowList::new(alloc);
+    for group in groups {
+        rows.push_row(row_with(alloc, group.key, group.states.as_slice())?)?;
     }
     Ok(rows)
 }
@@ -204,5 +215,5 @@ pub(crate) fn group_rows(
     ensures { Gives result (unless_fault (filter_where filter.now rows.now) (spec.groups grouping.now)) }
 {
     let groups = groups_where(alloc, filter, grouping, rows)?;
-    rows_of(alloc, groups.as_slice())
+    into_rows(alloc, groups)
 }

@@ -11,7 +11,7 @@ ghost use Rattle.span_rows.specs.LentRows.{lent_rows};
 ghost use Rattle.span_algebra.specs.Parts.{all_rows};
 ghost use Rattle.span_algebra.specs.Sources.{GivesRows, HasSameValues, IsGivenBy, SortsAs, source_rows, source_result};
 
-use super::group::rows_of;
+use super::group::{into_rows, rows_of};
 use super::merge::merge_parts;
 use super::part_rows::PartRows;
 use span_expr::cell::Failure;
@@ -257,7 +257,7 @@ fn groups_of(
         };
     }
     match merge_parts(alloc, grouping, parts)? {
-        Some(groups) => Ok(Some(rows_of(alloc, groups.as_slice())?)),
+        Some(groups) => Ok(Some(into_rows(alloc, groups)?)),
         None => Ok(None),
     }
 }
