@@ -28,6 +28,7 @@ use Rattle.span_mutate.specs.Checking.{cell_causes, cells_cause, lack_causes}
 use Rattle.span_mutate.specs.InOrder.{is_cell_of, are_cells_at, value_causes, are_in_order, values_cause, places_break}
 use Rattle.span_mutate.proofs.NamedKinds.{IsNamedSelf, same_lower, lower_same, none_placed, all_map, names_apart, columns_differ}
 use Rattle.span_mutate.proofs.Taking.{find_first}
+use Rattle.std.proofs.Math.Bool.{or-true}
 
 -- ---- the columns at places
 
@@ -183,13 +184,9 @@ all_named columns (p ∷ ps) (c ∷ cs) [] at e = absurd (let f : false ≡ true
 all_named columns (p ∷ ps) (c ∷ cs) (x ∷ xs) at e =
     let parts = heads columns p ps x xs c at.0 e in (
       ap (λ (b : Bool). b || is_named xs c.name) (same_self x.column c.name parts.name),
-      all_map (λ (d : Column). is_named xs d.name ≡ true) (λ (d : Column). is_named (x ∷ xs) d.name ≡ true) (λ d h. or_true (is_same_name x.column d.name) (is_named xs d.name) h) cs
+      all_map (λ (d : Column). is_named xs d.name ≡ true) (λ (d : Column). is_named (x ∷ xs) d.name ≡ true) (λ d h. ap (λ (b : Bool). is_same_name x.column d.name || b) h ∙ or-true (is_same_name x.column d.name)) cs
           (all_named columns ps cs xs at.1 parts.rest),
     )
-  where
-    or_true : (a b : Bool) → b ≡ true → (a || b) ≡ true
-    or_true true b h = refl
-    or_true false b h = h
 
 lacks_none : (key : List KeyColumn) (cells : List NamedValue) (cs : List Column) → AllByRecursion (λ (d : Column). is_named cells d.name ≡ true) (other_columns key cs) → lacks_cell key cells cs ≡ false
 lacks_none key cells [] h = refl

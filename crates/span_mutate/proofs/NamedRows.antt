@@ -31,6 +31,7 @@ use Rattle.span_mutate.specs.NamedBatches.{AreApart, IsNamed, are_new_names, has
 use Rattle.span_mutate.specs.Typed.{are_named_kinds}
 use Rattle.span_mutate.proofs.InOrder.{Apart, AreAt, apart_from, apart_others, named_more, other_places_of, others_at}
 use Rattle.span_mutate.proofs.NamedKinds.{all_map, columns_apart, lower_same, mutation_kinds, none_placed, same_lower}
+use Rattle.std.proofs.Math.Bool.{and-true, and-false}
 
 -- ---- names, each once
 
@@ -219,14 +220,6 @@ lacks_there t names vs e (p ∷ ps) (c ∷ cs) at =
     ∙ ap (λ (b : Bool). (c.not_null && b) || rest) (none_named (named_cells vs names) c.name)
     ∙ ap (λ (b : Bool). (c.not_null && not (is_named (named_cells vs names) c.name)) || b) (lacks_there t names vs e ps cs at.1)
 
-and_true : (b : Bool) → (b && true) ≡ b
-and_true true = refl
-and_true false = refl
-
-and_false : (b : Bool) → (b && false) ≡ false
-and_false true = refl
-and_false false = refl
-
 lacks_outside : (key : List KeyColumn) (cells : List NamedValue) (cs : List Column) → list_any (λ (c : Column). c.not_null && not (is_named cells c.name)) (other_columns key cs) ≡ lacks_cell key cells cs
 lacks_outside key cells [] = refl
 lacks_outside key cells (c ∷ cs) = cases (is_key_name key c.name) (lacks_outside key cells cs)
@@ -234,10 +227,10 @@ lacks_outside key cells (c ∷ cs) = cases (is_key_name key c.name) (lacks_outsi
     cases : (b : Bool) → list_any (λ (d : Column). d.not_null && not (is_named cells d.name)) (other_columns key cs) ≡ lacks_cell key cells cs
         → list_any (λ (d : Column). d.not_null && not (is_named cells d.name)) (cond (not b) (c ∷ other_columns key cs) (other_columns key cs))
         ≡ ((c.not_null && not b && not (is_named cells c.name)) || list_any (is_lacking key cells) cs)
-    cases true again = again ∙ sym (ap (λ (b : Bool). (b && not (is_named cells c.name)) || list_any (is_lacking key cells) cs) (and_false c.not_null))
+    cases true again = again ∙ sym (ap (λ (b : Bool). (b && not (is_named cells c.name)) || list_any (is_lacking key cells) cs) (and-false c.not_null))
     cases false again =
         ap (λ (b : Bool). (c.not_null && not (is_named cells c.name)) || b) again
-        ∙ sym (ap (λ (b : Bool). (b && not (is_named cells c.name)) || list_any (is_lacking key cells) cs) (and_true c.not_null))
+        ∙ sym (ap (λ (b : Bool). (b && not (is_named cells c.name)) || list_any (is_lacking key cells) cs) (and-true c.not_null))
 
 -- ---- no two columns have one name
 

@@ -34,6 +34,7 @@ use Rattle.span_mutate.proofs.Local.{step_database}
 use Rattle.span_mutate.proofs.Runs.{run_on, run_faults}
 use Rattle.span_mutate.proofs.Keyed.{unless_none}
 use Rattle.span_mutate.proofs.NamedKinds.{all_map}
+use Rattle.std.proofs.Math.Bool.{or-true}
 
 -- a number of a range is found in it
 pub in_range : (a n t : ℕ) → a ≤ t → t < a + n → list_any (λ (k : ℕ). k == t) (range_with_len a n) ≡ true
@@ -114,10 +115,6 @@ some_found {X} p (x ∷ xs) = cases (some_found p xs) (p x) refl
     cases again true e = ap (λ (b : Bool). is_none (cond b (Some x) (find p xs))) e ∙ sym (ap (λ (b : Bool). not (b || list_any p xs)) e)
     cases again false e = ap (λ (b : Bool). is_none (cond b (Some x) (find p xs))) e ∙ again ∙ sym (ap (λ (b : Bool). not (b || list_any p xs)) e)
 
-or_true : (b : Bool) → (b || true) ≡ true
-or_true true = refl
-or_true false = refl
-
 -- found before an item, at it or after it
 abbrev there : {X : Type 0} → (X → X → Ordering) → (X → Bool) → X → List X → Bool
 there R p r l = list_any p (filter (λ x. is_lt (R x r)) l) || (p r || list_any p (filter (λ x. is_gt (R x r)) l))
@@ -151,11 +148,11 @@ found_put {X} R p r same (x ∷ xs) g = cases (R x r) (p x) refl refl (λ f. fou
         before e ∙ ap (λ (b : Bool). (b || list_any p (filter (λ x. is_lt (R x r)) xs)) || (p r || list_any p (filter (λ x. is_gt (R x r)) xs))) f ∙ again (rest f)
     cases Equal true e f again =
         at e ∙ ap (λ (b : Bool). list_any p (filter (λ x. is_lt (R x r)) xs) || (b || list_any p (filter (λ x. is_gt (R x r)) xs))) (same x e f)
-        ∙ or_true (list_any p (filter (λ x. is_lt (R x r)) xs))
+        ∙ or-true (list_any p (filter (λ x. is_lt (R x r)) xs))
     cases Equal false e f again = at e ∙ again (rest f)
     cases Greater true e f again =
         later e ∙ ap (λ (b : Bool). list_any p (filter (λ x. is_lt (R x r)) xs) || (p r || (b || list_any p (filter (λ x. is_gt (R x r)) xs)))) f
-        ∙ ap (λ (b : Bool). list_any p (filter (λ x. is_lt (R x r)) xs) || b) (or_true (p r)) ∙ or_true (list_any p (filter (λ x. is_lt (R x r)) xs))
+        ∙ ap (λ (b : Bool). list_any p (filter (λ x. is_lt (R x r)) xs) || b) (or-true (p r)) ∙ or-true (list_any p (filter (λ x. is_lt (R x r)) xs))
     cases Greater false e f again =
         later e ∙ ap (λ (b : Bool). list_any p (filter (λ x. is_lt (R x r)) xs) || (p r || (b || list_any p (filter (λ x. is_gt (R x r)) xs)))) f ∙ again (rest f)
 

@@ -22,6 +22,7 @@ use Rattle.span_mutate.proofs.Orders.{rows_equal, rows_total}
 use Rattle.span_mutate.proofs.Placing.{put_kept, put_lost}
 use Rattle.span_mutate.proofs.Local.{with_rows, step_same, step_database, row_same, under_is_of, unless_ok}
 use Rattle.span_mutate.proofs.ByRoots.{root_keyed, in_own}
+use Rattle.std.proofs.Math.Bool.{or-true}
 
 -- a test that passes all keys of the directory of a mutation
 abbrev Covers : List Table → (ℕ → List Value → Bool) → CheckedMutation → Type 0
@@ -167,11 +168,9 @@ same_run tables rules q (m ∷ ms) keyed covers a b is_a is_b e =
 
 -- the touched keys have the directory of each mutation
 more_touched : (tables : List Table) (ms : List CheckedMutation) (m : CheckedMutation) (n : ℕ) (key : List Value) → is_touched tables ms n key ≡ true → is_touched tables (m ∷ ms) n key ≡ true
-more_touched tables ms m n key e = or_true (is_in_directory tables (root_row tables m.table m.key) n key) (is_touched tables ms n key) e
-  where
-    or_true : (a b : Bool) → b ≡ true → (a || b) ≡ true
-    or_true true b e = refl
-    or_true false b e = e
+more_touched tables ms m n key e =
+    let here : Bool = is_in_directory tables (root_row tables m.table m.key) n key in
+    ap (λ (b : Bool). here || b) e ∙ or-true here
 
 widened : (tables : List Table) (p q : ℕ → List Value → Bool) → ((n : ℕ) (key : List Value) → p n key ≡ true → q n key ≡ true) → (ms : List CheckedMutation) → AllByRecursion (Covers tables p) ms → AllByRecursion (Covers tables q) ms
 widened tables p q wider [] h = tt

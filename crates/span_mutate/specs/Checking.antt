@@ -1,5 +1,5 @@
 -- What a mutation is checked for before any row is looked at.
-use Rattle.std.specs.Prelude.{ℕ, Bool, not, ◌||◌, ◌&&◌, nat_lt, List, [], ◌∷◌, ◌++◌, length, Option, Some, None, is_none, Result, Ok, Err}
+use Rattle.std.specs.Prelude.{◌≡◌, ℕ, Bool, not, ◌||◌, ◌&&◌, nat_lt, List, [], ◌∷◌, ◌++◌, length, Option, Some, None, is_none, Result, Ok, Err, MatchResult}
 use Rattle.std.specs.Option.{option_or}
 use Rattle.span_value.specs.Results.{and_then, first_cause}
 use Rattle.span_value.specs.declared.value.Value.{Value}
@@ -15,6 +15,10 @@ use Rattle.span_mutate.specs.declared.mutation.MutationKind.{MutationKind}
 use Rattle.span_mutate.specs.declared.mutation.Mutation.{Mutation}
 use Rattle.span_mutate.specs.declared.mutation.CheckedMutation.{CheckedMutation}
 use Rattle.span_mutate.specs.Columns.{cell_column, has_wrong_type, is_null_refused, is_too_long, key_breaks, is_named, is_delete, may_insert, lacks_cell, values_named}
+
+-- the result of a check: it is refused for the cause where there is one, and else passes
+abbrev pub IsCheckOf : {A : Type 0} → Option Refusal → Result A Refusal → Type 0
+IsCheckOf cause result = MatchResult result (λ _. cause ≡ None) (λ why. cause ≡ Some why)
 
 -- the value, unless something refuses it
 abbrev pub unless : {A : Type 0} → Option Refusal → A → Result A Refusal
@@ -51,11 +55,14 @@ cells_cause t kind before (c ∷ cs) =
 abbrev pub lack_causes : Table → Mutation → List (Bool × Refusal)
 lack_causes t m = (may_insert m.kind && lacks_cell t.key m.cells t.columns, NullNotAllowed) ∷ []
 
--- a mutation of table n: its key, its cells, and what they lack
+-- its cells, and what they lack
+abbrev pub content_cause : Table → Mutation → Option Refusal
+content_cause t m = option_or (cells_cause t m.kind [] m.cells) (first_cause (lack_causes t m))
+
+-- a mutation of table n: its key, then its cells
 abbrev pub mutation_cause : List Table → ℕ → Table → Mutation → Option Refusal
 mutation_cause tables n t m =
-    option_or (first_cause (key_causes tables n t m.key))
-    (option_or (cells_cause t m.kind [] m.cells) (first_cause (lack_causes t m)))
+    option_or (first_cause (key_causes tables n t m.key)) (content_cause t m)
 
 abbrev pub typed : ℕ → Table → Mutation → CheckedMutation
 typed n t m = record { kind = m.kind; table = n; key = m.key; cells = values_named t.key m.cells t.columns }

@@ -6,7 +6,7 @@ ghost use Rattle.span_value.specs.declared.value.Value.{Value};
 ghost use Rattle.span_schema.specs.Numbers.{IsTable, columns_of, other_places, table_at};
 ghost use Rattle.span_keycode.specs.Keys.{IsCodedKey};
 ghost use Rattle.span_mutate.specs.Batches.{IsBound, batch_mutations, is_full, named_cells, row_mutation, row_mutations};
-ghost use Rattle.span_mutate.specs.Checking.{cells_cause, checked, checked_all, checked_at, lack_causes, mutation_cause, with_front};
+ghost use Rattle.span_mutate.specs.Checking.{IsCheckOf, content_cause, checked, checked_all, checked_at, lack_causes, mutation_cause, with_front};
 ghost use Rattle.span_mutate.specs.Directories.{AreKeyed};
 ghost use Rattle.span_mutate.specs.InOrder.{are_names_at, row_cause};
 ghost use Rattle.span_mutate.specs.NamedBatches.{IsNamed};
@@ -61,15 +61,7 @@ fn check_full_cells(
     requires bound { IsBound schema.now heading.now number }
     requires table { Some table.now ≡ table_at schema.now number }
     requires full { is_full heading.now.columns row.now.cells ≡ true }
-    ensures { let mutation = row_mutation heading.now row.now in MatchResult result
-        (λ _.
-        option_or (cells_cause table.now mutation.kind [] mutation.cells)
-        (first_cause (lack_causes table.now mutation))
-        ≡ None)
-        (λ why.
-        option_or (cells_cause table.now mutation.kind [] mutation.cells)
-        (first_cause (lack_causes table.now mutation))
-        ≡ Some why) }
+    ensures { let mutation = row_mutation heading.now row.now in IsCheckOf (content_cause table.now mutation) result }
 {
     schema.meets_rules();
     check_cells(
@@ -90,9 +82,7 @@ fn check_full_rules(
     requires bound { IsBound schema.now heading.now number }
     requires table { Some table.now ≡ table_at schema.now number }
     requires full { is_full heading.now.columns row.now.cells ≡ true }
-    ensures cause { MatchResult result
-        (λ _. mutation_cause schema.now number table.now (row_mutation heading.now row.now) ≡ None)
-        (λ why. mutation_cause schema.now number table.now (row_mutation heading.now row.now) ≡ Some why) }
+    ensures cause { IsCheckOf (mutation_cause schema.now number table.now (row_mutation heading.now row.now)) result }
     ensures coded { IfOk result (λ _. IsCodedKey schema.now number row.now.key) }
 {
     check_key(schema, number, table, row.key.as_slice())?;

@@ -5,7 +5,7 @@ ghost use Rattle.span_value.specs.Results.{first_cause};
 ghost use Rattle.span_schema.specs.Numbers.{IsTable, number_named, table_at};
 ghost use Rattle.span_keycode.specs.Keys.{IsCodedKey};
 ghost use Rattle.span_mutate.specs.Typed.{IsTypedMutation};
-ghost use Rattle.span_mutate.specs.Checking.{key_causes, cell_causes, cells_cause, lack_causes, mutation_cause, checked, checked_at};
+ghost use Rattle.span_mutate.specs.Checking.{IsCheckOf, key_causes, cell_causes, cells_cause, content_cause, lack_causes, mutation_cause, checked, checked_at};
 ghost use Rattle.span_mutate.specs.Columns.{is_delete, is_null_refused, is_too_long, key_breaks};
 ghost use Rattle.span_mutate.specs.InOrder.{are_in_order, value_causes, values_cause};
 
@@ -53,9 +53,7 @@ pub(crate) fn check_key(
 ) -> Result<(), Refusal>
     requires number { IsTable schema.now number }
     requires table { Some table.now ≡ table_at schema.now number }
-    ensures cause { MatchResult result
-        (λ _. first_cause (key_causes schema.now number table.now key.now) ≡ None)
-        (λ why. first_cause (key_causes schema.now number table.now key.now) ≡ Some why) }
+    ensures cause { IsCheckOf (first_cause (key_causes schema.now number table.now key.now)) result }
     ensures coded { IfOk result (λ _. IsCodedKey schema.now number key.now) }
 {
     if !have_kinds(schema.key_columns(number), key) {
@@ -75,9 +73,7 @@ pub(crate) fn check_key(
 
 /// Whether the column, if there is one, takes the value.
 pub(crate) fn check_value(column: Option<&Column>, value: &Value) -> Result<(), Refusal>
-    ensures { MatchResult result
-        (λ _. first_cause (value_causes (option_copied column.entry) value.now) ≡ None)
-        (λ why. first_cause (value_causes (option_copied column.entry) value.now) ≡ Some why) }
+    ensures { IsCheckOf (first_cause (value_causes (option_copied column.entry) value.now)) result }
 {
     if has_wrong_type(column, value) {
         return Err(Refusal::WrongType);
@@ -98,9 +94,7 @@ fn check_cell(
     before: &[NamedValue],
     cell: &NamedValue,
 ) -> Result<(), Refusal>
-    ensures { MatchResult result
-        (λ _. first_cause (cell_causes table.now kind before.now cell.now) ≡ None)
-        (λ why. first_cause (cell_causes table.now kind before.now cell.now) ≡ Some why) }
+    ensures { IsCheckOf (first_cause (cell_causes table.now kind before.now cell.now)) result }
 {
     let column = cell_column(table, cell.column.as_str());
     if is_delete(kind) || column.is_none() || is_named(before, cell.column.as_str()) {
@@ -110,9 +104,7 @@ fn check_cell(
 }
 
 fn check_cells(table: &Table, kind: MutationKind, cells: &[NamedValue]) -> Result<(), Refusal>
-    ensures { MatchResult result
-        (λ _. cells_cause table.now kind [] cells.now ≡ None)
-        (λ why. cells_cause table.now kind [] cells.now ≡ Some why) }
+    ensures { IsCheckOf (cells_cause table.now kind [] cells.now) result }
 {
     for i in 0..cells.len() {
         check_cell(table, kind, &cells[..i], &cells[i])?;
@@ -121,9 +113,7 @@ fn check_cells(table: &Table, kind: MutationKind, cells: &[NamedValue]) -> Resul
 }
 
 fn check_required(table: &Table, mutation: &Mutation) -> Result<(), Refusal>
-    ensures { MatchResult result
-        (λ _. first_cause (lack_causes table.now mutation.now) ≡ None)
-        (λ why. first_cause (lack_causes table.now mutation.now) ≡ Some why) }
+    ensures { IsCheckOf (first_cause (lack_causes table.now mutation.now)) result }
 {
     if may_insert(mutation.kind)
         && lacks_cell(
@@ -139,15 +129,7 @@ fn check_required(table: &Table, mutation: &Mutation) -> Result<(), Refusal>
 
 // Whether cells in any order break no rule.
 fn check_any_order(table: &Table, mutation: &Mutation) -> Result<(), Refusal>
-    ensures { MatchResult result
-        (λ _.
-        option_or (cells_cause table.now mutation.now.kind [] mutation.now.cells)
-        (first_cause (lack_causes table.now mutation.now))
-        ≡ None)
-        (λ why.
-        option_or (cells_cause table.now mutation.now.kind [] mutation.now.cells)
-        (first_cause (lack_causes table.now mutation.now))
-        ≡ Some why) }
+    ensures { IsCheckOf (content_cause table.now mutation.now) result }
 {
     check_cells(table, mutation.kind, mutation.cells.as_slice())?;
     check_required(table, mutation)?;
@@ -156,9 +138,7 @@ fn check_any_order(table: &Table, mutation: &Mutation) -> Result<(), Refusal>
 
 // The values of cells, each with the column at its place.
 fn check_values(columns: &[Column], places: &[usize], cells: &[NamedValue]) -> Result<(), Refusal>
-    ensures { MatchResult result
-        (λ _. values_cause columns.now places.now cells.now ≡ None)
-        (λ why. values_cause columns.now places.now cells.now ≡ Some why) }
+    ensures { IsCheckOf (values_cause columns.now places.now cells.now) result }
 {
     for i in 0..places.len().min(cells.len()) {
         check_value(column_at(columns, places[i]), &cells[i].value)?;
@@ -177,15 +157,7 @@ fn check_in_order(
     requires table { Some table.now ≡ table_at schema.now number }
     requires put { is_delete mutation.now.kind ≡ false }
     requires order { are_in_order table.now mutation.now.cells ≡ true }
-    ensures { MatchResult result
-        (λ _.
-        option_or (cells_cause table.now mutation.now.kind [] mutation.now.cells)
-        (first_cause (lack_causes table.now mutation.now))
-        ≡ None)
-        (λ why.
-        option_or (cells_cause table.now mutation.now.kind [] mutation.now.cells)
-        (first_cause (lack_causes table.now mutation.now))
-        ≡ Some why) }
+    ensures { IsCheckOf (content_cause table.now mutation.now) result }
 {
     schema.meets_rules();
     check_values(
@@ -215,9 +187,7 @@ fn check_rules(
     requires number { IsTable schema.now number }
     requires table { Some table.now ≡ table_at schema.now number }
     requires order { in_order ≡ are_in_order table.now mutation.now.cells }
-    ensures cause { MatchResult result
-        (λ _. mutation_cause schema.now number table.now mutation.now ≡ None)
-        (λ why. mutation_cause schema.now number table.now mutation.now ≡ Some why) }
+    ensures cause { IsCheckOf (mutation_cause schema.now number table.now mutation.now) result }
     ensures coded { IfOk result (λ _. IsCodedKey schema.now number mutation.now.key) }
 {
     check_key(schema, number, table, mutation.key.as_slice())?;

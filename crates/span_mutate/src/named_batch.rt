@@ -5,7 +5,7 @@ ghost use Rattle.span_value.specs.Results.{first_cause};
 ghost use Rattle.span_schema.specs.Numbers.{table_at};
 ghost use Rattle.span_keycode.specs.Keys.{IsCodedKey};
 ghost use Rattle.span_mutate.specs.Batches.{row_mutation};
-ghost use Rattle.span_mutate.specs.Checking.{cells_cause, checked, lack_causes, mutation_cause};
+ghost use Rattle.span_mutate.specs.Checking.{IsCheckOf, cells_cause, checked, lack_causes, mutation_cause};
 ghost use Rattle.span_mutate.specs.Columns.{lacks_cell};
 ghost use Rattle.span_mutate.specs.InOrder.{cell_cause, row_cause};
 ghost use Rattle.span_mutate.specs.NamedBatches.{AreApart, IsNamed, is_left_out, lacks_value, value_at};
@@ -26,9 +26,7 @@ use std::mem;
 
 // Whether the column, if there is one, takes the value, if there is one.
 fn check_cell(column: Option<&Column>, cell: &Option<Value>) -> Result<(), Refusal>
-    ensures { MatchResult result
-        (λ _. cell_cause (option_copied column.entry) cell.now ≡ None)
-        (λ why. cell_cause (option_copied column.entry) cell.now ≡ Some why) }
+    ensures { IsCheckOf (cell_cause (option_copied column.entry) cell.now) result }
 {
     match cell {
         None => Ok(()),
@@ -42,9 +40,7 @@ pub(crate) fn check_cells(
     places: &[usize],
     cells: &[Option<Value>],
 ) -> Result<(), Refusal>
-    ensures { MatchResult result
-        (λ _. row_cause columns.now places.now cells.now ≡ None)
-        (λ why. row_cause columns.now places.now cells.now ≡ Some why) }
+    ensures { IsCheckOf (row_cause columns.now places.now cells.now) result }
 {
     for i in 0..places.len().min(cells.len()) {
         check_cell(column_at(columns, places[i]), &cells[i])?;
@@ -98,9 +94,7 @@ fn check_named_cells(
 ) -> Result<(), Refusal>
     requires named { IsNamed schema.now heading.now columns.now }
     requires table { Some table.now ≡ table_at schema.now columns.now.table }
-    ensures { let mutation = row_mutation heading.now row.now in MatchResult result
-        (λ _. cells_cause table.now mutation.kind [] mutation.cells ≡ None)
-        (λ why. cells_cause table.now mutation.kind [] mutation.cells ≡ Some why) }
+    ensures { let mutation = row_mutation heading.now row.now in IsCheckOf (cells_cause table.now mutation.kind [] mutation.cells) result }
 {
     check_cells(
         table.columns.as_slice(),
@@ -139,9 +133,7 @@ fn check_named_required(
 ) -> Result<(), Refusal>
     requires named { IsNamed schema.now heading.now columns.now }
     requires table { Some table.now ≡ table_at schema.now columns.now.table }
-    ensures { MatchResult result
-        (λ _. first_cause (lack_causes table.now (row_mutation heading.now row.now)) ≡ None)
-        (λ why. first_cause (lack_causes table.now (row_mutation heading.now row.now)) ≡ Some why) }
+    ensures { IsCheckOf (first_cause (lack_causes table.now (row_mutation heading.now row.now))) result }
 {
     if may_insert(heading.kind) && lacks_named(schema, table, columns, heading, row) {
         return Err(Refusal::NullNotAllowed);
@@ -159,9 +151,7 @@ fn check_named_rules(
 ) -> Result<(), Refusal>
     requires named { IsNamed schema.now heading.now columns.now }
     requires table { Some table.now ≡ table_at schema.now columns.now.table }
-    ensures cause { MatchResult result
-        (λ _. mutation_cause schema.now columns.now.table table.now (row_mutation heading.now row.now) ≡ None)
-        (λ why. mutation_cause schema.now columns.now.table table.now (row_mutation heading.now row.now) ≡ Some why) }
+    ensures cause { IsCheckOf (mutation_cause schema.now columns.now.table table.now (row_mutation heading.now row.now)) result }
     ensures coded { IfOk result (λ _. IsCodedKey schema.now columns.now.table row.now.key) }
 {
     check_key(schema, columns.table, table, row.key.as_slice())?;
