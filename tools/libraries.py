@@ -2,11 +2,14 @@
 """Puts the libraries that runs of `rt ci` have proved of the same files on this machine into crates/*/out of this clone, so that a check of a crate,
 or `tests/edits.py --built`, proves nothing below it anew.
 
-    tools/libraries.py
+    tools/libraries.py          those that the kit keeps: some kits keep what `rt ci` proves beside themselves, by the checksums of all that it read
+    tools/libraries.py CLONE    those that the last `rt ci` in another clone has built
 
-`rt ci` keeps what it proves beside the kit, by the checksums of all that it read; nothing is changed or removed there. It prints the crates whose
-libraries are there now, and those whose are not. No verdict rests on it: `rt ci` itself takes nothing from crates/*/out.
+Nothing is changed or removed where they are taken from. It prints the crates whose libraries are there now, and those whose are not. No verdict
+rests on it: `rt ci` itself takes nothing from crates/*/out.
 """
+import functools
+import hashlib
 import importlib.machinery
 import importlib.util
 import json
@@ -24,7 +27,17 @@ def toolchain():
     loader = importlib.machinery.SourceFileLoader("rt_program", file)
     module = importlib.util.module_from_spec(importlib.util.spec_from_loader("rt_program", loader))
     loader.exec_module(module)
+    # (the sum of a crate and all below it is asked for again and again)
+    module.rtlib.Crate = module.Crate
+    module.rtlib.Crate.stamp = functools.cache(module.rtlib.Crate.stamp)
     return module
+
+
+def crates_of(rt, top):
+    """The repository's crates, lowest first."""
+    os.chdir(top)
+    rt.Crate.allowed = rt.handles_of(top)
+    return sorted(rt.rtlib.crates_below(top), key=lambda crate: len(crate.below()))
 
 
 def is_there(rt, out, files):
@@ -32,38 +45,82 @@ def is_there(rt, out, files):
     return all(os.path.isfile(os.path.join(out, path)) and rt.rtlib.sum_of(os.path.join(out, path)) == sum for path, sum in files)
 
 
-def put(rt, kept, crate):
-    """Puts the crate's library into its out/, unless it is there; whether it is there then. Copies, so that what is kept stays as it is."""
-    place, out = kept.place(crate, False, kept.key(crate)), os.path.join(crate.folder, "out")
-    if not os.path.isdir(place):
-        return False
-    with open(os.path.join(place, "made.json"), encoding="utf-8") as file:
-        files = json.load(file)["files"]
-    if not is_there(rt, out, files):
-        shutil.rmtree(os.path.join(out, "rlib"), ignore_errors=True)
-        for number, (path, _) in enumerate(files):
-            to = os.path.join(out, path)
-            os.makedirs(os.path.dirname(to), exist_ok=True)
-            shutil.copyfile(os.path.join(place, str(number)), to)
-    if not is_there(rt, out, files) or [path for path, _ in files] != kept.made(crate, False):
-        return False
-    kept.is_built(crate)
-    with open(os.path.join(out, "rlib", "stamp"), "w", encoding="utf-8") as file:
-        file.write(rt.rtlib.Crate.stamp(crate))
-    return True
+def write_stamp(crate):
+    with open(os.path.join(crate.folder, "out", "rlib", "stamp"), "w", encoding="utf-8") as file:
+        file.write(crate.stamp())
+
+
+class KeptByTheKit:
+    """What the kit keeps of `rt ci`."""
+
+    def __init__(self, rt, crates):
+        if not hasattr(rt, "Kept"):
+            sys.exit("libraries: this kit keeps nothing of rt ci: name a clone in which it has run")
+        self.rt, self.kept = rt, rt.Kept(crates)
+
+    def put(self, crate):
+        """Puts the crate's library into its out/, unless it is there; whether it is there then. Copies, so that what is kept stays as it is."""
+        place, out = self.kept.place(crate, False, self.kept.key(crate)), os.path.join(crate.folder, "out")
+        if not os.path.isdir(place):
+            return False
+        with open(os.path.join(place, "made.json"), encoding="utf-8") as file:
+            files = json.load(file)["files"]
+        if not is_there(self.rt, out, files):
+            shutil.rmtree(os.path.join(out, "rlib"), ignore_errors=True)
+            for number, (path, _) in enumerate(files):
+                to = os.path.join(out, path)
+                os.makedirs(os.path.dirname(to), exist_ok=True)
+                shutil.copyfile(os.path.join(place, str(number)), to)
+        if not is_there(self.rt, out, files) or [path for path, _ in files] != self.kept.made(crate, False):
+            return False
+        self.kept.is_built(crate)
+        write_stamp(crate)
+        return True
+
+
+class OfAClone:
+    """What `rt ci` has built in another clone. A library that it has built has no stamp; that of a check has one, and is taken by it."""
+
+    def __init__(self, rt, clone):
+        here = os.getcwd()
+        self.rt, self.crates = rt, {crate.name: crate for crate in crates_of(rt, os.path.abspath(clone))}
+        crates_of(rt, here)
+
+    def put(self, crate):
+        other = self.crates.get(crate.name)
+        if other is None or sum_of_files(self.rt, crate) != sum_of_files(self.rt, other):
+            return False
+        made, to = os.path.join(other.folder, "out", "rlib"), os.path.join(crate.folder, "out", "rlib")
+        stamp = os.path.join(made, "stamp")
+        if not os.path.isdir(os.path.join(made, f"{crate.name}.rlib")) or os.path.exists(stamp) and not other.is_built():
+            return False
+        if not crate.is_built():
+            shutil.rmtree(to, ignore_errors=True)
+            shutil.copytree(made, to)
+            write_stamp(crate)
+        return True
+
+
+def sum_of_files(rt, crate):
+    """A sum of the crate's own files and of its line in crates.txt."""
+    sum = hashlib.sha256(repr((crate.said, crate.has_c)).encode())
+    for path in rt.rtlib.files_of(crate.folder):
+        with open(path, "rb") as file:
+            sum.update(repr((os.path.relpath(path, crate.folder), file.read())).encode())
+    return sum.hexdigest()
 
 
 def main():
-    if len(sys.argv) > 1:
-        sys.exit(f"libraries: takes no words, and was given {' '.join(sys.argv[1:])}")
-    os.chdir(TOP)
+    if len(sys.argv) > 2 or any(word.startswith("-") for word in sys.argv[1:]):
+        sys.exit(f"libraries: takes the folder of a clone, or no word, and was given {' '.join(sys.argv[1:])}")
+    clone = os.path.abspath(sys.argv[1]) if len(sys.argv) > 1 else None
     rt = toolchain()
-    rt.Crate.allowed = rt.handles_of(TOP)
-    crates = [crate for crate in rt.crates_of(TOP) if not crate.is_program]
-    kept, given, absent = rt.Kept(crates), [], set()
+    crates = [crate for crate in crates_of(rt, TOP) if not crate.is_program]
+    source = OfAClone(rt, clone) if clone else KeptByTheKit(rt, crates)
+    given, absent = [], set()
     for crate in crates:
         # (a library is kept over those below it, as they were built)
-        if any(low.name in absent for low in crate.below()) or not put(rt, kept, crate):
+        if any(low.name in absent for low in crate.below()) or not source.put(crate):
             absent.add(crate.name)
         else:
             given.append(crate.name)

@@ -274,6 +274,11 @@ impl Arena {
         self.cells.links(number)
     }
 
+    /// The chain whose cell was last linked to that of a chain in the tree of keys. Mostly it still is; nothing is promised of it.
+    pub fn above(&self, number: u32) -> u32 {
+        self.cells.above(number)
+    }
+
     /// The order of a key to that of a chain.
     pub fn order(&self, number: u32, key: &[u8]) -> Ordering
         requires { number < length self.now.cells }

@@ -3,6 +3,7 @@ ghost use Rattle.std.specs.Prelude.{◌≡◌};
 ghost use Rattle.span_arena.specs.Cells as specs;
 ghost use Rattle.span_arena.specs.Links.{link_of};
 
+use crate::token::NO_CHAIN;
 use smallvec::SmallVec;
 use span_keycode::key::Key;
 use std::alloc::Global;
@@ -25,11 +26,13 @@ pub struct Links {
 }
 
 /// Links as a cell keeps them, in 12 bytes where `Links` has 20: an `Option` of a number has 8, so whether there is a link is kept
-/// apart from its number.
+/// apart from its number. In the 4 bytes beside them is the number of the cell that was last linked to this one. Contracts do not see it,
+/// and nothing rests on it: it is where a search may begin.
 #[derive(Debug, Drop)]
 pub(crate) struct StoredLinks {
     left: u32,
     right: u32,
+    above: u32,
     has_left: bool,
     has_right: bool,
     balance: Balance,
@@ -45,7 +48,7 @@ impl Model for StoredLinks {
 }
 
 impl StoredLinks {
-    pub(crate) fn new(links: Links) -> StoredLinks
+    pub(crate) fn new(links: Links, above: u32) -> StoredLinks
         ensures { result ≡ links }
     {
         let (has_left, left) = link_parts(links.left);
@@ -53,10 +56,16 @@ impl StoredLinks {
         StoredLinks {
             left,
             right,
+            above,
             has_left,
             has_right,
             balance: links.balance,
         }
+    }
+
+    /// The cell above, as it was noted last.
+    pub(crate) fn above(&self) -> u32 {
+        self.above
     }
 
     pub(crate) fn links(&self) -> Links
@@ -107,7 +116,7 @@ impl Cell {
         };
         Cell {
             key,
-            links: StoredLinks::new(links),
+            links: StoredLinks::new(links, NO_CHAIN),
         }
     }
 

@@ -3,6 +3,7 @@ ghost use Rattle.std.specs.Prelude.{◌≡◌, ◌<◌, ◌++◌, [], ◌∷◌,
 ghost use Rattle.span_arena.specs.Cells.{cell_at, kept_length, with_links};
 
 use crate::cell::{Cell, Links, StoredLinks};
+use crate::token::NO_CHAIN;
 use std::alloc::{AllocError, Global};
 use std::marker::Model;
 
@@ -38,6 +39,14 @@ fn length_of(cell: &Cell) -> u16
         len as u16
     } else {
         u16::MAX
+    }
+}
+
+// Whether a link leads to a cell.
+fn leads_to(link: Option<u32>, number: u32) -> bool {
+    match link {
+        None => false,
+        Some(other) => other == number,
     }
 }
 
@@ -93,12 +102,45 @@ impl Cells {
         self.cells[number as usize].links.links()
     }
 
-    /// Other links for a cell.
+    /// The cell that was last linked to this one; `NO_CHAIN` where none was, and where there is no cell of this number.
+    pub(crate) fn above(&self, number: u32) -> u32 {
+        match self.cells.get(number as usize) {
+            None => NO_CHAIN,
+            Some(cell) => cell.links.above(),
+        }
+    }
+
+    /// Other links for a cell. The cells that it was not linked to before keep its number.
     pub(crate) fn relink(&mut self, number: u32, links: Links)
         requires { number < length self.old }
         ensures { self.new ≡ with_links self.old number links }
     {
-        self.cells[number as usize].links = StoredLinks::new(links);
+        let old = self.links(number);
+        let above = self.above(number);
+        self.store(number, StoredLinks::new(links, above));
+        self.keep_above(number, old.left, links.left);
+        self.keep_above(number, old.right, links.right);
+    }
+
+    fn store(&mut self, number: u32, links: StoredLinks)
+        requires { number < length self.old }
+        ensures { self.new ≡ with_links self.old number links }
+    {
+        self.cells[number as usize].links = links;
+    }
+
+    // The cell that a link leads to keeps which cell is above it, unless the link led there before.
+    fn keep_above(&mut self, above: u32, old: Option<u32>, new: Option<u32>)
+        ensures { self.new ≡ self.old }
+    {
+        let Some(number) = new else {
+            return;
+        };
+        if leads_to(old, number) || number as usize >= self.len() {
+            return;
+        }
+        let links = self.links(number);
+        self.store(number, StoredLinks::new(links, above));
     }
 
     /// Another cell in the place of one. It takes no memory.

@@ -11,3 +11,6 @@ pub struct Chain {
 pub struct Node {
     pub(crate) number: u32,
 }
+
+/// No number of a chain.
+pub const NO_CHAIN: u32 = u32::MAX;

@@ -8,6 +8,7 @@ pub mod Freeing
 pub mod Fronts
 pub mod Hanging
 pub mod Holders
+pub mod Into
 pub mod Joined
 pub mod Keeping
 pub mod Lasts
@@ -15,6 +16,7 @@ pub mod Linking
 pub mod Looking
 pub mod Nearby
 pub mod Owning
+pub mod Parts
 pub mod Placing
 pub mod Puts
 pub mod Rising

@@ -154,7 +154,7 @@ within_more cs at t new j tree le some = elim (cases_eq j new) [
   | inr differs ↦ (let lt : j < length cs = tree.within j (omega (arith, one_other j new differs)) in omega (arith, places_more (length cs) new))
 ]
 
-put_left_at : (old mid new : List Cell) (l : Tree) (i : ℕ) (k : List ℕ) (b : Balance) (r : Tree) (key : List ℕ) (part after : Part)
+pub put_left_at : (old mid new : List Cell) (l : Tree) (i : ℕ) (k : List ℕ) (b : Balance) (r : Tree) (key : List ℕ) (part after : Part)
     → IsTree old (Some i) (Fork l i k b r) → byte_order key k ≡ Less → count part.cell (Fork l i k b r) ≡ 0 → IsAdded old mid l key part
     → new ≡ joined_left_cells part.grew mid i part.root → after ≡ joined_left_root part.grew mid i part
     → IsAdded old new (Fork l i k b r) key after

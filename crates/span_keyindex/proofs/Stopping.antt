@@ -141,7 +141,7 @@ tree_right cs l n k b r tree = record {
   within = λ j h. tree.within j (omega arith);
 }
 
-abbrev kept_part : ℕ → ℕ → Part
+abbrev pub kept_part : ℕ → ℕ → Part
 kept_part c root = record { cell = c; root = root; grew = false }
 
 lifted : (cs new : List Cell) (key : List ℕ) (c : ℕ) (t s : Tree) (x : ℕ) → IsRight s t → IsTree cs (root_of t) t → IsAboveRight key t → count c t ≡ 0 → Some x ≡ root_of s → IsAdded cs new s key (kept_part c x) → (y : ℕ) → Some y ≡ root_of t → IsAdded cs new t key (kept_part c y)

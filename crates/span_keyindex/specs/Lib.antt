@@ -15,3 +15,4 @@ pub mod Removals
 pub mod Splits
 pub mod Trees
 pub mod Walks
+pub mod Ways

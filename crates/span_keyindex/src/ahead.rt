@@ -5,11 +5,11 @@
 //! followed together, and each key is looked at, with its newest row where the caller is to read it. Nothing that a walk hands out
 //! rests on it.
 
-use crate::near::{NO_CHAIN, number_of};
+use crate::near::number_of;
 use crate::next::NextLinks;
 use crate::tree::TreeRoot;
 use span_arena::arena::Arena;
-use span_arena::token::Chain;
+use span_arena::token::{Chain, NO_CHAIN};
 use span_keycode::key::MOST_BYTES;
 
 /// More lanes do not go faster: what is waited for is then the walks over page tables, and few of them run at a time.
@@ -54,6 +54,16 @@ impl Ahead {
             has_rows: false,
             seen: FIRST_KEYS,
         }
+    }
+
+    /// How many keys are looked at already.
+    pub(crate) fn seen(&self) -> usize {
+        self.seen
+    }
+
+    /// The walk has passed over some of these.
+    pub(crate) fn pass_seen(&mut self, keys: usize) {
+        self.seen = self.seen.saturating_sub(keys);
     }
 
     /// The walk is at a chain; it looks ahead where it has come to the end of what was looked at.

@@ -6,6 +6,7 @@ ghost use Rattle.span_keyindex.specs.Entries.{HasChain, IsAbsent, IsRising, IsSl
 ghost use Rattle.span_keyindex.specs.Indexes.{AreTwoSearches, IsEmptyIndex, IsIndexOf, IsSearchCost, IsSlotCost, entries_of};
 ghost use Rattle.span_keyindex.specs.Limits.{search_lanes};
 ghost use Rattle.span_keyindex.specs.Splits.{IsPartFrom};
+ghost use Rattle.span_keyindex.specs.Ways.{IsNearSlotCost};
 
 use crate::chains::{Chains, chains_from, chains_of};
 use crate::find::find;
@@ -13,7 +14,7 @@ use crate::near::{Near, SEARCH_LANES, near_key, near_keys};
 use crate::next::NextLinks;
 use crate::remove::remove_unused;
 use crate::split::copy_keys;
-use crate::tree::{TreeRoot, slot_for};
+use crate::tree::{TreeRoot, slot_for, slot_near};
 use crate::walk::{Walk, all, walk_from, walk_range, walk_under};
 use span_arena::arena::Arena;
 use span_arena::steps::Steps;
@@ -244,6 +245,39 @@ impl KeyIndex {
     {
         let mut key = key;
         let number = slot_for(arena, &mut self.nexts, &mut self.tree, &mut key, steps)?;
+        Ok(Chain { number })
+    }
+
+    /// As `slot_for`, where `near` is mostly the number of a chain near the key, as `near` of this index gives it. Where that is so, a
+    /// new key is put into a small part of the tree, and the rest is not looked at. Among fewer than 2 ^ d keys at most 4 d are compared.
+    pub fn slot_near<C: Ledger, W: Ledger>(
+        &mut self,
+        arena: &mut Arena,
+        key: Key,
+        near: u32,
+        steps: &mut Steps<C, W>,
+    ) -> Result<Chain, Refusal>
+        requires { IsIndexOf self.old arena.old }
+        ensures ok { IfOk result
+            (IsSlotFor (entries_of self.old arena.old) (entries_of self.new arena.new) arena.old arena.new key) }
+        ensures chain { IfOk result (λ chain. IsChain arena.new chain.number) }
+        ensures index { OnErr result (self.new ≡ self.old) }
+        ensures arena { OnErr result (arena.new ≡ arena.old) }
+        ensures memory { IfErr result (λ why. why ≡ Refusal.OutOfMemory) }
+        ensures absent { OnErr result (IsAbsent (entries_of self.old arena.old) key) }
+        ensures own { IsIndexOf self.new arena.new }
+        ensures cost { (d : ℕ) → length (entries_of self.old arena.old) < 2 ^ d
+            → IsNearSlotCost d steps.old steps.new }
+    {
+        let mut key = key;
+        let number = slot_near(
+            arena,
+            &mut self.nexts,
+            &mut self.tree,
+            &mut key,
+            near,
+            steps,
+        )?;
         Ok(Chain { number })
     }
 

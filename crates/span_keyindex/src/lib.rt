@@ -7,12 +7,14 @@
 mod ahead;
 mod build;
 pub mod chains;
+mod climb;
 mod find;
 pub mod index;
 mod join;
 mod last;
 pub mod near;
 mod next;
+mod part;
 mod put;
 mod remove;
 mod split;

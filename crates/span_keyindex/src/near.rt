@@ -12,6 +12,7 @@ ghost use Rattle.span_keyindex.specs.declared.near.TheConstants.{SEARCH_LANES};
 use crate::index::KeyIndex;
 use span_arena::arena::Arena;
 use span_arena::steps::Steps;
+use span_arena::token::NO_CHAIN;
 use span_keycode::key::Key;
 use std::cmp::Ordering;
 use std::sync::ledger::Ledger;
@@ -23,9 +24,6 @@ pub const SEARCH_LANES: usize = 16;
 pub fn lanes_are_stated()
     ensures { SEARCH_LANES ≡ search_lanes }
 {}
-
-/// No number of a chain.
-pub const NO_CHAIN: u32 = u32::MAX;
 
 /// A search that goes on: the next cell, and that of the last key so far that is not after the one searched for.
 #[derive(Clone, Copy, Debug)]

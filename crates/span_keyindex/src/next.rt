@@ -2,7 +2,7 @@
 ghost use Rattle.std.specs.Prelude.{◌≡◌, ◌<◌, [], length, None, IfErr, IfSome, OnErr, OnOk};
 ghost use Rattle.span_keyindex.specs.Nexts.{link_to, next_of, with_cell, with_room, without_first, without_last};
 
-use crate::near::NO_CHAIN;
+use span_arena::token::NO_CHAIN;
 use span_value::refusal::Refusal;
 use std::alloc::Global;
 use std::marker::Model;

@@ -1,14 +1,17 @@
 //! The tree of keys, and the links from each to the next.
 ghost use Rattle.std.specs.Prelude.{◌≡◌, ℕ, ◌<◌, ◌^◌, false, length, IfOk, IfErr, OnErr};
+ghost use Rattle.span_keyindex.specs.Arenas.{IsArenaOf};
 ghost use Rattle.span_keyindex.specs.Entries.{IsAbsent};
 ghost use Rattle.span_keyindex.specs.Indexes.{IsIndex, IsSlot, IsSlotCost, entries_at, tree_of};
 ghost use Rattle.span_keyindex.specs.Lasts.{is_after, IsTreeCost};
 ghost use Rattle.span_keyindex.specs.Puts.{AreChains};
 ghost use Rattle.span_keyindex.specs.Trees.{height};
+ghost use Rattle.span_keyindex.specs.Ways.{IsNearSlotCost, IsPartFor};
 
 use crate::join::Part;
 use crate::last::{is_after, put_last};
 use crate::next::NextLinks;
+use crate::part::part_for;
 use crate::put::add_key;
 use span_arena::arena::Arena;
 use span_arena::steps::Steps;
@@ -98,5 +101,76 @@ fn put_among<C: Ledger, W: Ledger>(
     if part.grew {
         index.levels += 1;
     }
+    Ok(part.cell)
+}
+
+/// As `slot_for`, where `near` is mostly the number of a chain near the key. Where a part of the tree is found that alone is changed, the key
+/// is put into that.
+pub(crate) fn slot_near<C: Ledger, W: Ledger>(
+    arena: &mut Arena,
+    nexts: &mut NextLinks,
+    index: &mut TreeRoot,
+    key: &mut Key,
+    near: u32,
+    steps: &mut Steps<C, W>,
+) -> Result<u32, Refusal>
+    requires own { IsIndex arena.old.cells nexts.old index.old }
+    requires chains { IsArenaOf (entries_at arena.old.cells index.old) arena.old }
+    ensures ok { IfOk result (IsSlot arena.old arena.new nexts.old nexts.new index.old index.new key.old) }
+    ensures arena { OnErr result (arena.new ≡ arena.old) }
+    ensures nexts { OnErr result (nexts.new ≡ nexts.old) }
+    ensures index { OnErr result (index.new ≡ index.old) }
+    ensures memory { IfErr result (λ why. why ≡ Refusal.OutOfMemory) }
+    ensures absent { OnErr result (IsAbsent (entries_at arena.old.cells index.old) key.old) }
+    ensures own { IsIndex arena.new.cells nexts.new index.new }
+    ensures cost { (d : ℕ) → length (entries_at arena.old.cells index.old) < 2 ^ d
+        → IsNearSlotCost d steps.old steps.new }
+{
+    if is_after(arena, index.last, key.as_slice(), steps) {
+        return put_last(arena, nexts, index, key, steps);
+    }
+    match part_for(arena, nexts, index, key.as_slice(), near, steps) {
+        Some(cell) => put_into(arena, nexts, index, cell, key, steps),
+        None => put_among(arena, nexts, index, key, steps),
+    }
+}
+
+// As `slot_for`, of a key that is put into a part of the tree. What is above the part stays as it was.
+fn put_into<C: Ledger, W: Ledger>(
+    arena: &mut Arena,
+    nexts: &mut NextLinks,
+    index: &TreeRoot,
+    cell: u32,
+    key: &mut Key,
+    steps: &mut Steps<C, W>,
+) -> Result<u32, Refusal>
+    requires own { IsIndex arena.old.cells nexts.old index.now }
+    requires chains { AreChains arena.old (tree_of arena.old.cells index.now) }
+    requires among { is_after arena.old.cells index.now.last key.old ≡ false }
+    requires part { IsPartFor arena.old.cells index.now key.old cell }
+    ensures ok { IfOk result (IsSlot arena.old arena.new nexts.old nexts.new index.now index.now key.old) }
+    ensures arena { OnErr result (arena.new ≡ arena.old) }
+    ensures nexts { OnErr result (nexts.new ≡ nexts.old) }
+    ensures memory { IfErr result (λ why. why ≡ Refusal.OutOfMemory) }
+    ensures absent { OnErr result (IsAbsent (entries_at arena.old.cells index.now) key.old) }
+    ensures own { IsIndex arena.new.cells nexts.new index.now }
+    ensures cost { IsTreeCost (height (tree_of arena.old.cells index.now)) (tree_of arena.old.cells index.now)
+        steps.old steps.new }
+{
+    let mut part = Part {
+        cell: 0,
+        root: 0,
+        grew: false,
+    };
+    let _is_added = add_key(
+        arena,
+        nexts,
+        Some(cell),
+        None,
+        index.levels,
+        key,
+        &mut part,
+        steps,
+    )?;
     Ok(part.cell)
 }

@@ -1,10 +1,10 @@
 //! A walk over keys in order.
 ghost use Rattle.std.specs.Iterator.{YieldsFirstBy, item_count};
-ghost use Rattle.std.specs.Prelude.{◌≡◌, ℕ, ◌*◌, ◌<◌, ◌^◌, [], length};
+ghost use Rattle.std.specs.Prelude.{◌≡◌, ℕ, ◌*◌, ◌<◌, ◌≤◌, ◌^◌, [], false, length, IsTrue};
 ghost use Rattle.span_keyindex.specs.Entries.{entries_from, entries_under, entry_of};
 ghost use Rattle.span_keyindex.specs.Items.{entries_between};
 ghost use Rattle.span_keyindex.specs.Indexes.{entries_at, AreTwoSearches, IsIndex, IsSearchCost};
-ghost use Rattle.span_keyindex.specs.Walks.{begins_long, is_stop, without_long, without_long_first};
+ghost use Rattle.span_keyindex.specs.Walks.{begins_long, is_stop, walked_in, without_long, without_long_first, AreBelow};
 
 use crate::ahead::Ahead;
 use crate::find::{first_from, first_past};
@@ -80,7 +80,25 @@ impl<'a> Walk<'a> {
         ensures { self.new ≡ without_long most self.old }
     {
         self.ahead.most = most;
-        while self.skip_first_long(most) {}
+        if self.skip_first_long(most) {
+            while self.skip_seen(most) {}
+        }
+    }
+
+    // Passes over keys that have more than `most` bytes, as far as was looked ahead and then one more; whether there may be others.
+    fn skip_seen(&mut self, most: usize) -> bool
+        ensures rest { without_long most self.new ≡ without_long most self.old }
+        ensures more { IsTrue result → length self.new < length self.old }
+        ensures none { result ≡ false → begins_long most self.new ≡ false }
+    {
+        let last = self.left.saturating_sub(self.ahead.seen());
+        let (at, left) = past_long(
+            self.arena, self.nexts, self.at, self.stop, most, self.left, last,
+        );
+        self.ahead.pass_seen(self.left - left);
+        self.at = at;
+        self.left = left;
+        left <= last && self.skip_first_long(most)
     }
 
     // Passes over the first key, if it has more than `most` bytes; whether it has.
@@ -102,6 +120,43 @@ impl<'a> Walk<'a> {
         self.at = self.nexts.after(at);
         true
     }
+}
+
+// From a chain on past the keys that have more than `most` bytes, while more than `last` chains are left: the chain come to, and how many are
+// left. What the loop reads again and again lies in variables of its own: a walk that is lent is written to memory at each key.
+fn past_long(
+    arena: &Arena,
+    nexts: &NextLinks,
+    at: Option<u32>,
+    stop: Option<u32>,
+    most: usize,
+    left: usize,
+    last: usize,
+) -> (Option<u32>, usize)
+    requires below { AreBelow (length arena.now.cells) (walked_in arena.now.cells nexts.now left at stop) }
+    requires places { length nexts.now.next ≡ length arena.now.cells }
+    requires last { last ≤ left }
+    ensures rest { without_long most (walked_in arena.now.cells nexts.now result.1 result.0 stop)
+        ≡ without_long most (walked_in arena.now.cells nexts.now left at stop) }
+    ensures below { AreBelow (length arena.now.cells) (walked_in arena.now.cells nexts.now result.1 result.0 stop) }
+    ensures fewer { length (walked_in arena.now.cells nexts.now result.1 result.0 stop)
+        ≤ length (walked_in arena.now.cells nexts.now left at stop) }
+    ensures passed { result.1 ≤ left }
+    ensures none { last < result.1 → begins_long most (walked_in arena.now.cells nexts.now result.1 result.0 stop) ≡ false }
+{
+    let mut at = at;
+    let mut left = left;
+    while left > last {
+        let Some(number) = at else {
+            return (at, left);
+        };
+        if is_stop(number, stop) || arena.has_short_key(number, most) {
+            return (at, left);
+        }
+        at = nexts.after(number);
+        left -= 1;
+    }
+    (at, left)
 }
 
 fn is_stop(at: u32, stop: Option<u32>) -> bool

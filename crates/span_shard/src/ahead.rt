@@ -2,8 +2,9 @@
 ghost use Rattle.span_mutate.specs.Typed.{AreTypedMutations};
 
 use super::lookups::{Lookups, key_of};
+use span_arena::token::NO_CHAIN;
 use span_keycode::key::Key;
-use span_keyindex::near::{NO_CHAIN, SEARCH_LANES};
+use span_keyindex::near::SEARCH_LANES;
 use span_mutate::mutation::CheckedMutation;
 use span_schema::schema::Schema;
 use std::alloc::{AllocError, Global};

@@ -8,7 +8,7 @@ ghost use Rattle.span_shard.specs.Ledgers.{Opens};
 
 use span_arena::arena::Arena;
 use span_arena::steps::Steps;
-use span_arena::token::Chain;
+use span_arena::token::{Chain, NO_CHAIN};
 use span_keycode::key::Key;
 use span_keycode::range::KeyRange;
 use span_keyindex::chains::Chains;
@@ -71,8 +71,43 @@ pub(crate) fn slot_near(
 {
     match index.chain_at(arena, key.as_slice(), near) {
         Some(chain) => Ok(chain),
-        None => slot_for(index, arena, key),
+        None if near == NO_CHAIN => slot_for(index, arena, key),
+        None => put_near(index, arena, key, near),
     }
+}
+
+fn put_near(index: &mut KeyIndex, arena: &mut Arena, key: Key, near: u32) -> Result<Chain, Refusal>
+    requires { IsIndexOf index.old arena.old }
+    ensures ok { IfOk result (IsSlotFor (entries_of index.old arena.old) (entries_of index.new arena.new) arena.old arena.new key) }
+    ensures chain { IfOk result (λ chain. IsChain arena.new chain.number) }
+    ensures index { OnErr result (index.new ≡ index.old) }
+    ensures arena { OnErr result (arena.new ≡ arena.old) }
+    ensures memory { IfErr result (λ why. why ≡ Refusal.OutOfMemory) }
+    ensures own { IsIndexOf index.new arena.new }
+{
+    counted_put_near::<Brand, Brand>(index, arena, key, near, Blank::new(1), Blank::new(1))
+}
+
+fn counted_put_near<C: Ledger, W: Ledger>(
+    index: &mut KeyIndex,
+    arena: &mut Arena,
+    key: Key,
+    near: u32,
+    compared: Blank,
+    written: Blank,
+) -> Result<Chain, Refusal>
+    requires own { IsIndexOf index.old arena.old }
+    requires opens_compared { Opens C.name C.parts compared.name compared.parts }
+    requires opens_written { Opens W.name W.parts written.name written.parts }
+    ensures ok { IfOk result (IsSlotFor (entries_of index.old arena.old) (entries_of index.new arena.new) arena.old arena.new key) }
+    ensures chain { IfOk result (λ chain. IsChain arena.new chain.number) }
+    ensures index { OnErr result (index.new ≡ index.old) }
+    ensures arena { OnErr result (arena.new ≡ arena.old) }
+    ensures memory { IfErr result (λ why. why ≡ Refusal.OutOfMemory) }
+    ensures own { IsIndexOf index.new arena.new }
+{
+    let mut steps: Steps<C, W> = Steps::new(compared, written);
+    index.slot_near(arena, key, near, &mut steps)
 }
 
 /// Chains near up to 16 keys.

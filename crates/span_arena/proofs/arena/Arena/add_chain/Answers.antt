@@ -1,7 +1,6 @@
-use Rattle.std.proofs.Common.{◌≡◌, ◌∙◌, ◌<◌, ◌++◌, List, ◌∷◌, [], refl, sym, ap, arith, length, length-set, set}
+use Rattle.std.proofs.Common.{◌≡◌, ◌∙◌, ◌<◌, refl, sym, ap, arith, length, length-set, set}
 use Rattle.span_arena.specs.Content.{Content, with_at}
 use Rattle.span_arena.specs.Cells.{new_cell}
-use Rattle.span_arena.specs.declared.cell.Cell.{Cell}
 use Rattle.span_arena.specs.Runs.{AreSpare}
 use Rattle.span_arena.proofs.Spares.{cells_set, cells_more, few-set, few-push, spare_not_used, spare_in_range, spare_was, are_spare-taken, are_spare-push, all_chains, sound-new_chain, content-new_chain, sound-more_chains, content-more_chains}
 use Rattle.span_arena.proofs.Falling.{falling-new_chain}

@@ -1,4 +1,4 @@
-use Rattle.std.proofs.Common.{◌≡◌, ◌+◌, ◌<◌, ◌≤◌, length}
+use Rattle.std.proofs.Common.{◌≡◌, ◌+◌, ◌≤◌, length}
 use Rattle.span_arena.specs.Content.{versions}
 use Rattle.span_arena.specs.Limits.{most_chains}
 use Rattle.span_arena.specs.declared.record.ChainRecord.TheVariants as chain
