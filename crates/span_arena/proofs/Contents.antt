@@ -11,7 +11,7 @@ use Rattle.span_arena.specs.declared.record.NodeRecord.{NodeRecord}
 use Rattle.span_arena.specs.declared.record.ChainRecord.{ChainRecord}
 use Rattle.span_arena.specs.declared.record.ChainRecord.TheVariants as chain
 use Rattle.span_arena.specs.declared.record.VersionLinks.{VersionLinks}
-use Rattle.span_arena.specs.declared.record.Place.TheVariants.{Free, Reserved, Linked}
+use Rattle.span_arena.specs.declared.record.NodeUse.TheVariants.{Free, Reserved, Linked}
 use Rattle.span_arena.specs.Content.{Content, Prepared, versions, versions_in, IsInOrder, is_unused, live, linked, linked_as, given_back, IsSomePrepared, IsReserved, with_at, one_for, prepared_for}
 use Rattle.span_arena.specs.Runs.{walk, IsFreeList, IsSound, node_at, blank, chain_of, record_at, links_at, links_of, prepared_of, content, version_of}
 use Rattle.span_arena.proofs.Frames.{changed-set, changed-push, reserved_apart, free_apart}
@@ -31,7 +31,7 @@ parts_equal cs ds ps qs free most cells e f = ap (λ (x : List (Option (List Ver
 pub record IsHeld (nodes : List NodeRecord) (rs : List ChainRecord) (j : ℕ) (cell : NodeRecord) (c : ℕ) : Type 0 where
   pub in_range : j < length nodes
   pub at : node_at nodes j ≡ cell
-  pub was : (node_at nodes j).place ≡ Reserved c
+  pub was : (node_at nodes j).used ≡ Reserved c
   pub prepared : get_or (map prepared_of nodes) j None ≡ Some (record { chain = c; image = (version_of cell).image })
   pub links : VersionLinks
   pub used : record_at rs c ≡ chain.Used links
@@ -61,7 +61,7 @@ module _ (nodes : List NodeRecord) (rs : List ChainRecord) (free count most : �
       let b : one_for c (get_or (map prepared_of nodes) j None) ≡ 1 = rw e (one_for-same c image) in
       omega (arith, sound.prepared c)
 
-  pub held : (j : ℕ) (cell : NodeRecord) (P : Prepared → Type 0) (c : ℕ) → cell.place ≡ Reserved c → cell ≡ get_or nodes j cell → IsSomePrepared (get_or (map prepared_of nodes) j None) P
+  pub held : (j : ℕ) (cell : NodeRecord) (P : Prepared → Type 0) (c : ℕ) → cell.used ≡ Reserved c → cell ≡ get_or nodes j cell → IsSomePrepared (get_or (map prepared_of nodes) j None) P
       → IsHeld nodes rs j cell c × P (record { chain = c; image = (version_of cell).image })
   held j cell P c place read h =
       let lt : j < length nodes = in_range-prepared nodes j P h in
@@ -70,7 +70,7 @@ module _ (nodes : List NodeRecord) (rs : List ChainRecord) (free count most : �
       let h3 : P (record { chain = c; image = (version_of cell).image }) = rw e at h in
       let found = used_prepared rs c (some_prepared c j (version_of cell).image e) in
       let n : (links_at rs c).prepared ≡ found.0.prepared = ap (λ (r : ChainRecord). (links_of r).prepared) found.1 in
-      (record { in_range = lt; at = at; was = ap (λ (n : NodeRecord). n.place) at ∙ place; prepared = e; links = found.0; used = found.1; some = (let s : 0 < (links_at rs c).prepared = some_prepared c j (version_of cell).image e in omega arith) }, h3)
+      (record { in_range = lt; at = at; was = ap (λ (n : NodeRecord). n.used) at ∙ place; prepared = e; links = found.0; used = found.1; some = (let s : 0 < (links_at rs c).prepared = some_prepared c j (version_of cell).image e in omega arith) }, h3)
 
   -- ---- how many
 
@@ -94,13 +94,13 @@ module _ (nodes : List NodeRecord) (rs : List ChainRecord) (free count most : �
   -- ---- the calls
 
   module _ (j : ℕ) (cell : NodeRecord) (c : ℕ) (is_held : IsHeld nodes rs j cell c) (l : VersionLinks) (used : record_at rs c ≡ chain.Used l) where
-    apart : (d : ℕ) → (node_at nodes j).place ≢ Linked d
-    apart d = reserved_apart (node_at nodes j).place c d is_held.was
+    apart : (d : ℕ) → (node_at nodes j).used ≢ Linked d
+    apart d = reserved_apart (node_at nodes j).used c d is_held.was
 
     pub chain_versions : versions (content nodes rs count most cells) c ≡ walk (node_at nodes) l.count l.newest
     chain_versions = ap versions_in (chain_at (node_at nodes) rs c l used)
 
-    pub content-give_back : (x : NodeRecord) → x.place ≡ Free (count + 1)
+    pub content-give_back : (x : NodeRecord) → x.used ≡ Free (count + 1)
         → content (set nodes j x) (set rs c (chain.Used (with_prepared l (l.prepared - 1)))) (count + 1) most cells ≡ given_back (content nodes rs count most cells) j
     content-give_back x is_free =
         let g = node_at (set nodes j x) in
@@ -108,7 +108,7 @@ module _ (nodes : List NodeRecord) (rs : List ChainRecord) (free count most : �
         (chains_step rs c l (with_prepared l (l.prepared - 1)) used g refl refl ∙ maps_stay nodes rs free count most sound g j (changed-set nodes j x) apart)
         (map-set prepared_of nodes j x ∙ ap (set (map prepared_of nodes) j) (is_none-free x (count + 1) is_free))
 
-    pub content-link : (x : NodeRecord) (s : ℕ) → x.place ≡ Linked c → (version_of x) ≡ record { timestamp = s; image = (version_of cell).image } → x.next ≡ l.newest
+    pub content-link : (x : NodeRecord) (s : ℕ) → x.used ≡ Linked c → (version_of x) ≡ record { timestamp = s; image = (version_of cell).image } → x.next ≡ l.newest
         → content (set nodes j x) (set rs c (chain.Used (record { newest = j; count = l.count + 1; prepared = l.prepared - 1 }))) count most cells ≡ linked (content nodes rs count most cells) j s
     content-link x s is_linked version next =
         let f = node_at nodes in
@@ -127,20 +127,20 @@ module _ (nodes : List NodeRecord) (rs : List ChainRecord) (free count most : �
         ∙ sym (ap (linked_as (content nodes rs count most cells) j s) is_held.prepared)
 
   -- the first of the free nodes, and what the code reads there
-  pub first_free : 0 < count → (free < length nodes) × ((node_at nodes free).place ≡ Free count) × ((n : NodeRecord) → n ≡ get_or nodes free n → node_at nodes free ≡ n)
+  pub first_free : 0 < count → (free < length nodes) × ((node_at nodes free).used ≡ Free count) × ((n : NodeRecord) → n ≡ get_or nodes free n → node_at nodes free ≡ n)
   first_free some =
       let e : count ≡ suc (count - 1) = omega arith in
       let list : IsFreeList (node_at nodes) (suc (count - 1)) free = rw e at sound.free_list in
       let lt : free < length nodes = elim (cases_lt free (length nodes)) [
         | inl lt ↦ lt
         | inr ge ↦ (let b : node_at nodes free ≡ blank = get_or-eq_default nodes blank ge in
-            let p : blank.place ≡ Free (suc (count - 1)) = rw b at list.0 in
+            let p : blank.used ≡ Free (suc (count - 1)) = rw b at list.0 in
             let z : 0 ≡ suc (count - 1) = cc in omega arith)
       ] in
       (lt, list.0 ∙ ap Free (sym e), λ n read. get_or_default nodes free blank n lt ∙ sym read)
 
   module _ (c : ℕ) (l : VersionLinks) (used : record_at rs c ≡ chain.Used l) where
-    pub content-reuse : (image : Option (List ℕ)) (x : NodeRecord) → 0 < count → free < length nodes → (node_at nodes free).place ≡ Free count → prepared_of x ≡ Some (record { chain = c; image = image })
+    pub content-reuse : (image : Option (List ℕ)) (x : NodeRecord) → 0 < count → free < length nodes → (node_at nodes free).used ≡ Free count → prepared_of x ≡ Some (record { chain = c; image = image })
         → IsReserved (content nodes rs count most cells) (content (set nodes free x) (set rs c (chain.Used (with_prepared l (l.prepared + 1)))) (count - 1) most cells) c image free
     content-reuse image x some in_range is_free is_prepared =
         let g = node_at (set nodes free x) in
@@ -153,7 +153,7 @@ module _ (nodes : List NodeRecord) (rs : List ChainRecord) (free count most : �
           from_free = λ _. lt;
           now = parts_equal _ _ _ _ (count - 1) most cells
               (chains_step rs c l (with_prepared l (l.prepared + 1)) used g refl refl
-              ∙ maps_stay nodes rs free count most sound g free (changed-set nodes free x) (λ d. free_apart (node_at nodes free).place count d is_free))
+              ∙ maps_stay nodes rs free count most sound g free (changed-set nodes free x) (λ d. free_apart (node_at nodes free).used count d is_free))
               (rw t (map-set prepared_of nodes free x ∙ ap (set (map prepared_of nodes) free) is_prepared));
         }
 
@@ -174,7 +174,7 @@ module _ (nodes : List NodeRecord) (rs : List ChainRecord) (free count most : �
           from_free = λ some. absurd (omega arith);
           now = parts_equal _ (map (chain_of (node_at nodes)) rs) _ more count most cells
               (chains_step rs c l (with_prepared l (l.prepared + 1)) used g refl refl
-              ∙ maps_stay nodes rs free count most sound g (length nodes) (changed-push nodes x) (λ d. free_apart (node_at nodes (length nodes)).place 0 d (ap (λ (n : NodeRecord). n.place) end_is)))
+              ∙ maps_stay nodes rs free count most sound g (length nodes) (changed-push nodes x) (λ d. free_apart (node_at nodes (length nodes)).used 0 d (ap (λ (n : NodeRecord). n.used) end_is)))
               (rw t (map-append prepared_of nodes (x ∷ []) ∙ ap (λ (p : Option Prepared). map prepared_of nodes ++ p ∷ []) is_prepared))
               ∙ ap (λ (n : ℕ). of_parts (map (chain_of (node_at nodes)) rs) more n most cells) (sym less);
         }

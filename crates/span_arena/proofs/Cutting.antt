@@ -11,7 +11,7 @@ use Rattle.span_arena.specs.declared.record.ChainRecord.{ChainRecord}
 use Rattle.span_arena.specs.declared.record.ChainRecord.TheVariants as chain
 use Rattle.span_arena.specs.declared.cell.Cell.{Cell}
 use Rattle.span_arena.specs.declared.record.VersionLinks.{VersionLinks}
-use Rattle.span_arena.specs.declared.record.Place.TheVariants.{Free, Linked}
+use Rattle.span_arena.specs.declared.record.NodeUse.TheVariants.{Free, Linked}
 use Rattle.span_arena.specs.Content.{versions, versions_in, kept_upto, kept_by, kept_at, with_kept, sum_for, one_if, one_for, prepared_for}
 use Rattle.span_arena.specs.Images.{image_of}
 use Rattle.span_arena.specs.Runs.{walk, follow, IsRun, IsSomeRun, IsAbove, IsSound, IsCut, IsTrimming, node_at, blank, chain_of, record_at, links_at, links_of, prepared_of, content, total, version_of}
@@ -176,13 +176,13 @@ trimming_ends nodes rs free count most c left at trimming none = record {
 }
 
 -- the first of a run, and the others
-first_of : (f : ℕ → NodeRecord) (rank : ℕ → ℕ) (c bound k h : ℕ) → 0 < k → IsRun f rank c bound k h → ((f h).place ≡ Linked c) × (rank h < bound) × IsRun f rank c (rank h) (k - 1) (f h).next
+first_of : (f : ℕ → NodeRecord) (rank : ℕ → ℕ) (c bound k h : ℕ) → 0 < k → IsRun f rank c bound k h → ((f h).used ≡ Linked c) × (rank h < bound) × IsRun f rank c (rank h) (k - 1) (f h).next
 first_of f rank c bound zero h some run = absurd (omega arith)
 first_of f rank c bound (suc k) h some run = (run.0, run.1, rw sub-one run.2)
 
 -- one more node is freed
 module _ (nodes : List NodeRecord) (rs : List ChainRecord) (free count most c left at : ℕ) (trimming : IsTrimming nodes rs free count most c left at) (some : 0 < left) where
-  front : ((node_at nodes at).place ≡ Linked c) × (trimming.rank at < trimming.low) × IsRun (node_at nodes) trimming.rank c (trimming.rank at) (left - 1) (node_at nodes at).next
+  front : ((node_at nodes at).used ≡ Linked c) × (trimming.rank at < trimming.low) × IsRun (node_at nodes) trimming.rank c (trimming.rank at) (left - 1) (node_at nodes at).next
   front = first_of (node_at nodes) trimming.rank c trimming.low left at some trimming.loose
 
   pub trim_in_range : at < length nodes
@@ -198,8 +198,8 @@ module _ (nodes : List NodeRecord) (rs : List ChainRecord) (free count most c le
           let r = above_stays (node_at nodes) (node_at (set nodes at x)) trimming.rank at changed c trimming.top trimming.low (links_at rs c).count (links_at rs c).newest front.1 trimming.above run in
           rw (← same) (r.0, r.2))
       | inr differs ↦ (
-        run_stays (node_at nodes) (node_at (set nodes at x)) at changed trimming.rank d trimming.top (links_at rs d).count (links_at rs d).newest (linked_apart (node_at nodes at).place c d front.0 differs) (trimming.runs d),
-        walk_stays (node_at nodes) (node_at (set nodes at x)) at changed trimming.rank d trimming.top (links_at rs d).count (links_at rs d).newest (linked_apart (node_at nodes at).place c d front.0 differs) (trimming.runs d),
+        run_stays (node_at nodes) (node_at (set nodes at x)) at changed trimming.rank d trimming.top (links_at rs d).count (links_at rs d).newest (linked_apart (node_at nodes at).used c d front.0 differs) (trimming.runs d),
+        walk_stays (node_at nodes) (node_at (set nodes at x)) at changed trimming.rank d trimming.top (links_at rs d).count (links_at rs d).newest (linked_apart (node_at nodes at).used c d front.0 differs) (trimming.runs d),
       )
     ]
 
@@ -212,12 +212,12 @@ module _ (nodes : List NodeRecord) (rs : List ChainRecord) (free count most c le
     prepared_same : prepared_of x ≡ None → map prepared_of (set nodes at x) ≡ map prepared_of nodes
     prepared_same none = map-set_same prepared_of nodes at x blank (none ∙ sym was_none)
 
-    pub trim_content : (cells : List Cell) (n : ℕ) → x.place ≡ Free n → (k : ℕ) → content (set nodes at x) rs k most cells ≡ content nodes rs k most cells
+    pub trim_content : (cells : List Cell) (n : ℕ) → x.used ≡ Free n → (k : ℕ) → content (set nodes at x) rs k most cells ≡ content nodes rs k most cells
     trim_content cells n is_free k = parts_equal _ _ _ _ k most cells
         (chains_stay (node_at nodes) (node_at (set nodes at x)) rs (λ d. (chain_stays d).1))
         (prepared_same (is_none-free x n is_free))
 
-    pub trim_sound : x.place ≡ Free (count + 1) → x.next ≡ free → IsTrimming (set nodes at x) rs at (count + 1) most c (left - 1) (node_at nodes at).next
+    pub trim_sound : x.used ≡ Free (count + 1) → x.next ≡ free → IsTrimming (set nodes at x) rs at (count + 1) most c (left - 1) (node_at nodes at).next
     trim_sound is_free next =
         let stay : map prepared_of (set nodes at x) ≡ map prepared_of nodes = prepared_same (is_none-free x (count + 1) is_free) in
         let sums : sum_for one_if (map prepared_of (set nodes at x)) ≡ sum_for one_if (map prepared_of nodes) = ap (sum_for one_if) stay in

@@ -11,7 +11,7 @@ use Rattle.span_arena.specs.declared.record.ChainRecord.{ChainRecord}
 use Rattle.span_arena.specs.declared.record.ChainRecord.TheVariants as chain
 use Rattle.span_arena.specs.declared.cell.Cell.{Cell}
 use Rattle.span_arena.specs.declared.record.VersionLinks.{VersionLinks}
-use Rattle.span_arena.specs.declared.record.Place.TheVariants.{Free, Linked}
+use Rattle.span_arena.specs.declared.record.NodeUse.TheVariants.{Free, Linked}
 use Rattle.span_arena.specs.Content.{Content, Prepared, with_versions, with_free_node, sum_for, one_if, one_for, prepared_for}
 use Rattle.span_arena.specs.Runs.{walk, follow, IsRun, IsFreeList, IsSound, IsTrimming, node_at, blank, chain_of, record_at, links_at, links_of, prepared_of, content, version_of}
 use Rattle.span_arena.proofs.Frames.{IsChanged, run_stays, walk_stays, free_stays, changed-set, changed-push, free_apart}
@@ -22,7 +22,7 @@ use Rattle.span_arena.proofs.Contents.{of_parts, parts_equal}
 use Rattle.span_arena.proofs.Cutting.{walk-snoc, follow-snoc}
 
 -- where a run in which j does not lie ends stays
-follow_stays : (f g : ℕ → NodeRecord) (j : ℕ) → IsChanged f g j → (rank : ℕ → ℕ) (c bound k h : ℕ) → (f j).place ≢ Linked c → IsRun f rank c bound k h → follow g k h ≡ follow f k h
+follow_stays : (f g : ℕ → NodeRecord) (j : ℕ) → IsChanged f g j → (rank : ℕ → ℕ) (c bound k h : ℕ) → (f j).used ≢ Linked c → IsRun f rank c bound k h → follow g k h ≡ follow f k h
 follow_stays f g j changed rank c bound zero h apart run = refl
 follow_stays f g j changed rank c bound (suc k) h apart run =
     let e : g h ≡ f h = changed.others h (λ same. apart (rw same at run.0)) in
@@ -40,19 +40,19 @@ lifted_elsewhere : (rank : ℕ → ℕ) (j i : ℕ) → i ≢ j → lifted rank 
 unfolding lifted
 lifted_elsewhere rank j i differs = let t : nat_eq i j ≡ false = grind (arith, nat_tests) in rw t refl
 
-run_lifted : (f : ℕ → NodeRecord) (rank : ℕ → ℕ) (j c bound k h : ℕ) → (f j).place ≢ Linked c → IsRun f rank c bound k h → IsRun f (lifted rank j) c (suc bound) k h
+run_lifted : (f : ℕ → NodeRecord) (rank : ℕ → ℕ) (j c bound k h : ℕ) → (f j).used ≢ Linked c → IsRun f rank c bound k h → IsRun f (lifted rank j) c (suc bound) k h
 run_lifted f rank j c bound zero h apart run = tt
 run_lifted f rank j c bound (suc k) h apart run =
     let e : lifted rank j h ≡ suc (rank h) = lifted_elsewhere rank j h (λ here. apart (rw here at run.0)) in
     rw e (run.0, (let lt : rank h < bound = run.1 in omega arith), run_lifted f rank j c (rank h) k (f h).next apart run.2)
 
 -- a run with j linked after its last
-run_longer : (f g : ℕ → NodeRecord) (j : ℕ) → IsChanged f g j → (rank : ℕ → ℕ) (c bound k h : ℕ) → (f j).place ≢ Linked c → (g j).place ≡ Linked c → IsRun f rank c bound k h → follow f k h ≡ j
+run_longer : (f g : ℕ → NodeRecord) (j : ℕ) → IsChanged f g j → (rank : ℕ → ℕ) (c bound k h : ℕ) → (f j).used ≢ Linked c → (g j).used ≡ Linked c → IsRun f rank c bound k h → follow f k h ≡ j
     → IsRun g (lifted rank j) c (suc bound) (suc k) h
 run_longer f g j changed rank c bound zero h apart linked run end =
     let here : h ≡ j = end in
     let low : lifted rank j h ≡ 0 = ap (lifted rank j) here ∙ lifted_here rank j in
-    (subst (λ i. (g i).place ≡ Linked c) (sym here) linked, omega (arith, low), tt)
+    (subst (λ i. (g i).used ≡ Linked c) (sym here) linked, omega (arith, low), tt)
 run_longer f g j changed rank c bound (suc k) h apart linked run end =
     let differs : h ≢ j = (λ same. apart (rw same at run.0)) in
     let e : g h ≡ f h = changed.others h differs in
@@ -89,14 +89,14 @@ module _ (nodes : List NodeRecord) (rs : List ChainRecord) (free count most c n 
   fill_in_range = elim (cases_lt free (length nodes)) [
     | inl lt ↦ lt
     | inr ge ↦ (let b : node_at nodes free ≡ blank = get_or-eq_default nodes blank ge in
-        let p : blank.place ≡ Free (suc (count - 1)) = rw b at list.0 in
+        let p : blank.used ≡ Free (suc (count - 1)) = rw b at list.0 in
         let z : 0 ≡ suc (count - 1) = cc in omega arith)
   ]
 
-  apart : (d : ℕ) → (node_at nodes free).place ≢ Linked d
-  apart d = free_apart (node_at nodes free).place (suc (count - 1)) d list.0
+  apart : (d : ℕ) → (node_at nodes free).used ≢ Linked d
+  apart d = free_apart (node_at nodes free).used (suc (count - 1)) d list.0
 
-  module _ (x : NodeRecord) (linked : x.place ≡ Linked c) where
+  module _ (x : NodeRecord) (linked : x.used ≡ Linked c) where
     changed : IsChanged (node_at nodes) (node_at (set nodes free x)) free
     changed = changed-set nodes free x
 
@@ -133,7 +133,7 @@ module _ (nodes : List NodeRecord) (rs : List ChainRecord) (free count most c n 
           let f = node_at nodes in
           let g = node_at (set nodes free x) in
           let rank : ℕ → ℕ = lifted filling.rank free in
-          let is_linked : (g free).place ≡ Linked c = ap (λ (y : NodeRecord). y.place) at_is ∙ linked in
+          let is_linked : (g free).used ≡ Linked c = ap (λ (y : NodeRecord). y.used) at_is ∙ linked in
           let sums : sum_for one_if (map prepared_of (set nodes free x)) ≡ sum_for one_if (map prepared_of nodes) = ap (sum_for one_if) prepared_same in
           record {
             rank = rank;
@@ -166,31 +166,31 @@ filling_ends nodes rs free count most c n newest cells l old vs used same walked
 -- ---- a free node more
 
 -- a node in no place is in no free list
-free_stays-new : (f g : ℕ → NodeRecord) (j : ℕ) → IsChanged f g j → (f j).place ≡ Free 0 → (k h : ℕ) → IsFreeList f k h → IsFreeList g k h
+free_stays-new : (f g : ℕ → NodeRecord) (j : ℕ) → IsChanged f g j → (f j).used ≡ Free 0 → (k h : ℕ) → IsFreeList f k h → IsFreeList g k h
 free_stays-new f g j changed blank_there zero h free = tt
 free_stays-new f g j changed blank_there (suc k) h free =
     let e : g h ≡ f h = changed.others h (λ same.
-    let p : (f j).place ≡ Free (suc k) = rw same at free.0 in
+    let p : (f j).used ≡ Free (suc k) = rw same at free.0 in
     let q : Free 0 ≡ Free (suc k) = sym blank_there ∙ p in
     let z : 0 ≡ suc k = cc in omega arith) in
     rw e (free.0, free_stays-new f g j changed blank_there k (f h).next free.1)
 
-module _ (nodes : List NodeRecord) (rs : List ChainRecord) (free count most : ℕ) (sound : IsSound nodes rs free count most) (x : NodeRecord) (is_free : x.place ≡ Free (count + 1)) where
+module _ (nodes : List NodeRecord) (rs : List ChainRecord) (free count most : ℕ) (sound : IsSound nodes rs free count most) (x : NodeRecord) (is_free : x.used ≡ Free (count + 1)) where
   far : length nodes ≤ length nodes
   far = omega arith
 
   end_is : node_at nodes (length nodes) ≡ blank
   end_is = get_or-eq_default nodes blank far
 
-  was_free : (node_at nodes (length nodes)).place ≡ Free 0
-  was_free = ap (λ (n : NodeRecord). n.place) end_is
+  was_free : (node_at nodes (length nodes)).used ≡ Free 0
+  was_free = ap (λ (n : NodeRecord). n.used) end_is
 
   added : IsChanged (node_at nodes) (node_at (nodes ++ x ∷ [])) (length nodes)
   added = changed-push nodes x
 
   pub room_content : (cells : List Cell) → content (nodes ++ x ∷ []) rs (count + 1) most cells ≡ with_free_node (content nodes rs count most cells)
   room_content cells = parts_equal _ _ _ _ (count + 1) most cells
-      (maps_stay nodes rs free count most sound (node_at (nodes ++ x ∷ [])) (length nodes) added (λ d. free_apart (node_at nodes (length nodes)).place 0 d was_free))
+      (maps_stay nodes rs free count most sound (node_at (nodes ++ x ∷ [])) (length nodes) added (λ d. free_apart (node_at nodes (length nodes)).used 0 d was_free))
       (map-append prepared_of nodes (x ∷ []) ∙ ap (λ (p : Option Prepared). map prepared_of nodes ++ p ∷ []) (is_none-free x (count + 1) is_free))
 
   pub room_sound : x.next ≡ free → length nodes < most → IsSound (nodes ++ x ∷ []) rs (length nodes) (count + 1) most
@@ -204,7 +204,7 @@ module _ (nodes : List NodeRecord) (rs : List ChainRecord) (free count most : �
       record {
         rank = sound.rank;
         top = sound.top;
-        runs = λ d. run_stays f g (length nodes) added sound.rank d sound.top (links_at rs d).count (links_at rs d).newest (free_apart (f (length nodes)).place 0 d was_free) (sound.runs d);
+        runs = λ d. run_stays f g (length nodes) added sound.rank d sound.top (links_at rs d).count (links_at rs d).newest (free_apart (f (length nodes)).used 0 d was_free) (sound.runs d);
         free_list = rw (add-one, at_end) (is_free ∙ ap Free (add-one count), rw next (free_stays-new f g (length nodes) added was_free count free sound.free_list));
         prepared = λ d. (let e : prepared_for d (map prepared_of (nodes ++ x ∷ [])) ≡ prepared_for d (map prepared_of nodes) + one_for d (prepared_of x) = sum-one_more (one_for d) nodes x in
             let y : one_for d (prepared_of x) ≡ 0 = ap (one_for d) none in

@@ -8,23 +8,23 @@ use Rattle.span_arena.specs.declared.record.NodeRecord.{NodeRecord}
 use Rattle.span_arena.specs.declared.record.ChainRecord.{ChainRecord}
 use Rattle.span_arena.specs.declared.record.ChainRecord.TheVariants as chain
 use Rattle.span_arena.specs.declared.record.VersionLinks.{VersionLinks}
-use Rattle.span_arena.specs.declared.record.Place.{Place}
-use Rattle.span_arena.specs.declared.record.Place.TheVariants.{Free, Reserved, Linked}
+use Rattle.span_arena.specs.declared.record.NodeUse.{NodeUse}
+use Rattle.span_arena.specs.declared.record.NodeUse.TheVariants.{Free, Reserved, Linked}
 use Rattle.span_arena.specs.Content.{Prepared, sum_for, one_if, one_for, prepared_for}
-use Rattle.span_arena.specs.Runs.{IsRun, IsFreeList, IsSound, node_at, blank, total, chain_of, record_at, links_at, links_of, prepared_of, prepared_of_place, version_of}
+use Rattle.span_arena.specs.Runs.{IsRun, IsFreeList, IsSound, node_at, blank, total, chain_of, record_at, links_at, links_of, prepared_of, prepared_of_use, version_of}
 use Rattle.span_arena.proofs.Frames.{IsChanged, run_stays, walk_stays, ranks_stay, run_wider, free_stays, changed-set, changed-push, reserved_apart, free_apart}
 use Rattle.span_arena.proofs.Counts.{total-set, sum-node, sum-one_more, one_for-same, one_for-other}
 use Rattle.span_arena.proofs.Chains.{with_prepared, used_in_range, links_were, links_here, links_elsewhere, prepared_step, runs_step, chains_stay}
 
--- what is prepared in a node, by its place
-pub is_for : (n : NodeRecord) (c : ℕ) → n.place ≡ Reserved c → prepared_of n ≡ Some (record { chain = c; image = (version_of n).image })
-is_for n c place = ap (λ (p : Place). prepared_of_place p (version_of n).image) place
+-- what is prepared in a node, by its use
+pub is_for : (n : NodeRecord) (c : ℕ) → n.used ≡ Reserved c → prepared_of n ≡ Some (record { chain = c; image = (version_of n).image })
+is_for n c used = ap (λ (p : NodeUse). prepared_of_use p (version_of n).image) used
 
-pub is_none-free : (n : NodeRecord) (k : ℕ) → n.place ≡ Free k → prepared_of n ≡ None
-is_none-free n k place = ap (λ (p : Place). prepared_of_place p (version_of n).image) place
+pub is_none-free : (n : NodeRecord) (k : ℕ) → n.used ≡ Free k → prepared_of n ≡ None
+is_none-free n k used = ap (λ (p : NodeUse). prepared_of_use p (version_of n).image) used
 
-pub is_none-linked : (n : NodeRecord) (c : ℕ) → n.place ≡ Linked c → prepared_of n ≡ None
-is_none-linked n c place = ap (λ (p : Place). prepared_of_place p (version_of n).image) place
+pub is_none-linked : (n : NodeRecord) (c : ℕ) → n.used ≡ Linked c → prepared_of n ≡ None
+is_none-linked n c used = ap (λ (p : NodeUse). prepared_of_use p (version_of n).image) used
 
 -- nothing is prepared for another chain
 pub for_others : (p : Option Prepared) (c : ℕ) (image : Option (List ℕ)) → p ≡ Some (record { chain = c; image = image }) → (d : ℕ) → d ≢ c → one_for d p ≡ 0
@@ -35,10 +35,10 @@ for_this p c image e = rw e (one_for-same c image)
 
 module _ (nodes : List NodeRecord) (rs : List ChainRecord) (free count most : ℕ) (sound : IsSound nodes rs free count most) where
   -- where j was linked nowhere, each chain stays
-  pub runs_stay : (g : ℕ → NodeRecord) (j : ℕ) → IsChanged (node_at nodes) g j → ((d : ℕ) → (node_at nodes j).place ≢ Linked d) → (d : ℕ) → IsRun g sound.rank d sound.top (links_at rs d).count (links_at rs d).newest
+  pub runs_stay : (g : ℕ → NodeRecord) (j : ℕ) → IsChanged (node_at nodes) g j → ((d : ℕ) → (node_at nodes j).used ≢ Linked d) → (d : ℕ) → IsRun g sound.rank d sound.top (links_at rs d).count (links_at rs d).newest
   runs_stay g j changed apart d = run_stays (node_at nodes) g j changed sound.rank d sound.top (links_at rs d).count (links_at rs d).newest (apart d) (sound.runs d)
 
-  pub maps_stay : (g : ℕ → NodeRecord) (j : ℕ) → IsChanged (node_at nodes) g j → ((d : ℕ) → (node_at nodes j).place ≢ Linked d) → map (chain_of g) rs ≡ map (chain_of (node_at nodes)) rs
+  pub maps_stay : (g : ℕ → NodeRecord) (j : ℕ) → IsChanged (node_at nodes) g j → ((d : ℕ) → (node_at nodes j).used ≢ Linked d) → map (chain_of g) rs ≡ map (chain_of (node_at nodes)) rs
   maps_stay g j changed apart = chains_stay (node_at nodes) g rs (λ d. walk_stays (node_at nodes) g j changed sound.rank d sound.top (links_at rs d).count (links_at rs d).newest (apart d) (sound.runs d))
 
   module _ (c : ℕ) (l : VersionLinks) (used : record_at rs c ≡ chain.Used l) where
@@ -48,9 +48,9 @@ module _ (nodes : List NodeRecord) (rs : List ChainRecord) (free count most : �
         let e : (links_at rs c).count ≡ l.count = ap (λ (r : ChainRecord). (links_of r).count) used in omega arith
 
     -- a node in which something was prepared
-    module _ (j : ℕ) (x : NodeRecord) (in_range : j < length nodes) (was : (node_at nodes j).place ≡ Reserved c) (some : 0 < l.prepared) where
-      apart : (d : ℕ) → (node_at nodes j).place ≢ Linked d
-      apart d = reserved_apart (node_at nodes j).place c d was
+    module _ (j : ℕ) (x : NodeRecord) (in_range : j < length nodes) (was : (node_at nodes j).used ≡ Reserved c) (some : 0 < l.prepared) where
+      apart : (d : ℕ) → (node_at nodes j).used ≢ Linked d
+      apart d = reserved_apart (node_at nodes j).used c d was
 
       was_for : prepared_of (node_at nodes j) ≡ Some (record { chain = c; image = (version_of (node_at nodes j)).image })
       was_for = is_for (node_at nodes j) c was
@@ -74,11 +74,11 @@ module _ (nodes : List NodeRecord) (rs : List ChainRecord) (free count most : �
           let a : one_if (prepared_of (node_at nodes j)) ≡ 1 = rw was_for refl in
           let b : one_if (prepared_of x) ≡ 0 = rw none refl in omega arith
 
-      not_free : (k m : ℕ) → (node_at nodes j).place ≡ Free m → k < m
+      not_free : (k m : ℕ) → (node_at nodes j).used ≡ Free m → k < m
       not_free k m p = absurd (let q : Reserved c ≡ Free m = sym was ∙ p in cc)
 
       -- is free now
-      pub sound-give_back : x.place ≡ Free (count + 1) → x.next ≡ free → IsSound (set nodes j x) (set rs c (chain.Used (with_prepared l (l.prepared - 1)))) j (count + 1) most
+      pub sound-give_back : x.used ≡ Free (count + 1) → x.next ≡ free → IsSound (set nodes j x) (set rs c (chain.Used (with_prepared l (l.prepared - 1)))) j (count + 1) most
       sound-give_back is_free next =
           let none : prepared_of x ≡ None = is_none-free x (count + 1) is_free in
           let rest : IsFreeList (node_at (set nodes j x)) count free = free_stays (node_at nodes) (node_at (set nodes j x)) j changed count free (λ m p. not_free count m p) sound.free_list in
@@ -109,7 +109,7 @@ module _ (nodes : List NodeRecord) (rs : List ChainRecord) (free count most : �
           (ranks_stay (node_at nodes) j sound.rank ranked ranked_elsewhere d sound.top (links_at rs d).count (links_at rs d).newest (apart d) (sound.runs d))
 
       -- is the newest of its chain now
-      pub sound-link : x.place ≡ Linked c → x.next ≡ l.newest
+      pub sound-link : x.used ≡ Linked c → x.next ≡ l.newest
           → IsSound (set nodes j x) (set rs c (chain.Used (record { newest = j; count = l.count + 1; prepared = l.prepared - 1 }))) free count most
       sound-link is_linked next =
           let g = node_at (set nodes j x) in
@@ -133,7 +133,7 @@ module _ (nodes : List NodeRecord) (rs : List ChainRecord) (free count most : �
           }
 
     -- something is prepared in a node where nothing was; qs is what is prepared then
-    prepared_more : (x : NodeRecord) (old : Option Prepared) (qs : List (Option Prepared)) → old ≡ None → x.place ≡ Reserved c
+    prepared_more : (x : NodeRecord) (old : Option Prepared) (qs : List (Option Prepared)) → old ≡ None → x.used ≡ Reserved c
         → ((d : ℕ) → prepared_for d qs + one_for d old ≡ prepared_for d (map prepared_of nodes) + one_for d (prepared_of x))
         → (d : ℕ) → prepared_for d qs ≡ (links_at (set rs c (chain.Used (with_prepared l (l.prepared + 1)))) d).prepared
     prepared_more x old qs none is_reserved sums = prepared_step rs c l (with_prepared l (l.prepared + 1)) used (map prepared_of nodes) qs old (prepared_of x) sums sound.prepared
@@ -143,13 +143,13 @@ module _ (nodes : List NodeRecord) (rs : List ChainRecord) (free count most : �
         let b : one_for d old ≡ 0 = rw none refl in omega arith))
 
     -- the first of the free nodes
-    pub sound-reuse : (k : ℕ) (x : NodeRecord) → count ≡ suc k → free < length nodes → x.place ≡ Reserved c
+    pub sound-reuse : (k : ℕ) (x : NodeRecord) → count ≡ suc k → free < length nodes → x.used ≡ Reserved c
         → IsSound (set nodes free x) (set rs c (chain.Used (with_prepared l (l.prepared + 1)))) (node_at nodes free).next k most
     sound-reuse k x some in_range is_reserved =
         let g = node_at (set nodes free x) in
         let list : IsFreeList (node_at nodes) (suc k) free = rw some at sound.free_list in
         let none : prepared_of (node_at nodes free) ≡ None = is_none-free (node_at nodes free) (suc k) list.0 in
-        let apart : (d : ℕ) → (node_at nodes free).place ≢ Linked d = λ d. free_apart (node_at nodes free).place (suc k) d list.0 in
+        let apart : (d : ℕ) → (node_at nodes free).used ≢ Linked d = λ d. free_apart (node_at nodes free).used (suc k) d list.0 in
         let changed : IsChanged (node_at nodes) g free = changed-set nodes free x in
         let s : sum_for one_if (map prepared_of (set nodes free x)) + one_if (prepared_of (node_at nodes free)) ≡ sum_for one_if (map prepared_of nodes) + one_if (prepared_of x) = sum-node one_if nodes free x in_range in
         let a : one_if (prepared_of x) ≡ 1 = rw (is_for x c is_reserved) refl in
@@ -165,12 +165,12 @@ module _ (nodes : List NodeRecord) (rs : List ChainRecord) (free count most : �
         }
 
     -- one node more
-    pub sound-push : (x : NodeRecord) → x.place ≡ Reserved c → count ≡ 0 → length nodes < most → IsSound (nodes ++ x ∷ []) (set rs c (chain.Used (with_prepared l (l.prepared + 1)))) free count most
+    pub sound-push : (x : NodeRecord) → x.used ≡ Reserved c → count ≡ 0 → length nodes < most → IsSound (nodes ++ x ∷ []) (set rs c (chain.Used (with_prepared l (l.prepared + 1)))) free count most
     sound-push x is_reserved none room =
         let g = node_at (nodes ++ x ∷ []) in
         let le : length nodes ≤ length nodes = omega arith in
         let end_is : node_at nodes (length nodes) ≡ blank = get_or-eq_default nodes blank le in
-        let apart : (d : ℕ) → (node_at nodes (length nodes)).place ≢ Linked d = λ d. free_apart (node_at nodes (length nodes)).place 0 d (ap (λ (n : NodeRecord). n.place) end_is) in
+        let apart : (d : ℕ) → (node_at nodes (length nodes)).used ≢ Linked d = λ d. free_apart (node_at nodes (length nodes)).used 0 d (ap (λ (n : NodeRecord). n.used) end_is) in
         let changed : IsChanged (node_at nodes) g (length nodes) = changed-push nodes x in
         let s : sum_for one_if (map prepared_of (nodes ++ x ∷ [])) ≡ sum_for one_if (map prepared_of nodes) + one_if (prepared_of x) = sum-one_more one_if nodes x in
         let a : one_if (prepared_of x) ≡ 1 = rw (is_for x c is_reserved) refl in

@@ -8,7 +8,7 @@ use Rattle.span_arena.specs.declared.record.ChainRecord.{ChainRecord}
 use Rattle.span_arena.specs.declared.record.ChainRecord.TheVariants as chain
 use Rattle.span_arena.specs.declared.cell.Cell.{Cell}
 use Rattle.span_arena.specs.declared.record.VersionLinks.{VersionLinks}
-use Rattle.span_arena.specs.declared.record.Place.TheVariants.{Free}
+use Rattle.span_arena.specs.declared.record.NodeUse.TheVariants.{Free}
 use Rattle.span_arena.specs.Content.{Content, versions, versions_in, with_kept, prepared_for}
 use Rattle.span_arena.specs.Runs.{walk, IsRun, IsSound, IsTrimming, node_at, no_record, chain_of, record_at, links_at, links_of, prepared_of, content, total, version_of}
 use Rattle.span_arena.proofs.Frames.{IsChanged, run_wider, changed-set}
@@ -72,7 +72,7 @@ module _ (nodes : List NodeRecord) (rs : List ChainRecord) (free count most : �
     pub front_is : versions (content nodes rs count most cells) c ≡ (version_of (node_at nodes l.newest)) ∷ walk (node_at nodes) (l.count - 1) (node_at nodes l.newest).next
     front_is = versions_here ∙ walk_front (node_at nodes) l.count l.newest some
 
-    module _ (x : NodeRecord) (is_free : x.place ≡ Free (count + 1)) (next : x.next ≡ free) where
+    module _ (x : NodeRecord) (is_free : x.used ≡ Free (count + 1)) (next : x.next ≡ free) where
       pub take_sound : IsSound (set nodes l.newest x) (set rs c (chain.Used (record { newest = (node_at nodes l.newest).next; count = l.count - 1; prepared = l.prepared }))) l.newest (count + 1) most
       take_sound =
           let none : VersionLinks = record { newest = l.newest; count = 0; prepared = l.prepared } in

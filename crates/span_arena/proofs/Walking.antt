@@ -10,16 +10,16 @@ use Rattle.span_arena.specs.declared.record.ChainRecord.{ChainRecord}
 use Rattle.span_arena.specs.declared.record.ChainRecord.TheVariants as chain
 use Rattle.span_arena.specs.declared.cell.Cell.{Cell}
 use Rattle.span_arena.specs.declared.record.VersionLinks.{VersionLinks}
-use Rattle.span_arena.specs.declared.record.Place.TheVariants.{Linked}
+use Rattle.span_arena.specs.declared.record.NodeUse.TheVariants.{Linked}
 use Rattle.span_arena.specs.Content.{versions, versions_in, newest_upto}
 use Rattle.span_arena.specs.Runs.{walk, IsRun, IsSomeRun, IsSound, node_at, blank, record_at, content, version_of}
 use Rattle.span_arena.proofs.Chains.{chain_at, links_were}
 
-pub in_range-linked : (nodes : List NodeRecord) (i c : ℕ) → (node_at nodes i).place ≡ Linked c → i < length nodes
+pub in_range-linked : (nodes : List NodeRecord) (i c : ℕ) → (node_at nodes i).used ≡ Linked c → i < length nodes
 in_range-linked nodes i c h = elim (cases_lt i (length nodes)) [
   | inl lt ↦ lt
   | inr ge ↦ (let e : node_at nodes i ≡ blank = get_or-eq_default nodes blank ge in
-      let f : blank.place ≡ Linked c = rw e at h in cc)
+      let f : blank.used ≡ Linked c = rw e at h in cc)
 ]
 
 -- the start: the run of a chain has its versions

@@ -6,29 +6,29 @@ use Rattle.span_arena.specs.declared.record.NodeRecord.{NodeRecord}
 use Rattle.span_arena.specs.declared.record.ChainRecord.{ChainRecord}
 use Rattle.span_arena.specs.declared.record.ChainRecord.TheVariants as chain
 use Rattle.span_arena.specs.declared.record.VersionLinks.{VersionLinks}
-use Rattle.span_arena.specs.declared.record.Place.{Place}
-use Rattle.span_arena.specs.declared.record.Place.TheVariants.{Free, Reserved, Linked}
+use Rattle.span_arena.specs.declared.record.NodeUse.{NodeUse}
+use Rattle.span_arena.specs.declared.record.NodeUse.TheVariants.{Free, Reserved, Linked}
 use Rattle.span_arena.specs.Images.{image_of}
 use Rattle.span_arena.specs.Content.{Content, Prepared, sum_for, one_if, prepared_for, kept_by}
 
 -- what a place after the end is taken to have
 abbrev pub blank : NodeRecord
-blank = record { place = Free 0; next = 0; has_image = false; timestamp = 0; image = [] }
+blank = record { used = Free 0; next = 0; has_image = false; timestamp = 0; image = [] }
 
 abbrev pub node_at : List NodeRecord → ℕ → NodeRecord
 node_at nodes i = slice_index_or nodes i blank
 
-abbrev pub prepared_of_place : Place → Option (List ℕ) → Option Prepared
-prepared_of_place (Free k) image = None
-prepared_of_place (Reserved c) image = Some (record { chain = c; image = image })
-prepared_of_place (Linked c) image = None
+abbrev pub prepared_of_use : NodeUse → Option (List ℕ) → Option Prepared
+prepared_of_use (Free k) image = None
+prepared_of_use (Reserved c) image = Some (record { chain = c; image = image })
+prepared_of_use (Linked c) image = None
 
 -- the version of a node; where it has no image, nothing is kept of one
 abbrev pub version_of : NodeRecord → Version
 version_of n = record { timestamp = n.timestamp; image = image_of n.has_image n.image }
 
 abbrev pub prepared_of : NodeRecord → Option Prepared
-prepared_of n = prepared_of_place n.place (version_of n).image
+prepared_of n = prepared_of_use n.used (version_of n).image
 
 -- k versions, from node h on
 abbrev pub walk : (ℕ → NodeRecord) → ℕ → ℕ → List Version
@@ -38,7 +38,7 @@ walk f (suc k) h = version_of (f h) ∷ walk f k (f h).next
 -- k nodes from h on are linked into chain c, and their ranks fall: so no node is in it twice
 abbrev pub IsRun : (ℕ → NodeRecord) → (ℕ → ℕ) → ℕ → ℕ → ℕ → ℕ → Type 0
 IsRun f rank c bound zero h = Unit {0}
-IsRun f rank c bound (suc k) h = ((f h).place ≡ Linked c) × (rank h < bound) × IsRun f rank c (rank h) k (f h).next
+IsRun f rank c bound (suc k) h = ((f h).used ≡ Linked c) × (rank h < bound) × IsRun f rank c (rank h) k (f h).next
 
 -- k nodes from h on are those of a chain
 pub record IsSomeRun (f : ℕ → NodeRecord) (k h : ℕ) : Type 0 where
@@ -50,7 +50,7 @@ pub record IsSomeRun (f : ℕ → NodeRecord) (k h : ℕ) : Type 0 where
 -- k nodes from h on are free, and each keeps how many there are from it on
 abbrev pub IsFreeList : (ℕ → NodeRecord) → ℕ → ℕ → Type 0
 IsFreeList f zero h = Unit {0}
-IsFreeList f (suc k) h = ((f h).place ≡ Free (suc k)) × IsFreeList f k (f h).next
+IsFreeList f (suc k) h = ((f h).used ≡ Free (suc k)) × IsFreeList f k (f h).next
 
 -- the links of a chain; one that is free has no version and nothing prepared
 abbrev pub no_links : VersionLinks

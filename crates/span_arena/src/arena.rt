@@ -11,7 +11,7 @@ ghost use Rattle.span_arena.specs.Content.{Content, versions, prepared_at, IsCha
 use crate::cell::{Cell, Links};
 use crate::cells::Cells;
 use crate::cut::cut;
-use crate::record::{ChainRecord, NodeRecord, Place, VersionLinks, join_image, split_image};
+use crate::record::{ChainRecord, NodeRecord, NodeUse, VersionLinks, join_image, split_image};
 use crate::steps::Steps;
 use crate::token::{Chain, Node};
 use crate::version::{LentVersion, Version};
@@ -369,7 +369,7 @@ impl Arena {
         let number = self.free;
         if self.free_count > 0 {
             let node = &mut self.nodes[number as usize];
-            node.place = Place::Reserved(chain.number);
+            node.used = NodeUse::Reserved(chain.number);
             node.has_image = has_image;
             node.image = image;
             self.free = node.next;
@@ -386,7 +386,7 @@ impl Arena {
             return Err(Refusal::ShardFull);
         }
         let node = NodeRecord {
-            place: Place::Reserved(chain.number),
+            used: NodeUse::Reserved(chain.number),
             next: 0,
             has_image,
             timestamp: 0,
@@ -412,13 +412,13 @@ impl Arena {
         ensures { self.new ≡ linked self.old node.number timestamp }
     {
         let cell = &mut self.nodes[node.number as usize];
-        let Place::Reserved(chain) = cell.place else {
+        let NodeUse::Reserved(chain) = cell.used else {
             unreachable!()
         };
         let ChainRecord::Used(links) = self.chains[chain as usize] else {
             unreachable!()
         };
-        cell.place = Place::Linked(chain);
+        cell.used = NodeUse::Linked(chain);
         cell.timestamp = timestamp;
         cell.next = links.newest;
         self.chains[chain as usize] = ChainRecord::Used(VersionLinks {
@@ -435,13 +435,13 @@ impl Arena {
     {
         let alloc = *self.nodes.allocator();
         let cell = &mut self.nodes[node.number as usize];
-        let Place::Reserved(chain) = cell.place else {
+        let NodeUse::Reserved(chain) = cell.used else {
             unreachable!()
         };
         let ChainRecord::Used(links) = self.chains[chain as usize] else {
             unreachable!()
         };
-        cell.place = Place::Free(self.free_count + 1);
+        cell.used = NodeUse::Free(self.free_count + 1);
         cell.has_image = false;
         cell.image = Seq::new(alloc);
         cell.next = self.free;
@@ -494,7 +494,7 @@ impl Arena {
             return Err(Refusal::ShardFull);
         }
         let node = NodeRecord {
-            place: Place::Free(self.free_count + 1),
+            used: NodeUse::Free(self.free_count + 1),
             next: self.free,
             has_image: false,
             timestamp: 0,
@@ -530,7 +530,7 @@ impl Arena {
             image: join_image(cell.has_image, image),
         };
         let next = cell.next;
-        cell.place = Place::Free(self.free_count + 1);
+        cell.used = NodeUse::Free(self.free_count + 1);
         cell.next = self.free;
         cell.has_image = false;
         self.free = links.newest;
@@ -565,7 +565,7 @@ impl Arena {
         while let Some(version) = from.take_newest(source) {
             let (has_image, image) = split_image(alloc, version.image);
             let cell = &mut self.nodes[self.free as usize];
-            cell.place = Place::Linked(chain.number);
+            cell.used = NodeUse::Linked(chain.number);
             cell.has_image = has_image;
             cell.timestamp = version.timestamp;
             cell.image = image;
@@ -599,7 +599,7 @@ impl Arena {
         while left > 0 {
             let cell = &mut self.nodes[at as usize];
             let next = cell.next;
-            cell.place = Place::Free(self.free_count + 1);
+            cell.used = NodeUse::Free(self.free_count + 1);
             cell.has_image = false;
             cell.image = Seq::new(alloc);
             cell.next = self.free;

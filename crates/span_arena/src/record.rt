@@ -9,7 +9,7 @@ use std::alloc::Global;
 
 /// What a node is used for.
 #[derive(Clone, Copy, Debug)]
-pub(crate) enum Place {
+pub(crate) enum NodeUse {
     /// It is in the free list, with this count of nodes from it on.
     Free(u32),
     /// Something is prepared in it for this chain.
@@ -22,7 +22,7 @@ pub(crate) enum Place {
 /// beside the numbers: an `Option` of the image takes 8 bytes more.
 #[derive(Debug, Drop)]
 pub(crate) struct NodeRecord {
-    pub place: Place,
+    pub used: NodeUse,
     /// The next older node of its chain, or the next one of the free list.
     pub next: u32,
     pub has_image: bool,

@@ -11,7 +11,7 @@ use std::cmp::Ordering;
 
 /// Where a row is in a list, and eight bytes of its key.
 #[derive(Clone, Copy)]
-struct Place {
+struct RowPlace {
     word: u64,
     index: usize,
 }
@@ -26,12 +26,12 @@ pub(crate) fn sort_rows(alloc: Global, rows: &mut Vec<(Key, MadeRow)>) -> Result
 }
 
 // The places of the rows, in the order of their keys.
-fn places_in_order(alloc: Global, rows: &Vec<(Key, MadeRow)>) -> Result<Vec<Place>, AllocError> {
+fn places_in_order(alloc: Global, rows: &Vec<(Key, MadeRow)>) -> Result<Vec<RowPlace>, AllocError> {
     let start = common_len(rows);
     let mut places = Vec::with_capacity(alloc, rows.len())?;
     for index in 0..rows.len() {
         let word = word_from(rows[index].0.as_slice(), start);
-        places.push(Place { word, index })?;
+        places.push(RowPlace { word, index })?;
     }
     places.sort_unstable_by(|left, right| compare_places(rows, left, right));
     Ok(places)
@@ -78,7 +78,7 @@ fn byte_at(bytes: &[u8], at: usize) -> u8 {
 }
 
 // The order of the keys at two places.
-fn compare_places(rows: &Vec<(Key, MadeRow)>, left: &Place, right: &Place) -> Ordering {
+fn compare_places(rows: &Vec<(Key, MadeRow)>, left: &RowPlace, right: &RowPlace) -> Ordering {
     match left.word.cmp(&right.word) {
         Ordering::Equal => compare_keys(rows, left.index, right.index),
         order => order,
@@ -93,7 +93,7 @@ fn compare_keys(rows: &Vec<(Key, MadeRow)>, left: usize, right: usize) -> Orderi
 }
 
 // Moves each row to where its place is in the list of places.
-fn move_rows(rows: &mut Vec<(Key, MadeRow)>, places: &mut Vec<Place>)
+fn move_rows(rows: &mut Vec<(Key, MadeRow)>, places: &mut Vec<RowPlace>)
     ensures { IsPermutation rows.old.items rows.new.items }
 {
     for start in 0..places.len() {
@@ -102,7 +102,7 @@ fn move_rows(rows: &mut Vec<(Key, MadeRow)>, places: &mut Vec<Place>)
 }
 
 // Moves a row to `start`, another one to where that was, and so on, up to the place to which the row that was at `start` goes.
-fn move_circle(rows: &mut Vec<(Key, MadeRow)>, places: &mut Vec<Place>, start: usize)
+fn move_circle(rows: &mut Vec<(Key, MadeRow)>, places: &mut Vec<RowPlace>, start: usize)
     ensures { IsPermutation rows.old.items rows.new.items }
 {
     let mut to = start;
@@ -125,7 +125,7 @@ fn is_move(start: usize, from: usize, to: usize, len: usize) -> bool
 }
 
 // The place of the row that goes to `to`. From now on it is `to` itself, so that the row is moved once.
-fn take_place(places: &mut Vec<Place>, to: usize) -> usize {
+fn take_place(places: &mut Vec<RowPlace>, to: usize) -> usize {
     if to >= places.len() {
         return to;
     }

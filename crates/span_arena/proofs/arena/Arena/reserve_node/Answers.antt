@@ -1,7 +1,7 @@
 use Rattle.std.proofs.Common.{◌≡◌, ◌<◌, ℕ, suc, List, Option, Some, ap, ◌-◌, ◌∙◌, sym, refl, arith, length, map, inl, inr}
 use Rattle.std.proofs.Common.{length-set}
-use Rattle.span_arena.specs.declared.record.Place.TheVariants.{Reserved}
-use Rattle.span_arena.specs.Runs.{node_at, prepared_of, prepared_of_place}
+use Rattle.span_arena.specs.declared.record.NodeUse.TheVariants.{Reserved}
+use Rattle.span_arena.specs.Runs.{node_at, prepared_of, prepared_of_use}
 use Rattle.span_arena.proofs.Counts.{part_prepared}
 use Rattle.span_arena.proofs.Chains.{used_of, read_used, links_were}
 use Rattle.span_arena.proofs.Moves.{sound-reuse, sound-push}
@@ -10,8 +10,8 @@ use Rattle.span_arena.proofs.Spares.{are_spare-used}
 use Rattle.span_arena.proofs.Falling.{falling-reserve}
 use Rattle.span_arena.proofs.arena.Arena.reserve_node.Goals as goal
 
-same_image : (chain : ℕ) (u w : Option (List ℕ)) → u ≡ w → prepared_of_place (Reserved chain) u ≡ Some (record { chain = chain; image = w })
-same_image chain u w e = ap (prepared_of_place (Reserved chain)) e
+same_image : (chain : ℕ) (u w : Option (List ℕ)) → u ≡ w → prepared_of_use (Reserved chain) u ≡ Some (record { chain = chain; image = w })
+same_image chain u w e = ap (prepared_of_use (Reserved chain)) e
 
 pub overflow_add-links : goal.overflow_add-links
 overflow_add-links c =

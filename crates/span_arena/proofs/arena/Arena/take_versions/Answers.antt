@@ -3,7 +3,7 @@ use Rattle.std.proofs.lemmas.List.{get_or_default}
 use Rattle.span_arena.specs.declared.version.Version.{Version}
 use Rattle.span_arena.specs.declared.record.NodeRecord.{NodeRecord}
 use Rattle.span_arena.specs.declared.record.ChainRecord.{ChainRecord}
-use Rattle.span_arena.specs.declared.record.Place.TheVariants.{Linked}
+use Rattle.span_arena.specs.declared.record.NodeUse.TheVariants.{Linked}
 use Rattle.span_arena.specs.Content.{Content, versions}
 use Rattle.span_arena.specs.Order.{AreInTimeOrder}
 use Rattle.span_arena.specs.Runs.{node_at, blank, content, links_of, links_at, version_of, walk}
@@ -60,7 +60,7 @@ loop-version-preserved c =
     let less = emptying_less c.args.from.now c.loop-version.from c.take_newest.new.self c.args.source.number _ c.in-Some.version inv.emptied c.in-Some.ensures in
     let some : 0 < j.free_count = omega (arith, less, inv.room) in
     let e : c.index_mut-cell.result.now ≡ node_at j.nodes.items j.free = c.index_mut-cell.ensures.value ∙ get_or_default j.nodes.items j.free c.index_mut-cell.result.now blank (fill_in_range j.nodes.items j.chains.items j.free j.free_count j.most c.args.chain.number c.loop-version.count i.free inv.filling some) in
-    let x : NodeRecord = record { place = Linked c.args.chain.number; next = c.index_mut-cell.result.now.next; has_image = c.split_image-has_image.result.0; timestamp = c.in-Some.version.timestamp; image = c.split_image-has_image.result.1 } in
+    let x : NodeRecord = record { used = Linked c.args.chain.number; next = c.index_mut-cell.result.now.next; has_image = c.split_image-has_image.result.0; timestamp = c.in-Some.version.timestamp; image = c.split_image-has_image.result.1 } in
     let zero : (links_at j.chains.items c.args.chain.number).count ≡ 0 = ap (λ (r : ChainRecord). (links_of r).count) inv.used ∙ inv.none in
     let k : j.free_count - 1 + (c.loop-version.count + 1) ≡ j.free_count + c.loop-version.count = omega (arith, some) in
     let version : version_of x ≡ c.in-Some.version = ap (made c.in-Some.version.timestamp) c.split_image-has_image.ensures in
