@@ -10,9 +10,9 @@ use Rattle.span_schema.specs.declared.table.Table.{Table}
 use Rattle.span_schema.specs.Numbers.{number_named}
 use Rattle.span_grammar.specs.declared.judge.Goal.TheVariants as goal
 use Rattle.span_grammar.specs.Judged.{IsRefused}
-use Rattle.span_syntax.specs.declared.tree.Spelling.{Spelling}
-use Rattle.span_syntax.specs.declared.tree.Column.{Column}
-use Rattle.span_syntax.specs.declared.tree.Expr.{Expr}
+use Rattle.span_trees.specs.declared.tree.Spelling.{Spelling}
+use Rattle.span_trees.specs.declared.tree.Column.{Column}
+use Rattle.span_trees.specs.declared.tree.Expr.{Expr}
 use Rattle.span_parser.specs.declared.tree.Output.{Output}
 use Rattle.span_parser.specs.declared.tree.Output.TheVariants as output
 use Rattle.span_parser.specs.declared.tree.SortKey.{SortKey}

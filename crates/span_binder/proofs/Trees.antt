@@ -3,8 +3,8 @@ use Rattle.std.proofs.Common.{◌≡◌, List, [], ◌∷◌, map, refl, sym, ap
 use Rattle.span_value.specs.declared.refusal.Refusal.{Refusal}
 use Rattle.span_schema.specs.declared.table.Table.{Table}
 use Rattle.span_params.specs.declared.params.Parameter.{Parameter}
-use Rattle.span_syntax.specs.declared.tree.Spelling.{Spelling}
-use Rattle.span_syntax.specs.declared.tree.Expr.{Expr}
+use Rattle.span_trees.specs.declared.tree.Spelling.{Spelling}
+use Rattle.span_trees.specs.declared.tree.Expr.{Expr}
 use Rattle.span_parser.specs.declared.tree.Query.{Query}
 use Rattle.span_parser.specs.declared.tree.Block.{Block}
 use Rattle.span_parser.specs.declared.tree.Item.{Item}

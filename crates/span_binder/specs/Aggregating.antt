@@ -2,13 +2,13 @@
 use Rattle.std.specs.List.{list_any}
 use Rattle.std.specs.Option.{is_some}
 use Rattle.std.specs.Prelude.{Bool, true, false, ◌||◌, List, [], ◌∷◌, Option, Some, None}
-use Rattle.span_syntax.specs.declared.tree.Spelling.{Spelling}
-use Rattle.span_syntax.specs.declared.tree.Column.{Column}
-use Rattle.span_syntax.specs.declared.tree.Expr.{Expr}
-use Rattle.span_syntax.specs.declared.tree.Arm.{Arm}
-use Rattle.span_syntax.specs.declared.tree.Link.{Link}
-use Rattle.span_syntax.specs.declared.tree.Expr.TheOpen.{Expr-F, Arm-F, Link-F}
-use Rattle.span_syntax.specs.declared.tree.Expr.TheFolds.{fold-Expr}
+use Rattle.span_trees.specs.declared.tree.Spelling.{Spelling}
+use Rattle.span_trees.specs.declared.tree.Column.{Column}
+use Rattle.span_trees.specs.declared.tree.Expr.{Expr}
+use Rattle.span_trees.specs.declared.tree.Arm.{Arm}
+use Rattle.span_trees.specs.declared.tree.Link.{Link}
+use Rattle.span_trees.specs.declared.tree.Expr.TheOpen.{Expr-F, Arm-F, Link-F}
+use Rattle.span_trees.specs.declared.tree.Expr.TheFolds.{fold-Expr}
 use Rattle.span_parser.specs.declared.tree.Output.{Output}
 use Rattle.span_parser.specs.declared.tree.Output.TheVariants as output
 use Rattle.span_typing.specs.declared.function.CalledFunction.{CalledFunction}

@@ -2,8 +2,8 @@
 -- GROUP BY and its HAVING.
 use Rattle.std.specs.Prelude.{ℕ, Bool, true, false, List, [], ◌∷◌, ◌++◌, map, Option, Some, None, Result, Ok, Err}
 use Rattle.span_value.specs.declared.refusal.Refusal.{Refusal}
-use Rattle.span_syntax.specs.declared.tree.Column.{Column}
-use Rattle.span_syntax.specs.declared.tree.Expr.{Expr}
+use Rattle.span_trees.specs.declared.tree.Column.{Column}
+use Rattle.span_trees.specs.declared.tree.Expr.{Expr}
 use Rattle.span_expr.specs.declared.expr.Expr.{Expr as TypedExpr}
 use Rattle.span_parser.specs.declared.tree.Output.{Output}
 use Rattle.span_parser.specs.declared.tree.Block.{Block}

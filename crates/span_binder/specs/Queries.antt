@@ -9,7 +9,7 @@ use Rattle.span_value.specs.contracts.value.Kind.{the_type as kind_type}
 use Rattle.span_value.specs.declared.refusal.Refusal.{Refusal}
 use Rattle.span_value.specs.declared.refusal.Refusal.TheVariants.{ColumnsDiffer, BadOrdinal}
 use Rattle.span_schema.specs.declared.table.Table.{Table}
-use Rattle.span_syntax.specs.declared.tree.Expr.{Expr}
+use Rattle.span_trees.specs.declared.tree.Expr.{Expr}
 use Rattle.span_parser.specs.declared.tree.SortKey.{SortKey}
 use Rattle.span_parser.specs.declared.tree.SortColumn.{SortColumn}
 use Rattle.span_parser.specs.declared.tree.SortColumn.TheVariants as sort

@@ -6,7 +6,7 @@ ghost use Rattle.span_binder.specs.Blocks.{ons_of};
 ghost use Rattle.span_binder.specs.Aggregating as spec;
 
 use span_parser::tree::{Join, Output};
-use span_syntax::tree::{Arm, Column, Expr, Link, Spelling};
+use span_trees::tree::{Arm, Column, Expr, Link, Spelling};
 use span_typing::function::{CalledFunction, function_named};
 use span_typing::typed::Mode;
 use sqlite_items::Boxed;

@@ -7,7 +7,7 @@ use super::bound::{FromItems, Source};
 use span_expr::expr::Expr;
 use span_params::params::Params;
 use span_query::query::{BoundQuery, Join, OutputColumn};
-use span_syntax::tree;
+use span_trees::tree;
 use span_typing::kind::takes;
 use span_typing::scope::{Scope, ScopeColumn, item_named};
 use span_typing::typed::{Mode, Typed};

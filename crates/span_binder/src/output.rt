@@ -9,7 +9,7 @@ use super::bound::SelectItem;
 use super::join::copy_name;
 use span_parser::tree::Output;
 use span_query::query::{Aggregate, OutputColumn};
-use span_syntax::tree::{Expr, Spelling};
+use span_trees::tree::{Expr, Spelling};
 use span_typing::kind::or_int;
 use span_typing::leaf::column_at;
 use span_typing::scope::{Scope, ScopeColumn, item_named};

@@ -8,7 +8,7 @@ use super::bound::{Source, TypedQuery};
 use span_query::query::{Item, OutputColumn};
 use span_schema::schema::Schema;
 use span_schema::table::{Column, kind_of_type};
-use span_syntax::tree::Spelling;
+use span_trees::tree::Spelling;
 use span_value::refusal::Refusal;
 use span_value::seq::Seq;
 use span_value::text::Text;

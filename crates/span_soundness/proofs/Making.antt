@@ -6,10 +6,10 @@ use Rattle.span_value.specs.declared.value.Kind.{Kind}
 use Rattle.span_value.specs.declared.value.Kind.TheVariants as kind
 use Rattle.span_value.specs.declared.value.Value.TheVariants as value
 use Rattle.span_value.specs.declared.refusal.Refusal.TheVariants.{TypeMismatch}
-use Rattle.span_syntax.specs.declared.tree.Integer.{Integer}
-use Rattle.span_syntax.specs.declared.tree.ComparisonOperator.{ComparisonOperator}
-use Rattle.span_syntax.specs.declared.tree.Operator.{Operator as TreeOperator}
-use Rattle.span_syntax.specs.declared.tree.Operator.TheVariants.{Plus, Minus, Times, Concat}
+use Rattle.span_trees.specs.declared.tree.Integer.{Integer}
+use Rattle.span_trees.specs.declared.tree.ComparisonOperator.{ComparisonOperator}
+use Rattle.span_trees.specs.declared.tree.Operator.{Operator as TreeOperator}
+use Rattle.span_trees.specs.declared.tree.Operator.TheVariants.{Plus, Minus, Times, Concat}
 use Rattle.span_expr.specs.declared.expr.Expr.{Expr}
 use Rattle.span_expr.specs.declared.expr.Expr.TheVariants as expr
 use Rattle.span_expr.specs.declared.expr.Link.{Link}

@@ -11,8 +11,8 @@ use Rattle.span_value.specs.declared.refusal.Refusal.TheVariants.{TooManyTables}
 use Rattle.span_schema.specs.declared.table.Table.{Table}
 use Rattle.span_schema.specs.Tables.{is_same_name}
 use Rattle.span_schema.specs.Numbers.{IsTable, number_named}
-use Rattle.span_syntax.specs.declared.tree.Spelling.{Spelling}
-use Rattle.span_syntax.specs.declared.tree.Expr.{Expr}
+use Rattle.span_trees.specs.declared.tree.Spelling.{Spelling}
+use Rattle.span_trees.specs.declared.tree.Expr.{Expr}
 use Rattle.span_parser.specs.declared.tree.SortKey.{SortKey}
 use Rattle.span_parser.specs.declared.tree.Limit.{Limit}
 use Rattle.span_parser.specs.declared.tree.Query.{Query}

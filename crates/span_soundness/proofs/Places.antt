@@ -7,7 +7,7 @@ use Rattle.std.proofs.lemmas.Bool.{eqb-true}
 use Rattle.span_value.specs.declared.value.Kind.{Kind}
 use Rattle.span_value.specs.declared.value.Kind.TheVariants as kind
 use Rattle.span_value.specs.declared.refusal.Refusal.{Refusal}
-use Rattle.span_syntax.specs.declared.tree.Column.{Column}
+use Rattle.span_trees.specs.declared.tree.Column.{Column}
 use Rattle.span_expr.specs.declared.expr.Expr.TheVariants as expr
 use Rattle.span_query.specs.declared.query.Aggregate.{Aggregate}
 use Rattle.span_typing.specs.declared.scope.Scope.{Scope}

@@ -9,7 +9,7 @@ use Rattle.span_value.specs.Results.{and_then}
 use Rattle.span_value.specs.declared.refusal.Refusal.TheVariants.{DuplicateAlias, ColumnsDiffer}
 use Rattle.span_schema.specs.declared.table.Table.{Table}
 use Rattle.span_schema.specs.Numbers.{IsTable, columns_of}
-use Rattle.span_syntax.specs.declared.tree.Expr.{Expr as Tree}
+use Rattle.span_trees.specs.declared.tree.Expr.{Expr as Tree}
 use Rattle.span_parser.specs.declared.tree.SortKey.{SortKey}
 use Rattle.span_parser.specs.declared.tree.Limit.{Limit}
 use Rattle.span_parser.specs.declared.tree.Query.{Query}

@@ -6,7 +6,7 @@ use Rattle.span_value.specs.declared.value.Value.{Value}
 use Rattle.span_value.specs.declared.truth.Outcome.TheVariants.{Val}
 use Rattle.span_schema.specs.declared.table.Table.{Table}
 use Rattle.span_schema.specs.Fitting.{is_of_kind}
-use Rattle.span_syntax.specs.declared.tree.Expr.{Expr as Tree}
+use Rattle.span_trees.specs.declared.tree.Expr.{Expr as Tree}
 use Rattle.span_parser.specs.declared.tree.Query.{Query}
 use Rattle.span_expr.specs.declared.expr.Expr.{Expr}
 use Rattle.span_expr.specs.declared.expr.Operator.{Operator}

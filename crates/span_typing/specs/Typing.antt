@@ -5,13 +5,13 @@ use Rattle.span_value.specs.declared.value.Kind.{Kind}
 use Rattle.span_value.specs.declared.value.Kind.TheVariants as kind
 use Rattle.span_value.specs.declared.refusal.Refusal.{Refusal}
 use Rattle.span_value.specs.declared.refusal.Refusal.TheVariants.{TypeMismatch, NotGrouped, NoParameter}
-use Rattle.span_syntax.specs.declared.tree.Column.{Column}
-use Rattle.span_syntax.specs.declared.tree.Operator.{Operator}
-use Rattle.span_syntax.specs.declared.tree.Expr.{Expr}
-use Rattle.span_syntax.specs.declared.tree.Arm.{Arm}
-use Rattle.span_syntax.specs.declared.tree.Link.{Link as TreeLink}
-use Rattle.span_syntax.specs.declared.tree.Expr.TheOpen.{Expr-F, Arm-F, Link-F}
-use Rattle.span_syntax.specs.declared.tree.Expr.TheFolds.{fold-Expr}
+use Rattle.span_trees.specs.declared.tree.Column.{Column}
+use Rattle.span_trees.specs.declared.tree.Operator.{Operator}
+use Rattle.span_trees.specs.declared.tree.Expr.{Expr}
+use Rattle.span_trees.specs.declared.tree.Arm.{Arm}
+use Rattle.span_trees.specs.declared.tree.Link.{Link as TreeLink}
+use Rattle.span_trees.specs.declared.tree.Expr.TheOpen.{Expr-F, Arm-F, Link-F}
+use Rattle.span_trees.specs.declared.tree.Expr.TheFolds.{fold-Expr}
 use Rattle.span_expr.specs.declared.expr.Expr.TheVariants as expr
 use Rattle.span_expr.specs.declared.expr.Expr.{Expr as TypedExpr}
 use Rattle.span_query.specs.declared.query.Aggregate.{Aggregate}

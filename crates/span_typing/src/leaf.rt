@@ -19,7 +19,7 @@ use span_expr::expr::Expr;
 use span_lexer::literal_value::{bytes_of, text_of};
 use span_params::params::{Parameter, Params};
 use span_query::query::{Aggregate, Function};
-use span_syntax::tree::Column;
+use span_trees::tree::Column;
 use span_value::refusal::Refusal;
 use span_value::seq::Seq;
 use span_value::value::{Kind, Value};

@@ -11,7 +11,7 @@ use super::typed::{Chain, Typed};
 use span_expr::expr::{Comparison, Expr, Link, Operator};
 use span_expr::pattern::parts_of;
 use span_lexer::literal_value::text_of;
-use span_syntax::tree;
+use span_trees::tree;
 use span_value::refusal::Refusal;
 use span_value::value::{Kind, Value};
 use sqlite_items::Boxed;

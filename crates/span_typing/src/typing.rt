@@ -25,7 +25,7 @@ use super::typed::{Chain, Mode, Typed, TypedArm};
 use span_expr::expr::Expr;
 use span_params::params::Params;
 use span_query::query::Aggregate;
-use span_syntax::tree;
+use span_trees::tree;
 use span_value::refusal::Refusal;
 use span_value::seq::Seq;
 use span_value::value::Kind;

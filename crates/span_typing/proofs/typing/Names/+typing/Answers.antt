@@ -1,6 +1,6 @@
 use Rattle.std.proofs.Common.{rules, arith, ◌<◌, ◌++◌, ◌∷◌, [], List, map, refl, sym, subst, Ok, Err, Option, Result}
 use Rattle.std.specs.Option.{option_map}
-use Rattle.span_syntax.specs.declared.tree.Operator.{Operator}
+use Rattle.span_trees.specs.declared.tree.Operator.{Operator}
 use Rattle.span_expr.specs.declared.expr.Expr.{Expr as TypedExpr}
 use Rattle.span_query.specs.declared.query.Aggregate.{Aggregate}
 use Rattle.span_value.specs.declared.refusal.Refusal.{Refusal}
