@@ -5,7 +5,7 @@ use Rattle.span_value.specs.declared.refusal.Refusal.TheVariants.{OutOfMemory}
 use Rattle.span_value.specs.Results.{and_then}
 use Rattle.span_schema.specs.declared.table.Table.{Table}
 use Rattle.span_params.specs.declared.params.Parameter.{Parameter}
-use Rattle.span_typing.specs.Steps.{Gives}
+use Rattle.span_operators.specs.Steps.{Gives}
 use Rattle.span_binder.specs.declared.bound.BoundBlock.{BoundBlock}
 use Rattle.span_binder.specs.declared.bound.BoundBlocks.{BoundBlocks}
 use Rattle.span_binder.specs.declared.bound.FromItems.{FromItems}

@@ -26,12 +26,12 @@ use Rattle.span_query.specs.declared.query.Statement.{Statement}
 use Rattle.span_query.specs.declared.query.Aggregate.{Aggregate}
 use Rattle.span_params.specs.declared.params.Parameter.{Parameter}
 use Rattle.span_typing.specs.declared.scope.Scope.{Scope}
-use Rattle.span_typing.specs.declared.typed.Typed.{Typed}
-use Rattle.span_typing.specs.declared.typed.Mode.{Mode}
-use Rattle.span_typing.specs.declared.typed.Mode.TheVariants.{Rows, Groups}
-use Rattle.span_typing.specs.Kinds.{takes}
+use Rattle.span_operators.specs.declared.typed.Typed.{Typed}
+use Rattle.span_operators.specs.declared.typed.Mode.{Mode}
+use Rattle.span_operators.specs.declared.typed.Mode.TheVariants.{Rows, Groups}
+use Rattle.span_operators.specs.Kinds.{takes}
 use Rattle.span_typing.specs.Scopes.{column_place, item_named}
-use Rattle.span_typing.specs.Steps.{Gives, pure}
+use Rattle.span_operators.specs.Steps.{Gives, pure}
 use Rattle.span_typing.specs.Typing.{typing, column_at}
 use Rattle.span_binder.specs.declared.bound.Source.{Source}
 use Rattle.span_binder.specs.declared.bound.FromItems.{FromItems}

@@ -16,7 +16,7 @@ use Rattle.span_parser.specs.declared.tree.Query.{Query}
 use Rattle.span_parser.specs.Queries.{IsQuery}
 use Rattle.span_params.specs.declared.params.Parameter.{Parameter}
 use Rattle.span_query.specs.declared.query.Statement.{Statement}
-use Rattle.span_typing.specs.Steps.{Gives}
+use Rattle.span_operators.specs.Steps.{Gives}
 use Rattle.span_binder.specs.Queries.{bound}
 use Rattle.span_binder.specs.Understands.{Understands, IsBound, IsNotInGrammar}
 

@@ -11,11 +11,11 @@ use Rattle.span_trees.specs.declared.tree.Expr.TheOpen.{Expr-F, Arm-F, Link-F}
 use Rattle.span_trees.specs.declared.tree.Expr.TheFolds.{fold-Expr}
 use Rattle.span_parser.specs.declared.tree.Output.{Output}
 use Rattle.span_parser.specs.declared.tree.Output.TheVariants as output
-use Rattle.span_typing.specs.declared.function.CalledFunction.{CalledFunction}
-use Rattle.span_typing.specs.declared.function.CalledFunction.TheVariants as called
-use Rattle.span_typing.specs.declared.typed.Mode.{Mode}
-use Rattle.span_typing.specs.declared.typed.Mode.TheVariants.{Rows, Groups}
-use Rattle.span_typing.specs.Functions.{function_named}
+use Rattle.span_operators.specs.declared.function.CalledFunction.{CalledFunction}
+use Rattle.span_operators.specs.declared.function.CalledFunction.TheVariants as called
+use Rattle.span_operators.specs.declared.typed.Mode.{Mode}
+use Rattle.span_operators.specs.declared.typed.Mode.TheVariants.{Rows, Groups}
+use Rattle.span_operators.specs.Functions.{function_named}
 
 abbrev pub is_aggregate : Option CalledFunction → Bool
 is_aggregate (Some (called.Aggregate f)) = true

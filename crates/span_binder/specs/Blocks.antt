@@ -17,8 +17,8 @@ use Rattle.span_query.specs.declared.query.Grouping.{Grouping}
 use Rattle.span_query.specs.declared.query.Aggregate.{Aggregate}
 use Rattle.span_params.specs.declared.params.Parameter.{Parameter}
 use Rattle.span_typing.specs.declared.scope.Scope.{Scope}
-use Rattle.span_typing.specs.declared.typed.Mode.{Mode}
-use Rattle.span_typing.specs.declared.typed.Mode.TheVariants.{Groups}
+use Rattle.span_operators.specs.declared.typed.Mode.{Mode}
+use Rattle.span_operators.specs.declared.typed.Mode.TheVariants.{Groups}
 use Rattle.span_typing.specs.Scopes.{column_place}
 use Rattle.span_value.specs.Results.{and_then}
 use Rattle.span_typing.specs.Typing.{Finds, typing}

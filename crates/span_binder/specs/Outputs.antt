@@ -12,12 +12,12 @@ use Rattle.span_params.specs.declared.params.Parameter.{Parameter}
 use Rattle.span_query.specs.declared.query.Aggregate.{Aggregate}
 use Rattle.span_typing.specs.declared.scope.Scope.{Scope}
 use Rattle.span_typing.specs.declared.scope.ScopeColumn.{ScopeColumn}
-use Rattle.span_typing.specs.declared.typed.Typed.{Typed}
-use Rattle.span_typing.specs.declared.typed.Mode.{Mode}
-use Rattle.span_typing.specs.Kinds.{or_int}
+use Rattle.span_operators.specs.declared.typed.Typed.{Typed}
+use Rattle.span_operators.specs.declared.typed.Mode.{Mode}
+use Rattle.span_operators.specs.Kinds.{or_int}
 use Rattle.span_typing.specs.Scopes.{item_named}
 use Rattle.span_value.specs.Results.{and_then}
-use Rattle.span_typing.specs.Steps.{pure, from_result, ◌>>=◌}
+use Rattle.span_operators.specs.Steps.{pure, from_result, ◌>>=◌}
 use Rattle.span_typing.specs.Typing.{Finds, typing, column_at}
 use Rattle.span_binder.specs.declared.bound.SelectItem.{SelectItem}
 use Rattle.span_binder.specs.Onward.{fold_results, each_of}

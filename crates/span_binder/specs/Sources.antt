@@ -18,12 +18,12 @@ use Rattle.span_query.specs.declared.query.Join.{Join}
 use Rattle.span_params.specs.declared.params.Parameter.{Parameter}
 use Rattle.span_typing.specs.declared.scope.Scope.{Scope}
 use Rattle.span_typing.specs.declared.scope.ScopeColumn.{ScopeColumn}
-use Rattle.span_typing.specs.declared.typed.Typed.{Typed}
-use Rattle.span_typing.specs.declared.typed.Mode.TheVariants.{Rows}
-use Rattle.span_typing.specs.Kinds.{takes}
+use Rattle.span_operators.specs.declared.typed.Typed.{Typed}
+use Rattle.span_operators.specs.declared.typed.Mode.TheVariants.{Rows}
+use Rattle.span_operators.specs.Kinds.{takes}
 use Rattle.span_typing.specs.Scopes.{item_named}
 use Rattle.span_value.specs.Results.{and_then}
-use Rattle.span_typing.specs.Steps.{TypingStep}
+use Rattle.span_operators.specs.Steps.{TypingStep}
 use Rattle.span_typing.specs.Typing.{typing}
 use Rattle.span_query.specs.declared.query.OutputColumn.{OutputColumn}
 use Rattle.span_binder.specs.declared.bound.Source.{Source}

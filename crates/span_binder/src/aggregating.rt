@@ -5,10 +5,10 @@ ghost use Rattle.std.specs.Option.{option_map};
 ghost use Rattle.span_binder.specs.Blocks.{ons_of};
 ghost use Rattle.span_binder.specs.Aggregating as spec;
 
+use span_operators::function::{CalledFunction, function_named};
+use span_operators::typed::Mode;
 use span_parser::tree::{Join, Output};
 use span_trees::tree::{Arm, Column, Expr, Link, Spelling};
-use span_typing::function::{CalledFunction, function_named};
-use span_typing::typed::Mode;
 use sqlite_items::Boxed;
 
 /// Whether a name is that of an aggregate.

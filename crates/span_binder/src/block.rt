@@ -1,6 +1,6 @@
 //! The clauses of a block after its FROM.
 ghost use Rattle.std.specs.Prelude.{◌≡◌, IfOk};
-ghost use Rattle.span_typing.specs.Steps.{Gives};
+ghost use Rattle.span_operators.specs.Steps.{Gives};
 ghost use Rattle.span_binder.specs.Blocks as spec;
 
 use super::aggregating::{is_grouped, mode_of};
@@ -8,11 +8,11 @@ use super::bound::{BoundBlock, FromItems, Parts, SelectItem};
 use super::grouping::{filter_of, group_places, grouping_of, groups_named, having_of, with_keys};
 use super::output::select_list;
 use span_expr::expr::Expr;
+use span_operators::typed::Mode;
 use span_params::params::Params;
 use span_parser::tree;
 use span_query::query::{Block, BoundQuery, Item, Join, OutputColumn};
 use span_typing::scope::Scope;
-use span_typing::typed::Mode;
 use span_typing::typing::Names;
 use span_value::owned::keep_with;
 use span_value::refusal::Refusal;

@@ -1,16 +1,16 @@
 //! GROUP BY, WHERE and HAVING.
 ghost use Rattle.std.specs.Prelude.{◌≡◌, IfOk};
-ghost use Rattle.span_typing.specs.Steps.{Gives};
+ghost use Rattle.span_operators.specs.Steps.{Gives};
 ghost use Rattle.span_binder.specs.Blocks as spec;
 
 use super::join::{check_bool, condition};
 use super::output::bind_expr;
 use span_expr::expr::Expr;
+use span_operators::typed::Mode;
 use span_query::query::{Aggregate, Grouping};
 use span_trees::tree;
 use span_trees::tree::Column;
 use span_typing::scope::{Scope, column_place};
-use span_typing::typed::Mode;
 use span_typing::typing::Names;
 use span_value::refusal::Refusal;
 use span_value::seq::Seq;

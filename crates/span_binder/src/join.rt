@@ -1,16 +1,16 @@
 //! FROM, item by item: the names up to each, and the conditions of the joins.
 ghost use Rattle.std.specs.Prelude.{◌≡◌, ◌++◌, ◌∷◌, [], IfOk, map};
-ghost use Rattle.span_typing.specs.Steps.{Gives};
+ghost use Rattle.span_operators.specs.Steps.{Gives};
 ghost use Rattle.span_binder.specs.Sources as spec;
 
 use super::bound::{FromItems, Source};
 use span_expr::expr::Expr;
+use span_operators::kind::takes;
+use span_operators::typed::{Mode, Typed};
 use span_params::params::Params;
 use span_query::query::{BoundQuery, Join, OutputColumn};
 use span_trees::tree;
-use span_typing::kind::takes;
 use span_typing::scope::{Scope, ScopeColumn, item_named};
-use span_typing::typed::{Mode, Typed};
 use span_typing::typing::Names;
 use span_value::refusal::Refusal;
 use span_value::seq::Seq;

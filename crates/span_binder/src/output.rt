@@ -1,19 +1,19 @@
 //! The output of a block: the typed expressions of its select list, and their columns.
 ghost use Rattle.std.specs.Prelude.{◌≡◌, IfOk, length, slice_get};
-ghost use Rattle.span_typing.specs.Steps.{Gives};
+ghost use Rattle.span_operators.specs.Steps.{Gives};
 ghost use Rattle.span_typing.specs.Scopes.{item_named as named};
 ghost use Rattle.span_typing.specs.Typing.{typing};
 ghost use Rattle.span_binder.specs.Outputs as spec;
 
 use super::bound::SelectItem;
 use super::join::copy_name;
+use span_operators::kind::or_int;
+use span_operators::typed::{Mode, Typed};
 use span_parser::tree::Output;
 use span_query::query::{Aggregate, OutputColumn};
 use span_trees::tree::{Expr, Spelling};
-use span_typing::kind::or_int;
 use span_typing::leaf::column_at;
 use span_typing::scope::{Scope, ScopeColumn, item_named};
-use span_typing::typed::{Mode, Typed};
 use span_typing::typing::Names;
 use span_value::refusal::Refusal;
 use span_value::seq::Seq;

@@ -1,7 +1,7 @@
 //! The items of a FROM: tables and derived tables, by their names and with their columns.
 ghost use Rattle.std.specs.Prelude.{◌≡◌, IfOk, map};
 ghost use Rattle.span_schema.specs.Numbers.{columns_of, IsTable};
-ghost use Rattle.span_typing.specs.Steps.{Gives};
+ghost use Rattle.span_operators.specs.Steps.{Gives};
 ghost use Rattle.span_binder.specs.Sources as spec;
 
 use super::bound::{Source, TypedQuery};

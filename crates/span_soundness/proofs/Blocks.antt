@@ -29,13 +29,13 @@ use Rattle.span_query.specs.declared.query.Aggregate.{Aggregate}
 use Rattle.span_params.specs.declared.params.Parameter.{Parameter}
 use Rattle.span_typing.specs.declared.scope.Scope.{Scope}
 use Rattle.span_typing.specs.declared.scope.ScopeColumn.{ScopeColumn}
-use Rattle.span_typing.specs.declared.typed.Typed.{Typed}
-use Rattle.span_typing.specs.declared.typed.Mode.{Mode}
-use Rattle.span_typing.specs.declared.typed.Mode.TheVariants.{Rows, Groups}
-use Rattle.span_typing.specs.Kinds.{takes}
+use Rattle.span_operators.specs.declared.typed.Typed.{Typed}
+use Rattle.span_operators.specs.declared.typed.Mode.{Mode}
+use Rattle.span_operators.specs.declared.typed.Mode.TheVariants.{Rows, Groups}
+use Rattle.span_operators.specs.Kinds.{takes}
 use Rattle.span_typing.specs.Scopes.{item_named, column_place}
 use Rattle.span_value.specs.Results.{and_then}
-use Rattle.span_typing.specs.Steps.{pure, ◌>>=◌}
+use Rattle.span_operators.specs.Steps.{pure, ◌>>=◌}
 use Rattle.span_typing.specs.Typing.{Finds, typing, kind_at, column_at}
 use Rattle.span_query.specs.declared.query.OutputColumn.{OutputColumn}
 use Rattle.span_binder.specs.declared.bound.Source.{Source}

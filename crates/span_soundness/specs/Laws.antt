@@ -26,8 +26,8 @@ use Rattle.span_query.specs.Meaning.{meaning}
 use Rattle.span_params.specs.declared.params.Parameter.{Parameter}
 use Rattle.span_params.specs.Parameters.{with_parameter}
 use Rattle.span_typing.specs.declared.scope.Scope.{Scope}
-use Rattle.span_typing.specs.declared.typed.Typed.{Typed}
-use Rattle.span_typing.specs.declared.typed.Mode.{Mode}
+use Rattle.span_operators.specs.declared.typed.Typed.{Typed}
+use Rattle.span_operators.specs.declared.typed.Mode.{Mode}
 use Rattle.span_typing.specs.Typing.{typing}
 use Rattle.span_binder.specs.declared.bound.TypedQuery.{TypedQuery}
 use Rattle.span_binder.specs.Queries.{query_step, bound}

@@ -12,8 +12,8 @@ use Rattle.span_trees.specs.declared.tree.Expr.TheFolds.{fold-roll-Expr, fold_ou
 use Rattle.span_params.specs.declared.params.Parameter.{Parameter}
 use Rattle.span_trees.specs.declared.tree.Spelling.{Spelling}
 use Rattle.span_typing.specs.declared.scope.Scope.{Scope}
-use Rattle.span_typing.specs.declared.typed.Typed.{Typed}
-use Rattle.span_typing.specs.Operators.{unary_minus, logical_not, null_test, like_test}
+use Rattle.span_operators.specs.declared.typed.Typed.{Typed}
+use Rattle.span_operators.specs.Operators.{unary_minus, logical_not, null_test, like_test}
 use Rattle.span_typing.specs.Typing.{Operand, at_operands, arm_at, link_at, typing, arm_typing, link_typing, chain, case, simple_case, of_one}
 
 abbrev arm_fold : Scope → List Parameter → Arm → Operand × Operand

@@ -1,8 +1,8 @@
 use Rattle.std.proofs.Common.{rules, ◌≡◌, map, sym, ◌∙◌, None, Err}
-use Rattle.span_typing.specs.declared.typed.TypedArm.{TypedArm}
-use Rattle.span_typing.specs.Kinds.{common_kind, common_kind_with}
-use Rattle.span_typing.proofs.Agreement.{agreed_refused}
-use Rattle.span_typing.proofs.choice.kind_of_values.Goals as goal
+use Rattle.span_operators.specs.declared.typed.TypedArm.{TypedArm}
+use Rattle.span_operators.specs.Kinds.{common_kind, common_kind_with}
+use Rattle.span_operators.proofs.Agreement.{agreed_refused}
+use Rattle.span_operators.proofs.choice.kind_of_values.Goals as goal
 
 pub returns-in_err-kind-2 : goal.returns-in_err-kind-2
 returns-in_err-kind-2 c =

@@ -1,10 +1,10 @@
 //! The typed expressions of lists of operands and of choices.
 ghost use Rattle.std.specs.Prelude.{◌≡◌, ◌∷◌, IfOk, map};
 ghost use Rattle.std.specs.List.{list_all};
-ghost use Rattle.span_typing.specs.Steps.{Gives};
-ghost use Rattle.span_typing.specs.Kinds.{common_kind_of_all};
+ghost use Rattle.span_operators.specs.Steps.{Gives};
+ghost use Rattle.span_operators.specs.Kinds.{common_kind_of_all};
 ghost use Rattle.span_expr.specs.declared.expr.Expr.TheVariants as expr;
-ghost use Rattle.span_typing.specs.Operators as spec;
+ghost use Rattle.span_operators.specs.Operators as spec;
 
 use super::kind::{common_kind, or_int, takes};
 use super::operator::{TypingResult, of_kind};
@@ -42,7 +42,7 @@ fn exprs_of(alloc: Global, operands: Seq<Typed>) -> Result<Items<Expr>, AllocErr
 
 /// An IN.
 #[tactic(auto, unfolding(crate::specs::Operators::in_list))]
-pub(crate) fn in_list(alloc: Global, operand: Typed, members: Seq<Typed>) -> TypingResult
+pub fn in_list(alloc: Global, operand: Typed, members: Seq<Typed>) -> TypingResult
     ensures { Gives result (spec.in_list operand members) }
 {
     let kind = kind_of_all(members.as_slice(), operand.kind);
@@ -143,7 +143,7 @@ fn case_expr(
 
 /// A CASE without an operand.
 #[tactic(auto, unfolding(crate::specs::Operators::case_of))]
-pub(crate) fn case_of(alloc: Global, arms: Seq<TypedArm>, otherwise: Option<Typed>) -> TypingResult
+pub fn case_of(alloc: Global, arms: Seq<TypedArm>, otherwise: Option<Typed>) -> TypingResult
     ensures { Gives result (spec.case_of arms otherwise) }
 {
     let kind = case_kind(arms.as_slice(), &otherwise);
@@ -167,7 +167,7 @@ fn match_expr(
 
 /// A CASE with an operand, to which the conditions were compared.
 #[tactic(auto, unfolding(crate::specs::Operators::match_of))]
-pub(crate) fn match_of(
+pub fn match_of(
     alloc: Global,
     operand: Typed,
     arms: Seq<TypedArm>,

@@ -1,9 +1,9 @@
 //! The typed expressions of operators, from typed operands.
 ghost use Rattle.std.specs.Prelude.{◌≡◌, ◌∷◌, [], Ok};
-ghost use Rattle.span_typing.specs.Steps.{Gives};
-ghost use Rattle.span_typing.specs.Kinds.{common_kind_of_all};
-ghost use Rattle.span_typing.specs.Operators as spec;
-ghost use Rattle.span_typing.specs.Typing.{append_link, chain_of};
+ghost use Rattle.span_operators.specs.Steps.{Gives};
+ghost use Rattle.span_operators.specs.Kinds.{common_kind_of_all};
+ghost use Rattle.span_operators.specs.Operators as spec;
+ghost use Rattle.span_operators.specs.Operators.{append_link, chain_of};
 
 use super::kind::{common_kind, takes, text_kind};
 use super::step::{box_three, box_two, keep_if, pair_with};
@@ -18,9 +18,10 @@ use sqlite_items::Boxed;
 use std::alloc::Global;
 
 /// The result for a tree, or for a part of one.
-pub(crate) type TypingResult = Result<Typed, Refusal>;
+pub type TypingResult = Result<Typed, Refusal>;
 
-pub(crate) fn of_kind(expr: Expr, kind: Kind) -> Typed
+/// An expression of a type.
+pub fn of_kind(expr: Expr, kind: Kind) -> Typed
     ensures { result ≡ spec.of_kind expr kind }
 {
     Typed {
@@ -39,30 +40,33 @@ fn number_of(literal: tree::Integer) -> i64
 
 /// An integer literal.
 #[tactic(auto, unfolding(crate::specs::Operators::integer))]
-pub(crate) fn integer(literal: tree::Integer) -> Typed
+pub fn integer(literal: tree::Integer) -> Typed
     ensures { result ≡ spec.integer literal }
 {
     of_kind(Expr::Literal(Value::Int(number_of(literal))), Kind::Int)
 }
 
+/// A unary minus.
 #[tactic(auto, unfolding(crate::specs::Operators::unary_minus))]
-pub(crate) fn unary_minus(alloc: Global, operand: Typed) -> TypingResult
+pub fn unary_minus(alloc: Global, operand: Typed) -> TypingResult
     ensures { Gives result (spec.unary_minus operand) }
 {
     let operand = keep_if(takes(Kind::Int, operand.kind), operand.expr)?;
     Ok(of_kind(Expr::Negative(Boxed::new(alloc, operand)?), Kind::Int))
 }
 
+/// A NOT.
 #[tactic(auto, unfolding(crate::specs::Operators::logical_not))]
-pub(crate) fn logical_not(alloc: Global, operand: Typed) -> TypingResult
+pub fn logical_not(alloc: Global, operand: Typed) -> TypingResult
     ensures { Gives result (spec.logical_not operand) }
 {
     let operand = keep_if(takes(Kind::Bool, operand.kind), operand.expr)?;
     Ok(of_kind(Expr::Not(Boxed::new(alloc, operand)?), Kind::Bool))
 }
 
+/// An IS NULL.
 #[tactic(auto, unfolding(crate::specs::Operators::null_test))]
-pub(crate) fn null_test(alloc: Global, operand: Typed) -> TypingResult
+pub fn null_test(alloc: Global, operand: Typed) -> TypingResult
     ensures { Gives result (Ok (spec.null_test operand)) }
 {
     Ok(of_kind(Expr::IsNull(Boxed::new(alloc, operand.expr)?), Kind::Bool))
@@ -82,8 +86,9 @@ fn comparison_of(comparison: tree::ComparisonOperator) -> Comparison
     }
 }
 
+/// A comparison of two operands.
 #[tactic(auto, unfolding(crate::specs::Operators::comparison_test))]
-pub(crate) fn comparison_test(
+pub fn comparison_test(
     alloc: Global,
     left: Typed,
     comparison: tree::ComparisonOperator,
@@ -113,7 +118,7 @@ fn common_kind_of_all(
 
 /// The three operands of a BETWEEN are checked together.
 #[tactic(auto, unfolding(crate::specs::Operators::between))]
-pub(crate) fn between(alloc: Global, operand: Typed, low: Typed, high: Typed) -> TypingResult
+pub fn between(alloc: Global, operand: Typed, low: Typed, high: Typed) -> TypingResult
     ensures { Gives result (spec.between operand low high) }
 {
     let kind = common_kind_of_all(operand.kind, low.kind, high.kind);
@@ -124,7 +129,7 @@ pub(crate) fn between(alloc: Global, operand: Typed, low: Typed, high: Typed) ->
 
 /// A LIKE, with its pattern as it is spelt.
 #[tactic(auto, unfolding(crate::specs::Operators::like_test))]
-pub(crate) fn like_test(alloc: Global, operand: Typed, pattern: &str) -> TypingResult
+pub fn like_test(alloc: Global, operand: Typed, pattern: &str) -> TypingResult
     ensures { Gives result (spec.like_test pattern.now operand) }
 {
     let operand = keep_if(takes(Kind::Str, operand.kind), operand.expr)?;
@@ -135,14 +140,14 @@ pub(crate) fn like_test(alloc: Global, operand: Typed, pattern: &str) -> TypingR
 }
 
 /// Whether both operands of an AND or an OR can be conditions.
-pub(crate) fn are_conditions(left: Option<Kind>, right: Option<Kind>) -> bool
+pub fn are_conditions(left: Option<Kind>, right: Option<Kind>) -> bool
     ensures { result ≡ spec.are_conditions left right }
 {
     takes(Kind::Bool, left) && takes(Kind::Bool, right)
 }
 
 #[tactic(auto, unfolding(crate::specs::Operators::operator_of))]
-pub(crate) fn operator_of(operator: tree::Operator) -> Operator
+fn operator_of(operator: tree::Operator) -> Operator
     ensures { result ≡ spec.operator_of operator }
 {
     match operator {
@@ -155,7 +160,7 @@ pub(crate) fn operator_of(operator: tree::Operator) -> Operator
 
 /// The type of a chain with one more operator.
 #[tactic(auto, unfolding(crate::specs::Operators::link_kind))]
-pub(crate) fn link_kind(
+fn link_kind(
     operator: tree::Operator,
     left: Option<Kind>,
     right: Option<Kind>,
@@ -173,12 +178,8 @@ pub(crate) fn link_kind(
 }
 
 /// A chain with one more operator.
-#[tactic(auto, unfolding(crate::specs::Typing::append_link))]
-pub(crate) fn append_link(
-    chain: Chain,
-    operator: tree::Operator,
-    operand: Typed,
-) -> Result<Chain, Refusal>
+#[tactic(auto, unfolding(crate::specs::Operators::append_link))]
+pub fn append_link(chain: Chain, operator: tree::Operator, operand: Typed) -> Result<Chain, Refusal>
     ensures { Gives result (append_link chain operator operand) }
 {
     let kind = link_kind(operator, chain.kind, operand.kind);
@@ -195,8 +196,8 @@ pub(crate) fn append_link(
 }
 
 /// A chain after its first operand.
-#[tactic(auto, unfolding(crate::specs::Typing::chain_of))]
-pub(crate) fn chain_of(alloc: Global, first: Typed, chain: Chain) -> TypingResult
+#[tactic(auto, unfolding(crate::specs::Operators::chain_of))]
+pub fn chain_of(alloc: Global, first: Typed, chain: Chain) -> TypingResult
     ensures { Gives result (Ok (chain_of first chain)) }
 {
     let Chain { kind, links } = chain;

@@ -4,7 +4,7 @@
 //! here, for values of any type, and is proved once.
 ghost use Rattle.std.specs.Prelude.{◌≡◌, ◌++◌, ◌∷◌, [], Ok, Err, IfOk, if◌then◌else◌};
 ghost use Rattle.span_value.specs.Results.{and_then};
-ghost use Rattle.span_typing.specs.Steps.{Gives};
+ghost use Rattle.span_operators.specs.Steps.{Gives};
 
 use span_value::refusal::Refusal;
 use span_value::seq::Seq;
@@ -23,10 +23,7 @@ pub fn pair_with<A: Drop, B>(first: A, second: Result<B, Refusal>) -> Result<(A,
 }
 
 /// The items so far, and one more after them. It takes the result itself, as `pair_with` does.
-pub(crate) fn push_result<T: Drop>(
-    so_far: Seq<T>,
-    next: Result<T, Refusal>,
-) -> Result<Seq<T>, Refusal>
+pub fn push_result<T: Drop>(so_far: Seq<T>, next: Result<T, Refusal>) -> Result<Seq<T>, Refusal>
     ensures { Gives result (and_then next (λ x. Ok (so_far ++ x ∷ []))) }
 {
     let next = next?;
@@ -38,7 +35,7 @@ pub(crate) fn push_result<T: Drop>(
 }
 
 /// A value, if it is right. The error is `TypeMismatch`.
-pub(crate) fn keep_if<T: Drop>(is_right: bool, value: T) -> Result<T, Refusal>
+pub fn keep_if<T: Drop>(is_right: bool, value: T) -> Result<T, Refusal>
     ensures { result ≡ if is_right then Ok value else Err Refusal.TypeMismatch }
 {
     if is_right {
@@ -49,7 +46,7 @@ pub(crate) fn keep_if<T: Drop>(is_right: bool, value: T) -> Result<T, Refusal>
 }
 
 /// Appends an item.
-pub(crate) fn append<T: Drop>(items: &mut Seq<T>, item: T) -> Result<(), AllocError>
+pub fn append<T: Drop>(items: &mut Seq<T>, item: T) -> Result<(), AllocError>
     ensures { IfOk result (λ u. items.new ≡ items.old ++ item ∷ []) }
 {
     match items.push(item) {

@@ -3,8 +3,8 @@ use Rattle.std.specs.Prelude.{ℕ, codes, List, [], ◌∷◌, find, Option}
 use Rattle.span_schema.specs.Tables.{is_same_name}
 use Rattle.span_query.specs.declared.query.Function.{Function}
 use Rattle.span_query.specs.declared.query.Function.TheVariants.{Count, Sum, Min, Max}
-use Rattle.span_typing.specs.declared.function.CalledFunction.{CalledFunction}
-use Rattle.span_typing.specs.declared.function.CalledFunction.TheVariants as called
+use Rattle.span_operators.specs.declared.function.CalledFunction.{CalledFunction}
+use Rattle.span_operators.specs.declared.function.CalledFunction.TheVariants as called
 
 abbrev pub aggregate_name : Function → List ℕ
 aggregate_name Count = codes "COUNT"

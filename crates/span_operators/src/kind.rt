@@ -1,6 +1,6 @@
 //! Types of operands. None is that of a NULL literal, which takes the type of the other operands in its place.
 ghost use Rattle.std.specs.Prelude.{◌≡◌};
-ghost use Rattle.span_typing.specs.Kinds as spec;
+ghost use Rattle.span_operators.specs.Kinds as spec;
 
 use span_value::refusal::Refusal;
 use span_value::value::Kind;
@@ -17,7 +17,7 @@ pub fn takes(wanted: Kind, kind: Option<Kind>) -> bool
 
 /// The one type of two operands.
 #[tactic(auto, unfolding(crate::specs::Kinds::common_kind))]
-pub(crate) fn common_kind(left: Option<Kind>, right: Option<Kind>) -> Result<Option<Kind>, Refusal>
+pub fn common_kind(left: Option<Kind>, right: Option<Kind>) -> Result<Option<Kind>, Refusal>
     ensures { result ≡ spec.common_kind left right }
 {
     match (left, right) {

@@ -4,10 +4,10 @@ use Rattle.std.proofs.Math.Seq.{drop-cons}
 use Rattle.span_value.specs.declared.value.Kind.{Kind}
 use Rattle.span_value.specs.declared.refusal.Refusal.{Refusal}
 use Rattle.span_value.specs.declared.refusal.Refusal.TheVariants.{TypeMismatch}
-use Rattle.span_typing.specs.declared.typed.Typed.{Typed}
+use Rattle.span_operators.specs.declared.typed.Typed.{Typed}
 use Rattle.span_value.specs.Results.{and_then}
-use Rattle.span_typing.specs.Kinds.{common_kind, common_kind_with}
-use Rattle.span_typing.specs.Operators.{one_of, two_of, three_of}
+use Rattle.span_operators.specs.Kinds.{common_kind, common_kind_with}
+use Rattle.span_operators.specs.Operators.{one_of, two_of, three_of}
 
 -- a refusal stays one
 pub refused_stays : (ks : List (Option Kind)) (why : Refusal) → common_kind_with ks (Err why) ≡ Err why

@@ -1,7 +1,7 @@
 //! Functions, by their names.
 ghost use Rattle.std.specs.Prelude.{◌≡◌};
 ghost use Rattle.std.specs.Option.{option_copied};
-ghost use Rattle.span_typing.specs.Functions as spec;
+ghost use Rattle.span_operators.specs.Functions as spec;
 
 use span_query::query::Function;
 use span_schema::table::are_same;

@@ -1,9 +1,9 @@
 //! What calls make of typed operands.
 ghost use Rattle.std.specs.Prelude.{◌≡◌, ◌∷◌, [], Ok};
 ghost use Rattle.span_value.specs.Results.{and_then};
-ghost use Rattle.span_typing.specs.Steps.{Gives};
-ghost use Rattle.span_typing.specs.Kinds as kinds;
-ghost use Rattle.span_typing.specs.Operators as spec;
+ghost use Rattle.span_operators.specs.Steps.{Gives};
+ghost use Rattle.span_operators.specs.Kinds as kinds;
+ghost use Rattle.span_operators.specs.Operators as spec;
 
 use super::choice::{case_of, coalesce_of};
 use super::function::CalledFunction;
@@ -137,11 +137,7 @@ fn coalesce_some(alloc: Global, operands: Seq<Typed>) -> TypingResult
 
 /// A call of a function but the aggregates. A wrong number of operands is a wrong type.
 #[tactic(auto, unfolding(crate::specs::Operators::apply_function))]
-pub(crate) fn apply_function(
-    alloc: Global,
-    function: CalledFunction,
-    operands: Seq<Typed>,
-) -> TypingResult
+pub fn apply_function(alloc: Global, function: CalledFunction, operands: Seq<Typed>) -> TypingResult
     ensures { Gives result (spec.apply_function function operands) }
 {
     match function {
@@ -170,7 +166,7 @@ pub(crate) fn apply_function(
 
 /// The operand of an aggregate. SUM takes INT64 alone.
 #[tactic(auto, unfolding(crate::specs::Operators::operand_of))]
-pub(crate) fn operand_of(function: Function, operands: Seq<Typed>) -> TypingResult
+pub fn operand_of(function: Function, operands: Seq<Typed>) -> TypingResult
     ensures { result ≡ spec.operand_of function operands }
 {
     let operand = one_of(operands)?;

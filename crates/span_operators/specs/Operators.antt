@@ -1,5 +1,5 @@
 -- The typed expression that an operator or a call makes of typed operands.
-use Rattle.std.specs.Prelude.{ℕ, ℤ, pos, neg_ℤ, ◌^◌, ◌%◌, ◌&&◌, Bool, List, [], ◌∷◌, map, chars, Option, Some, None, Result, Ok, Err, if◌then◌else◌}
+use Rattle.std.specs.Prelude.{ℕ, ℤ, pos, neg_ℤ, ◌^◌, ◌%◌, ◌&&◌, Bool, List, [], ◌∷◌, ◌++◌, map, chars, Option, Some, None, Result, Ok, Err, if◌then◌else◌}
 use Rattle.std.specs.List.{list_all}
 use Rattle.std.specs.Option.{option_map}
 use Rattle.span_value.specs.declared.value.Value.TheVariants as value
@@ -24,11 +24,12 @@ use Rattle.span_expr.specs.Patterns.{parts_of}
 use Rattle.span_query.specs.declared.query.Function.{Function}
 use Rattle.span_query.specs.declared.query.Function.TheVariants as function
 use Rattle.span_lexer.specs.LiteralValues.{text_of}
-use Rattle.span_typing.specs.declared.typed.Typed.{Typed}
-use Rattle.span_typing.specs.declared.typed.TypedArm.{TypedArm}
-use Rattle.span_typing.specs.declared.function.CalledFunction.{CalledFunction}
-use Rattle.span_typing.specs.declared.function.CalledFunction.TheVariants as called
-use Rattle.span_typing.specs.Kinds.{takes, common_kind, common_kind_of_all, or_int, text_kind}
+use Rattle.span_operators.specs.declared.typed.Typed.{Typed}
+use Rattle.span_operators.specs.declared.typed.TypedArm.{TypedArm}
+use Rattle.span_operators.specs.declared.typed.Chain.{Chain}
+use Rattle.span_operators.specs.declared.function.CalledFunction.{CalledFunction}
+use Rattle.span_operators.specs.declared.function.CalledFunction.TheVariants as called
+use Rattle.span_operators.specs.Kinds.{takes, common_kind, common_kind_of_all, or_int, text_kind}
 use Rattle.span_value.specs.Results.{and_then}
 
 abbrev pub of_kind : Expr → Kind → Typed
@@ -106,6 +107,18 @@ operator_of Concat = Concatenate
 unfoldable pub link_kind : Operator → Option Kind → Option Kind → Result Kind Refusal
 link_kind Concat j k = and_then (common_kind j k) text_kind
 link_kind op j k = if takes kind.Int j && takes kind.Int k then Ok kind.Int else Err TypeMismatch
+
+-- a chain, one operator on
+unfoldable pub append_link : Chain → Operator → Typed → Result Chain Refusal
+append_link c op x =
+    and_then (link_kind op c.kind x.kind)
+    (λ k. Ok (record {
+      kind = Some k;
+      links = c.links ++ (record { operator = operator_of op; operand = x.expr } ∷ []);
+    }))
+
+unfoldable pub chain_of : Typed → Chain → Typed
+chain_of x c = record { expr = expr.Chain x.expr c.links; kind = c.kind }
 
 -- ---- choices
 
