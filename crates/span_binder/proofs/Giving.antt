@@ -1,7 +1,7 @@
 -- Along a list, what was found so far and what is found with one more item.
 use Rattle.std.proofs.Common.{◌≡◌, ℕ, suc, ◌+◌, ◌<◌, List, ◌∷◌, length, map, drop, get_or, Result, Ok, Err, sym, ap, ◌∙◌, arith}
 use Rattle.std.proofs.Math.Seq.{drop-cons}
-use Rattle.span_binder.specs.Onward.{fold_results}
+use Rattle.span_blocks.specs.Onward.{fold_results}
 use Rattle.span_value.specs.declared.refusal.Refusal.{Refusal}
 use Rattle.span_value.specs.Results.{and_then}
 use Rattle.span_operators.specs.Steps.{Gives}

@@ -9,7 +9,7 @@ use Rattle.std.specs.List.{AllByRecursion}
 use Rattle.std.proofs.lemmas.List.Elements.{recursion_from_All}
 use Rattle.span_schema.specs.declared.table.Table.{Table}
 use Rattle.span_schema.specs.Numbers.{IsTable}
-use Rattle.span_binder.specs.Sources.{AreTables}
+use Rattle.span_blocks.specs.Sources.{AreTables}
 use Rattle.span_grammar.specs.declared.judge.Goal.TheVariants as goal
 use Rattle.span_grammar.specs.Judged.{IsRefused}
 use Rattle.span_parser.specs.declared.tree.Query.{Query}

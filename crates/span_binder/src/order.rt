@@ -6,8 +6,8 @@ ghost use Rattle.span_typing.specs.Scopes.{is_named, one_place};
 ghost use Rattle.span_operators.specs.Steps.{Gives};
 ghost use Rattle.span_binder.specs.Queries as spec;
 
-use super::bound::{BoundBlock, BoundBlocks, TypedQuery};
 use super::step::with_item;
+use span_blocks::bound::{BoundBlock, BoundBlocks, TypedQuery};
 use span_operators::step::pair_with;
 use span_parser::tree;
 use span_parser::tree::SortColumn;

@@ -2,9 +2,9 @@
 ghost use Rattle.std.specs.Prelude.{◌≡◌, IfOk, map};
 ghost use Rattle.span_schema.specs.Numbers.{columns_of, IsTable};
 ghost use Rattle.span_operators.specs.Steps.{Gives};
-ghost use Rattle.span_binder.specs.Sources as spec;
+ghost use Rattle.span_blocks.specs.Sources as spec;
 
-use super::bound::{Source, TypedQuery};
+use span_blocks::bound::{Source, TypedQuery};
 use span_query::query::{Item, OutputColumn};
 use span_schema::schema::Schema;
 use span_schema::table::{Column, kind_of_type};

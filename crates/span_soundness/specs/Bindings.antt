@@ -17,7 +17,7 @@ use Rattle.span_operators.specs.declared.typed.Mode.TheVariants.{Rows, Groups}
 use Rattle.span_operators.specs.Kinds.{takes}
 use Rattle.span_typing.specs.Typing.{kind_at}
 use Rattle.span_query.specs.declared.query.OutputColumn.{OutputColumn}
-use Rattle.span_binder.specs.Sources.{table_columns}
+use Rattle.span_blocks.specs.Sources.{table_columns}
 use Rattle.span_soundness.specs.Types.{Typing, are_same, has_type, is_of}
 
 -- ---- rows

@@ -29,7 +29,7 @@ use Rattle.span_typing.specs.declared.scope.Scope.{Scope}
 use Rattle.span_operators.specs.declared.typed.Typed.{Typed}
 use Rattle.span_operators.specs.declared.typed.Mode.{Mode}
 use Rattle.span_typing.specs.Typing.{typing}
-use Rattle.span_binder.specs.declared.bound.TypedQuery.{TypedQuery}
+use Rattle.span_blocks.specs.declared.bound.TypedQuery.{TypedQuery}
 use Rattle.span_binder.specs.Queries.{query_step, bound}
 use Rattle.span_binder.specs.Understands.{Understands}
 use Rattle.span_planner.specs.Plannable.{IsPlannable}
