@@ -1,5 +1,5 @@
 #!/usr/bin/env python3
-"""Writes what span_syntax, span_parser and span_schematext prove of their pieces, part by part, from the grammar in docs/SQL.md.
+"""Writes what span_primary, span_parser and span_schematext prove of their pieces, part by part, from the grammar in docs/SQL.md.
 
     tools/grammar_pieces.py            writes the files
     tools/grammar_pieces.py --check    writes nothing, and names the files that are not what would be written; status 1 where there are any
@@ -37,11 +37,11 @@ use Rattle.span_grammar.specs.declared.grammar.Place.TheVariants as place
 RULES = """
 use Rattle.span_grammar.specs.Shapes.{shape_of, part_inside}
 use Rattle.span_grammar.specs.Grammar.{rule_of}
-use Rattle.span_syntax.specs.Pieces.{Piece, token, nothing, ◌<$>◌, ◌>>=◌, either, each, pair_with, opening}
+use Rattle.span_primary.specs.Pieces.{Piece, token, nothing, ◌<$>◌, ◌>>=◌, either, each, pair_with, opening}
 """
 
 GOOD = """
-use Rattle.span_syntax.proofs.Good.{Good, token_good, nothing_good, map_good, then_good, or_good, many_good, beside_good, open_good}
+use Rattle.span_primary.proofs.Good.{Good, token_good, nothing_good, map_good, then_good, or_good, many_good, beside_good, open_good}
 """
 
 NAME = "sort.Name"
@@ -67,23 +67,24 @@ def in_text(name):
     return reference(name, "text")
 
 
-# ---- expressions: span_syntax's proofs/Expressing.antt and proofs/Shrinking.antt
+# ---- expressions: span_primary's proofs/Expressing.antt and proofs/Shrinking.antt
 
 EXPRESSIONS = """
 use Rattle.std.proofs.Common.{◌≡◌, ℕ, zero, suc, true, false, List, [], ◌∷◌, refl, subst, arith, Some, None}
 """ + TOKENS + """
 use Rattle.span_grammar.specs.declared.class.Sort.{Sort}
 """ + PARTS + """
-use Rattle.span_syntax.specs.declared.operator.PredicateTest.TheVariants as predicate_test
-use Rattle.span_syntax.specs.declared.tree.Spelling.{Spelling}
-use Rattle.span_syntax.specs.declared.tree.Operator.TheVariants as operator
-use Rattle.span_syntax.specs.declared.tree.ComparisonOperator.TheVariants as how
-use Rattle.span_syntax.specs.declared.tree.Expr.{Expr}
-use Rattle.span_syntax.specs.declared.tree.Expr.TheVariants as e
-use Rattle.span_syntax.specs.declared.tree.Link.{roll-Link}
+use Rattle.span_trees.specs.declared.operator.PredicateTest.TheVariants as predicate_test
+use Rattle.span_trees.specs.declared.tree.Spelling.{Spelling}
+use Rattle.span_trees.specs.declared.tree.Operator.TheVariants as operator
+use Rattle.span_trees.specs.declared.tree.ComparisonOperator.TheVariants as how
+use Rattle.span_trees.specs.declared.tree.Expr.{Expr}
+use Rattle.span_trees.specs.declared.tree.Expr.TheVariants as e
+use Rattle.span_trees.specs.declared.tree.Link.{roll-Link}
 """ + RULES + """
-use Rattle.span_syntax.specs.Expressions.{span_of, spelling_of, spelling, close_parenthesis, arm_of, then_value, integer_of, qualifier,
-    column_of, qualified_column, column, direction, chain_of, conjunction_of, disjunction_of, apply_test, term_sign, sum_sign, comparison,
+use Rattle.span_trees.specs.Operations.{chain_of, conjunction_of, disjunction_of, apply_test}
+use Rattle.span_primary.specs.Expressions.{span_of, spelling_of, spelling, close_parenthesis, arm_of, then_value, integer_of, qualifier,
+    column_of, qualified_column, column, direction, term_sign, sum_sign, comparison,
     maybe_not, null_words, list_more, list, when, case_operand, case_else, case_end, case_arms, case_of, in_case, argument_list, Inner,
     parenthesis, arguments, members, case, negation, opposite, after_name, call_or_column, if_call, compound, word_literal, other_primary,
     primary, unary, other_unary, signed_primary, term_more, term, sum_more, sum, comparison_test, is_null, like, high_end, between, within,
@@ -92,7 +93,7 @@ use Rattle.span_syntax.specs.Expressions.{span_of, spelling_of, spelling, close_
 
 
 def expressing_antt(writer):
-    """span_syntax's proofs/Expressing.antt."""
+    """span_primary's proofs/Expressing.antt."""
     return module("Expressions are read as the grammar's theory reads them, and built.", EXPRESSIONS, SPELLING + columns(writer)
                   + "module _ (n : ℕ) where\n" + signs(writer) + INSIDE + insides(writer) + DEEP + openings(writer)
                   + primaries(writer) + operators(writer) + predicates(writer) + junctions(writer) + DEPTHS)
@@ -300,13 +301,13 @@ deep text (suc n) =
 
 LOOPS = """
 use Rattle.span_grammar.proofs.Repeated.{repeated_full}
-use Rattle.span_syntax.proofs.Loops.{Shrinks, each_more, each_end, each_err, each_falls}
-use Rattle.span_syntax.proofs.Shrinking.{shrinking}
+use Rattle.span_primary.proofs.Loops.{Shrinks, each_more, each_end, each_err, each_falls}
+use Rattle.span_primary.proofs.Shrinking.{shrinking}
 """
 
 
 def shrinking_antt(writer):
-    """span_syntax's proofs/Shrinking.antt."""
+    """span_primary's proofs/Shrinking.antt."""
     chains = [("term", "Term"), ("sum", "Sum"), ("conjunction", "Conjunction"), ("expression", "Expression")]
     body = SHRINKING
     for name, part in chains:
@@ -315,20 +316,20 @@ def shrinking_antt(writer):
         body += shrinks_inside(writer, name, rest)
     return module("What is read any number of times takes a token each time.", """
 use Rattle.std.proofs.Common.{◌≡◌, ℕ, zero, suc, ◌<◌, ◌≤◌, false, List, Result, refl, sym, ap, ◌∙◌, arith, Ok}
-use Rattle.span_syntax.specs.declared.fault.SyntaxError.{SyntaxError}
+use Rattle.span_primary.specs.declared.fault.SyntaxError.{SyntaxError}
 use Rattle.span_grammar.specs.declared.class.Lexeme.{Lexeme}
 use Rattle.span_grammar.specs.declared.grammar.Part.{Part}
 use Rattle.span_grammar.specs.declared.grammar.Part.TheVariants as part
 use Rattle.span_grammar.specs.Rules.{Answer, Read, Wrong, Deep, Tree, limit, is_nullable, parse}
 use Rattle.span_grammar.specs.Shapes.{shape_of}
 use Rattle.span_grammar.specs.Grammar.{inside, rule_of}
-use Rattle.span_syntax.specs.Pieces.{Piece, ReadResult, to_read_result}
-use Rattle.span_syntax.specs.Expressions.{after, list_more, when, term_more, sum_more, conjunction_more, expression_more}
-use Rattle.span_syntax.proofs.Good.{Good}
+use Rattle.span_primary.specs.Pieces.{Piece, ReadResult, to_read_result}
+use Rattle.span_primary.specs.Expressions.{after, list_more, when, term_more, sum_more, conjunction_more, expression_more}
+use Rattle.span_primary.proofs.Good.{Good}
 use Rattle.span_grammar.proofs.Repeated.{repeated_full}
 use Rattle.span_grammar.proofs.Steps.{shrinks}
-use Rattle.span_syntax.proofs.Loops.{Shrinks, each_more, each_end, each_err, each_falls}
-use Rattle.span_syntax.proofs.Expressing.{deep, list_more_good, when_good, term_more_good, sum_more_good, conjunction_more_good, expression_more_good}
+use Rattle.span_primary.proofs.Loops.{Shrinks, each_more, each_end, each_err, each_falls}
+use Rattle.span_primary.proofs.Expressing.{deep, list_more_good, when_good, term_more_good, sum_more_good, conjunction_more_good, expression_more_good}
 """, body + loop_steps([f"{name}_more" for name, _ in chains] + ["list_more", "when"]))
 
 
@@ -397,14 +398,14 @@ use Rattle.span_parser.specs.declared.tree.Join.{Join}
 use Rattle.span_parser.specs.declared.tree.Block.{Block}
 use Rattle.span_parser.specs.declared.tree.Query.{Query}
 """ + RULES.replace(", opening}", "}") + """
-use Rattle.span_syntax.specs.Expressions.{value_of, integer_of, spelling, close_parenthesis, column, direction, after, expression}
+use Rattle.span_primary.specs.Expressions.{value_of, integer_of, spelling, close_parenthesis, column, direction, after, expression}
 use Rattle.span_parser.specs.Queries.{as_name, alias, required_alias, sort_column, sort_key, sort_key_more, sort_keys, order_by,
     maybe_order_by, skip, maybe_skip, limit_clause, maybe_limit, quantifier, column_more, columns, group_by, maybe_group_by, all_of_table,
     maybe_outer, left_join, inner_join, join_kind, maybe_semicolon, where_clause, maybe_where, having, maybe_having, output_expression,
     output, output_more, outputs, subquery, named_item, derived_item, item, join_of, block_of, query_of, join_on, join, block_groups,
     block_filter, order_and_limit, unions, block_joins, block_from, block_body, block, union_more, query, nested_query, statement}
 """ + GOOD + """
-use Rattle.span_syntax.proofs.Expressing.{spelling_good, closing_good, column_good, direction_good, expression_good, deep}
+use Rattle.span_primary.proofs.Expressing.{spelling_good, closing_good, column_good, direction_good, expression_good, deep}
 """
 
 
@@ -573,9 +574,9 @@ use Rattle.span_grammar.specs.declared.class.Context.TheVariants as context
 """ + PARTS + """
 use Rattle.span_grammar.specs.declared.grammar.Shape.TheVariants as shape
 """ + RULES.replace("Piece, ", "").replace(", pair_with, opening}", "}") + """
-use Rattle.span_syntax.specs.Expressions.{direction}
+use Rattle.span_primary.specs.Expressions.{direction}
 """ + GOOD.replace(" beside_good,", "") + """
-use Rattle.span_syntax.proofs.Expressing.{direction_good}
+use Rattle.span_primary.proofs.Expressing.{direction_good}
 use Rattle.span_schematext.specs.Declarations.{name_of, name, at_most, unbounded, length_bound, in_length, long_kind, long_of, not_null,
     maybe_not_null, no_action, action, on_delete, maybe_on_delete, maybe_last_semicolon, parent, in_parent, interleave, maybe_interleave,
     key_column, key_column_more, in_key_columns, length_parenthesis, long_type, column_type, table_column, table_column_more,
@@ -719,7 +720,7 @@ def invariants_antt(name, part, has_depth):
     now, before = ("l.text l.left", "l.fn.text l.fn.left") if has_depth else ("l.text", "l.fn.text")
     return f"""use Rattle.std.proofs.Common.{{◌≡◌, [], length}}
 use Rattle.span_grammar.specs.declared.grammar.Part.TheVariants as part
-use Rattle.span_syntax.specs.Pieces.{{each_read}}
+use Rattle.span_primary.specs.Pieces.{{each_read}}
 use Rattle.span_schematext.specs.Declarations.{{{name}_more}}
 use Rattle.span_schematext.proofs.declaration.{name}_rest.Given as goal
 
@@ -745,7 +746,7 @@ loop-alloc-smaller c = ({name}_more_shrinks {given}).falls c.loop-alloc.rest.now
 # ---- the files
 
 FILES = {
-    "span_syntax/proofs/Expressing.antt": expressing_antt, "span_syntax/proofs/Shrinking.antt": shrinking_antt,
+    "span_primary/proofs/Expressing.antt": expressing_antt, "span_primary/proofs/Shrinking.antt": shrinking_antt,
     "span_parser/proofs/Querying.antt": querying_antt, "span_parser/proofs/Falling.antt": falling_antt,
     "span_schematext/proofs/Declaring.antt": declaring_antt, "span_schematext/proofs/Lasting.antt": lasting_antt,
 }

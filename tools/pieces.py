@@ -1,6 +1,6 @@
 """How the parsers put pieces together, and the lemma that a piece reads as the grammar's rule of a part.
 
-A piece is a parser of span_syntax's specs/Pieces.antt. A definition there is made of pieces as the part is made of parts: what is said here
+A piece is a parser of span_primary's specs/Pieces.antt. A definition there is made of pieces as the part is made of parts: what is said here
 must fit the shape of the part, or the tool stops.
 """
 import re

@@ -5,12 +5,12 @@ use Rattle.span_value.specs.declared.refusal.Refusal.TheVariants.{OutOfMemory}
 use Rattle.span_value.specs.Results.{and_then}
 use Rattle.span_schema.specs.declared.table.Table.{Table}
 use Rattle.span_params.specs.declared.params.Parameter.{Parameter}
-use Rattle.span_typing.specs.Steps.{Gives}
-use Rattle.span_binder.specs.declared.bound.BoundBlock.{BoundBlock}
-use Rattle.span_binder.specs.declared.bound.BoundBlocks.{BoundBlocks}
-use Rattle.span_binder.specs.declared.bound.FromItems.{FromItems}
-use Rattle.span_binder.specs.declared.bound.Source.{Source}
-use Rattle.span_binder.specs.Sources.{AreTables, HasTables, add_item}
+use Rattle.span_operators.specs.Steps.{Gives}
+use Rattle.span_blocks.specs.declared.bound.BoundBlock.{BoundBlock}
+use Rattle.span_blocks.specs.declared.bound.BoundBlocks.{BoundBlocks}
+use Rattle.span_blocks.specs.declared.bound.FromItems.{FromItems}
+use Rattle.span_blocks.specs.declared.bound.Source.{Source}
+use Rattle.span_blocks.specs.Sources.{AreTables, HasTables, add_item}
 use Rattle.span_binder.specs.Queries.{JoinStep, BlockStep, next_join, next_block, with_block}
 
 -- what was there before, with what was found after it

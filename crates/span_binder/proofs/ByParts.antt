@@ -3,7 +3,7 @@
 use Rattle.std.proofs.Common.{sym, subst, List, [], ◌∷◌, map, Option}
 use Rattle.std.specs.List.{AllByRecursion}
 use Rattle.span_schema.specs.declared.table.Table.{Table}
-use Rattle.span_syntax.specs.declared.tree.Spelling.{Spelling}
+use Rattle.span_trees.specs.declared.tree.Spelling.{Spelling}
 use Rattle.span_parser.specs.declared.tree.Query.{Query}
 use Rattle.span_parser.specs.declared.tree.Block.{Block}
 use Rattle.span_parser.specs.declared.tree.Item.{Item}

@@ -7,17 +7,17 @@ use Rattle.span_value.specs.declared.value.Kind.TheVariants as kind
 use Rattle.span_value.specs.declared.refusal.Refusal.{Refusal}
 use Rattle.span_value.specs.declared.refusal.Refusal.TheVariants as refusal
 use Rattle.span_value.specs.Results.{and_then}
-use Rattle.span_syntax.specs.declared.tree.Column.{Column}
-use Rattle.span_syntax.specs.declared.tree.Spelling.{Spelling}
-use Rattle.span_syntax.specs.declared.tree.Operator.{Operator}
-use Rattle.span_syntax.specs.declared.tree.Operator.TheVariants.{Plus, Minus, Times, Concat}
-use Rattle.span_syntax.specs.declared.tree.ComparisonOperator.{ComparisonOperator}
-use Rattle.span_syntax.specs.declared.tree.Expr.{Expr}
-use Rattle.span_syntax.specs.declared.tree.Arm.{Arm, fold-Arm, map-Arm, roll-Arm}
-use Rattle.span_syntax.specs.declared.tree.Link.{Link, fold-Link, map-Link, roll-Link}
-use Rattle.span_syntax.specs.declared.tree.Expr.TheOpen.{Expr-F, Arm-F, Link-F}
-use Rattle.span_syntax.specs.declared.tree.Expr.TheViews.{roll-Expr}
-use Rattle.span_syntax.specs.declared.tree.Expr.TheFolds.{ind-Expr, map-Expr, fold-roll-Expr, fold-roll-Arm, fold-roll-Link}
+use Rattle.span_trees.specs.declared.tree.Column.{Column}
+use Rattle.span_trees.specs.declared.tree.Spelling.{Spelling}
+use Rattle.span_trees.specs.declared.tree.Operator.{Operator}
+use Rattle.span_trees.specs.declared.tree.Operator.TheVariants.{Plus, Minus, Times, Concat}
+use Rattle.span_trees.specs.declared.tree.ComparisonOperator.{ComparisonOperator}
+use Rattle.span_trees.specs.declared.tree.Expr.{Expr}
+use Rattle.span_trees.specs.declared.tree.Arm.{Arm, fold-Arm, map-Arm, roll-Arm}
+use Rattle.span_trees.specs.declared.tree.Link.{Link, fold-Link, map-Link, roll-Link}
+use Rattle.span_trees.specs.declared.tree.Expr.TheOpen.{Expr-F, Arm-F, Link-F}
+use Rattle.span_trees.specs.declared.tree.Expr.TheViews.{roll-Expr}
+use Rattle.span_trees.specs.declared.tree.Expr.TheFolds.{ind-Expr, map-Expr, fold-roll-Expr, fold-roll-Arm, fold-roll-Link}
 use Rattle.span_expr.specs.declared.expr.Expr.{Expr as TypedExpr}
 use Rattle.span_expr.specs.declared.expr.PatternPart.{PatternPart}
 use Rattle.span_expr.specs.declared.expr.Operator.{Operator as Calculates}
@@ -31,19 +31,19 @@ use Rattle.span_lexer.specs.LiteralValues.{text_of}
 use Rattle.span_params.specs.declared.params.Parameter.{Parameter}
 use Rattle.span_params.specs.Parameters.{parameter_named}
 use Rattle.span_typing.specs.declared.scope.Scope.{Scope}
-use Rattle.span_typing.specs.declared.typed.Typed.{Typed}
-use Rattle.span_typing.specs.declared.typed.TypedArm.{TypedArm}
-use Rattle.span_typing.specs.declared.typed.Chain.{Chain}
-use Rattle.span_typing.specs.declared.typed.Mode.{Mode}
-use Rattle.span_typing.specs.declared.typed.Mode.TheVariants.{Rows, Groups}
-use Rattle.span_typing.specs.declared.function.CalledFunction.{CalledFunction}
-use Rattle.span_typing.specs.declared.function.CalledFunction.TheVariants as called
-use Rattle.span_typing.specs.Kinds.{takes, common_kind, common_kind_with, common_kind_of_all, or_int, text_kind}
-use Rattle.span_typing.specs.Functions.{function_named}
+use Rattle.span_operators.specs.declared.typed.Typed.{Typed}
+use Rattle.span_operators.specs.declared.typed.TypedArm.{TypedArm}
+use Rattle.span_operators.specs.declared.typed.Chain.{Chain}
+use Rattle.span_operators.specs.declared.typed.Mode.{Mode}
+use Rattle.span_operators.specs.declared.typed.Mode.TheVariants.{Rows, Groups}
+use Rattle.span_operators.specs.declared.function.CalledFunction.{CalledFunction}
+use Rattle.span_operators.specs.declared.function.CalledFunction.TheVariants as called
+use Rattle.span_operators.specs.Kinds.{takes, common_kind, common_kind_with, common_kind_of_all, or_int, text_kind}
+use Rattle.span_operators.specs.Functions.{function_named}
 use Rattle.span_typing.specs.Scopes.{only_place, one_place, if_unique, this_item, item_of, item_named, column_place, fits}
-use Rattle.span_typing.specs.Steps.{TypingStep, pure, from_result, ◌>>=◌, next_of, append_step, all_of}
-use Rattle.span_typing.specs.Operators.{unary_minus, logical_not, null_test, comparison_test, between, in_list, like_test_of, like_test, are_conditions, link_kind, otherwise_kind, value_kind, case_kind, case_of, match_of, calculation_of, length_of, starts_with, coalesce_of, one_of, two_of, three_of, some_of, if_of, apply_function, operand_for, operand_of, aggregate_kind, kinds_of, has_condition}
-use Rattle.span_typing.specs.Typing.{Operand, key_typed, kind_at, column_at, column, parameter_typed, parameter, each, condition_of, condition, conditions, all_true, some_true, append_link, chain_of, next_link, links, arm_typed, arm, arms, check_kind, compared_arm, compared_arms, optional, of_one, of_two, of_three, membership, chain, junction, searched_case, simple_case, new_aggregate, aggregate, unknown_call, aggregate_call, function_call, call, call_star, arm_at, link_at, at_operands, typing}
+use Rattle.span_operators.specs.Steps.{TypingStep, pure, from_result, ◌>>=◌, next_of, append_step, all_of}
+use Rattle.span_operators.specs.Operators.{unary_minus, logical_not, null_test, comparison_test, between, in_list, like_test_of, like_test, are_conditions, link_kind, append_link, chain_of, otherwise_kind, value_kind, case_kind, case_of, match_of, calculation_of, length_of, starts_with, coalesce_of, one_of, two_of, three_of, some_of, if_of, apply_function, operand_for, operand_of, aggregate_kind, kinds_of, has_condition}
+use Rattle.span_typing.specs.Typing.{Operand, key_typed, kind_at, column_at, column, parameter_typed, parameter, each, condition_of, condition, conditions, all_true, some_true, next_link, links, arm_typed, arm, arms, check_kind, compared_arm, compared_arms, optional, of_one, of_two, of_three, membership, chain, junction, searched_case, simple_case, new_aggregate, aggregate, unknown_call, aggregate_call, function_call, call, call_star, arm_at, link_at, at_operands, typing}
 use Rattle.span_binder.specs.Faults.{IsTreeFault}
 
 -- ---- what has a value, or such a fault

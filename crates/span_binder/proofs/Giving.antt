@@ -1,10 +1,10 @@
 -- Along a list, what was found so far and what is found with one more item.
 use Rattle.std.proofs.Common.{◌≡◌, ℕ, suc, ◌+◌, ◌<◌, List, ◌∷◌, length, map, drop, get_or, Result, Ok, Err, sym, ap, ◌∙◌, arith}
 use Rattle.std.proofs.Math.Seq.{drop-cons}
-use Rattle.span_binder.specs.Onward.{fold_results}
+use Rattle.span_blocks.specs.Onward.{fold_results}
 use Rattle.span_value.specs.declared.refusal.Refusal.{Refusal}
 use Rattle.span_value.specs.Results.{and_then}
-use Rattle.span_typing.specs.Steps.{Gives}
+use Rattle.span_operators.specs.Steps.{Gives}
 
 -- one more item of a list
 pub onward_at : {A X Y : Type 0} (f : X → Y) (step : A → Y → Result A Refusal) (xs : List X) (k : ℕ) (x : X) (found : A) → k < length xs → x ≡ get_or xs k x

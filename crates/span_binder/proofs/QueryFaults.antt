@@ -10,9 +10,9 @@ use Rattle.span_schema.specs.declared.table.Table.{Table}
 use Rattle.span_schema.specs.Numbers.{number_named}
 use Rattle.span_grammar.specs.declared.judge.Goal.TheVariants as goal
 use Rattle.span_grammar.specs.Judged.{IsRefused}
-use Rattle.span_syntax.specs.declared.tree.Spelling.{Spelling}
-use Rattle.span_syntax.specs.declared.tree.Column.{Column}
-use Rattle.span_syntax.specs.declared.tree.Expr.{Expr}
+use Rattle.span_trees.specs.declared.tree.Spelling.{Spelling}
+use Rattle.span_trees.specs.declared.tree.Column.{Column}
+use Rattle.span_trees.specs.declared.tree.Expr.{Expr}
 use Rattle.span_parser.specs.declared.tree.Output.{Output}
 use Rattle.span_parser.specs.declared.tree.Output.TheVariants as output
 use Rattle.span_parser.specs.declared.tree.SortKey.{SortKey}
@@ -26,21 +26,21 @@ use Rattle.span_query.specs.declared.query.Statement.{Statement}
 use Rattle.span_query.specs.declared.query.Aggregate.{Aggregate}
 use Rattle.span_params.specs.declared.params.Parameter.{Parameter}
 use Rattle.span_typing.specs.declared.scope.Scope.{Scope}
-use Rattle.span_typing.specs.declared.typed.Typed.{Typed}
-use Rattle.span_typing.specs.declared.typed.Mode.{Mode}
-use Rattle.span_typing.specs.declared.typed.Mode.TheVariants.{Rows, Groups}
-use Rattle.span_typing.specs.Kinds.{takes}
+use Rattle.span_operators.specs.declared.typed.Typed.{Typed}
+use Rattle.span_operators.specs.declared.typed.Mode.{Mode}
+use Rattle.span_operators.specs.declared.typed.Mode.TheVariants.{Rows, Groups}
+use Rattle.span_operators.specs.Kinds.{takes}
 use Rattle.span_typing.specs.Scopes.{column_place, item_named}
-use Rattle.span_typing.specs.Steps.{Gives, pure}
+use Rattle.span_operators.specs.Steps.{Gives, pure}
 use Rattle.span_typing.specs.Typing.{typing, column_at}
-use Rattle.span_binder.specs.declared.bound.Source.{Source}
-use Rattle.span_binder.specs.declared.bound.FromItems.{FromItems}
-use Rattle.span_binder.specs.declared.bound.BoundBlocks.{BoundBlocks}
-use Rattle.span_binder.specs.Onward.{fold_results, append_result, each_of}
-use Rattle.span_binder.specs.Outputs.{projection, output_name, projected_column, projected_columns, all_places, item_places, project_all, project_item, project_value, project_output, project_next, select_list}
-use Rattle.span_binder.specs.Sources.{name_or_alias, numbered_source, most_tables, named_source, start_from, has_item, check_bool, condition, with_names, add_item}
-use Rattle.span_binder.specs.Blocks.{groups_named, with_keys, filter_of, having_of, BlockTail, block_tail_of, bind_parts, block_in, group_places, bind_block}
-use Rattle.span_binder.specs.Aggregating.{mode_of}
+use Rattle.span_blocks.specs.declared.bound.Source.{Source}
+use Rattle.span_blocks.specs.declared.bound.FromItems.{FromItems}
+use Rattle.span_blocks.specs.declared.bound.BoundBlocks.{BoundBlocks}
+use Rattle.span_blocks.specs.Onward.{fold_results, append_result, each_of}
+use Rattle.span_blocks.specs.Outputs.{projection, output_name, projected_column, projected_columns, all_places, item_places, project_all, project_item, project_value, project_output, project_next, select_list}
+use Rattle.span_blocks.specs.Sources.{name_or_alias, numbered_source, most_tables, named_source, start_from, has_item, check_bool, condition, with_names, add_item}
+use Rattle.span_blocks.specs.Blocks.{groups_named, with_keys, filter_of, having_of, BlockTail, block_tail_of, bind_parts, block_in, group_places, bind_block}
+use Rattle.span_blocks.specs.Aggregating.{mode_of}
 use Rattle.span_binder.specs.Queries.{are_union_compatible, ordinal, is_column_named, sort_place, sort_key, sort_keys, bind_query, only_block, ItemStep, JoinStep, BlockStep, QueryStep, item_at, next_join, from, block_at, next_block, blocks, query_at, query_step, bound}
 use Rattle.span_binder.specs.Faults.{IsTreeFault, IsQueryFault}
 use Rattle.span_binder.proofs.ByParts.{query_holds}

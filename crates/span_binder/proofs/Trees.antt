@@ -3,8 +3,8 @@ use Rattle.std.proofs.Common.{◌≡◌, List, [], ◌∷◌, map, refl, sym, ap
 use Rattle.span_value.specs.declared.refusal.Refusal.{Refusal}
 use Rattle.span_schema.specs.declared.table.Table.{Table}
 use Rattle.span_params.specs.declared.params.Parameter.{Parameter}
-use Rattle.span_syntax.specs.declared.tree.Spelling.{Spelling}
-use Rattle.span_syntax.specs.declared.tree.Expr.{Expr}
+use Rattle.span_trees.specs.declared.tree.Spelling.{Spelling}
+use Rattle.span_trees.specs.declared.tree.Expr.{Expr}
 use Rattle.span_parser.specs.declared.tree.Query.{Query}
 use Rattle.span_parser.specs.declared.tree.Block.{Block}
 use Rattle.span_parser.specs.declared.tree.Item.{Item}
@@ -16,15 +16,15 @@ use Rattle.span_parser.specs.declared.tree.Item.TheOpen.{Query-F, Block-F, Item-
 use Rattle.span_parser.specs.declared.tree.Item.TheViews.{out-Query, out-Block}
 use Rattle.span_parser.specs.declared.tree.Item.TheFolds.{fold-Item, fold-Block, fold-Join, fold-Query, fold_out-Query, fold_out-Block, fold_out-Join, fold-roll-Item, map-Block, map-Query}
 use Rattle.span_value.specs.Results.{and_then}
-use Rattle.span_binder.specs.declared.bound.TypedQuery.{TypedQuery}
-use Rattle.span_binder.specs.declared.bound.BoundBlock.{BoundBlock}
-use Rattle.span_binder.specs.declared.bound.BoundBlocks.{BoundBlocks}
-use Rattle.span_binder.specs.declared.bound.FromItems.{FromItems}
-use Rattle.span_binder.specs.declared.bound.Source.{Source}
-use Rattle.span_binder.specs.Onward.{fold_results}
-use Rattle.span_binder.specs.Sources.{named_source, derived_source, start_from}
-use Rattle.span_binder.specs.Aggregating.{is_grouped}
-use Rattle.span_binder.specs.Blocks.{BlockTail, block_tail, block_tail_of, bind_block}
+use Rattle.span_blocks.specs.declared.bound.TypedQuery.{TypedQuery}
+use Rattle.span_blocks.specs.declared.bound.BoundBlock.{BoundBlock}
+use Rattle.span_blocks.specs.declared.bound.BoundBlocks.{BoundBlocks}
+use Rattle.span_blocks.specs.declared.bound.FromItems.{FromItems}
+use Rattle.span_blocks.specs.declared.bound.Source.{Source}
+use Rattle.span_blocks.specs.Onward.{fold_results}
+use Rattle.span_blocks.specs.Sources.{named_source, derived_source, start_from}
+use Rattle.span_blocks.specs.Aggregating.{is_grouped}
+use Rattle.span_blocks.specs.Blocks.{BlockTail, block_tail, block_tail_of, bind_block}
 use Rattle.span_binder.specs.Queries.{ItemStep, JoinStep, BlockStep, QueryStep, item_at, block_at, join_at, query_at, item_step, block_step, query_step, join_step, next_join, next_block, bind_query, only_block}
 
 module _ (schema : List Table) (params : List Parameter) where

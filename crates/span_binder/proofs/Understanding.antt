@@ -9,14 +9,14 @@ use Rattle.std.specs.List.{AllByRecursion}
 use Rattle.std.proofs.lemmas.List.Elements.{recursion_from_All}
 use Rattle.span_schema.specs.declared.table.Table.{Table}
 use Rattle.span_schema.specs.Numbers.{IsTable}
-use Rattle.span_binder.specs.Sources.{AreTables}
+use Rattle.span_blocks.specs.Sources.{AreTables}
 use Rattle.span_grammar.specs.declared.judge.Goal.TheVariants as goal
 use Rattle.span_grammar.specs.Judged.{IsRefused}
 use Rattle.span_parser.specs.declared.tree.Query.{Query}
 use Rattle.span_parser.specs.Queries.{IsQuery}
 use Rattle.span_params.specs.declared.params.Parameter.{Parameter}
 use Rattle.span_query.specs.declared.query.Statement.{Statement}
-use Rattle.span_typing.specs.Steps.{Gives}
+use Rattle.span_operators.specs.Steps.{Gives}
 use Rattle.span_binder.specs.Queries.{bound}
 use Rattle.span_binder.specs.Understands.{Understands, IsBound, IsNotInGrammar}
 

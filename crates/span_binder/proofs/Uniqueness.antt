@@ -7,8 +7,8 @@ use Rattle.span_lexer.specs.declared.lexer.ReadError.{ReadError}
 use Rattle.span_grammar.specs.declared.judge.Goal.TheVariants as goal
 use Rattle.span_grammar.specs.Judged.{IsRefused, lexemes_in}
 use Rattle.span_grammar.specs.Rules.{limit}
-use Rattle.span_syntax.specs.declared.fault.SyntaxError.TheVariants as fault
-use Rattle.span_syntax.specs.Pieces.{Piece}
+use Rattle.span_primary.specs.declared.fault.SyntaxError.TheVariants as fault
+use Rattle.span_primary.specs.Pieces.{Piece}
 use Rattle.span_syntax.proofs.Parsing.{wrong_all, deep_all, text_refused_all, one_value, value_not_refused, misread_refuses}
 use Rattle.span_parser.specs.declared.tree.Query.{Query}
 use Rattle.span_parser.specs.Queries.{statement}

@@ -9,7 +9,7 @@ use Rattle.span_value.specs.contracts.value.Kind.{the_type as kind_type}
 use Rattle.span_value.specs.declared.refusal.Refusal.{Refusal}
 use Rattle.span_value.specs.declared.refusal.Refusal.TheVariants.{ColumnsDiffer, BadOrdinal}
 use Rattle.span_schema.specs.declared.table.Table.{Table}
-use Rattle.span_syntax.specs.declared.tree.Expr.{Expr}
+use Rattle.span_trees.specs.declared.tree.Expr.{Expr}
 use Rattle.span_parser.specs.declared.tree.SortKey.{SortKey}
 use Rattle.span_parser.specs.declared.tree.SortColumn.{SortColumn}
 use Rattle.span_parser.specs.declared.tree.SortColumn.TheVariants as sort
@@ -30,14 +30,14 @@ use Rattle.span_params.specs.declared.params.Parameter.{Parameter}
 use Rattle.span_typing.specs.Scopes.{one_place, is_named}
 use Rattle.span_value.specs.Results.{and_then}
 use Rattle.span_query.specs.declared.query.OutputColumn.{OutputColumn}
-use Rattle.span_binder.specs.declared.bound.Source.{Source}
-use Rattle.span_binder.specs.declared.bound.FromItems.{FromItems}
-use Rattle.span_binder.specs.declared.bound.TypedQuery.{TypedQuery}
-use Rattle.span_binder.specs.declared.bound.BoundBlock.{BoundBlock}
-use Rattle.span_binder.specs.declared.bound.BoundBlocks.{BoundBlocks}
-use Rattle.span_binder.specs.Onward.{fold_results, each_of}
-use Rattle.span_binder.specs.Sources.{Naming, named_source, derived_source, start_from, add_item}
-use Rattle.span_binder.specs.Blocks.{block_tail_of, bind_block}
+use Rattle.span_blocks.specs.declared.bound.Source.{Source}
+use Rattle.span_blocks.specs.declared.bound.FromItems.{FromItems}
+use Rattle.span_blocks.specs.declared.bound.TypedQuery.{TypedQuery}
+use Rattle.span_blocks.specs.declared.bound.BoundBlock.{BoundBlock}
+use Rattle.span_blocks.specs.declared.bound.BoundBlocks.{BoundBlocks}
+use Rattle.span_blocks.specs.Onward.{fold_results, each_of}
+use Rattle.span_blocks.specs.Sources.{Naming, named_source, derived_source, start_from, add_item}
+use Rattle.span_blocks.specs.Blocks.{block_tail_of, bind_block}
 
 -- ---- unions
 

@@ -3,22 +3,22 @@
 //! In a block faults are looked for in the items of the FROM with their ONs, from left to right, then in the select list, WHERE, GROUP BY
 //! and HAVING; after all blocks of a query in the columns of its union, and then in its ORDER BY. The first fault is the refusal.
 ghost use Rattle.std.specs.Prelude.{◌≡◌, ◌⊎◌, map, IfOk, IfErr};
-ghost use Rattle.span_typing.specs.Steps.{Gives};
-ghost use Rattle.span_binder.specs.Onward.{fold_results};
-ghost use Rattle.span_binder.specs.Sources.{AreTables, HasTables};
+ghost use Rattle.span_operators.specs.Steps.{Gives};
+ghost use Rattle.span_blocks.specs.Onward.{fold_results};
+ghost use Rattle.span_blocks.specs.Sources.{AreTables, HasTables};
 ghost use Rattle.span_binder.specs.Faults.{IsTreeFault};
 ghost use Rattle.span_binder.specs.Queries as spec;
 
-use super::block::bind_block;
-use super::bound::{BoundBlock, BoundBlocks, FromItems, Source, TypedQuery};
-use super::join::{add_item, start_from};
 use super::order::{bind_query, only_block, with_block};
 use super::source::{derived_source, named_source};
+use span_blocks::block::bind_block;
+use span_blocks::bound::{BoundBlock, BoundBlocks, FromItems, Source, TypedQuery};
+use span_blocks::join::{add_item, start_from};
+use span_operators::step::pair_with;
 use span_params::params::Params;
 use span_parser::tree;
 use span_query::query::Statement;
 use span_schema::schema::Schema;
-use span_typing::step::pair_with;
 use span_value::refusal::Refusal;
 use span_value::seq::Seq;
 use std::alloc::Global;

@@ -3,16 +3,16 @@ ghost use Rattle.std.specs.Prelude.{◌≡◌, ◌<◌, IfSome, IfOk, length, po
 ghost use Rattle.std.specs.List.{list_any, list_all, zip};
 ghost use Rattle.std.specs.Option.{option_map};
 ghost use Rattle.span_typing.specs.Scopes.{is_named, one_place};
-ghost use Rattle.span_typing.specs.Steps.{Gives};
+ghost use Rattle.span_operators.specs.Steps.{Gives};
 ghost use Rattle.span_binder.specs.Queries as spec;
 
-use super::bound::{BoundBlock, BoundBlocks, TypedQuery};
 use super::step::with_item;
+use span_blocks::bound::{BoundBlock, BoundBlocks, TypedQuery};
+use span_operators::step::pair_with;
 use span_parser::tree;
 use span_parser::tree::SortColumn;
 use span_query::query::{Block, BoundQuery, Limit, OutputColumn, SortKey};
 use span_schema::table::are_same;
-use span_typing::step::pair_with;
 use span_value::owned::keep_with;
 use span_value::refusal::Refusal;
 use span_value::seq::Seq;

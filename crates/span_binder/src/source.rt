@@ -1,14 +1,14 @@
 //! The items of a FROM: tables and derived tables, by their names and with their columns.
 ghost use Rattle.std.specs.Prelude.{◌≡◌, IfOk, map};
 ghost use Rattle.span_schema.specs.Numbers.{columns_of, IsTable};
-ghost use Rattle.span_typing.specs.Steps.{Gives};
-ghost use Rattle.span_binder.specs.Sources as spec;
+ghost use Rattle.span_operators.specs.Steps.{Gives};
+ghost use Rattle.span_blocks.specs.Sources as spec;
 
-use super::bound::{Source, TypedQuery};
+use span_blocks::bound::{Source, TypedQuery};
 use span_query::query::{Item, OutputColumn};
 use span_schema::schema::Schema;
 use span_schema::table::{Column, kind_of_type};
-use span_syntax::tree::Spelling;
+use span_trees::tree::Spelling;
 use span_value::refusal::Refusal;
 use span_value::seq::Seq;
 use span_value::text::Text;

@@ -6,8 +6,8 @@ use Rattle.span_grammar.specs.Rules.{limit}
 use Rattle.span_grammar.specs.Shapes.{shape_of}
 use Rattle.span_parser.specs.Queries.{sort_key_more, column_more, output_more, join, union_more, nested_query}
 use Rattle.span_grammar.proofs.Repeated.{repeated_full}
-use Rattle.span_syntax.proofs.Loops.{Shrinks, each_more, each_end, each_err, each_falls}
-use Rattle.span_syntax.proofs.Shrinking.{shrinking}
+use Rattle.span_primary.proofs.Loops.{Shrinks, each_more, each_end, each_err, each_falls}
+use Rattle.span_primary.proofs.Shrinking.{shrinking}
 use Rattle.span_parser.proofs.Querying.{sort_key_more_good, column_more_good, output_more_good, join_good, union_more_good, query_deep}
 
 pub sort_key_more_shrinks : (text : List ℕ) → Shrinks (sort_key_more text).read

@@ -18,11 +18,11 @@ use Rattle.span_parser.specs.declared.tree.Block.{Block}
 use Rattle.span_parser.specs.declared.tree.Query.{Query}
 use Rattle.span_grammar.specs.Shapes.{shape_of, part_inside}
 use Rattle.span_grammar.specs.Grammar.{rule_of}
-use Rattle.span_syntax.specs.Pieces.{Piece, token, nothing, ◌<$>◌, ◌>>=◌, either, each, pair_with}
-use Rattle.span_syntax.specs.Expressions.{value_of, integer_of, spelling, close_parenthesis, column, direction, after, expression}
+use Rattle.span_primary.specs.Pieces.{Piece, token, nothing, ◌<$>◌, ◌>>=◌, either, each, pair_with}
+use Rattle.span_primary.specs.Expressions.{value_of, integer_of, spelling, close_parenthesis, column, direction, after, expression}
 use Rattle.span_parser.specs.Queries.{as_name, alias, required_alias, sort_column, sort_key, sort_key_more, sort_keys, order_by, maybe_order_by, skip, maybe_skip, limit_clause, maybe_limit, quantifier, column_more, columns, group_by, maybe_group_by, all_of_table, maybe_outer, left_join, inner_join, join_kind, maybe_semicolon, where_clause, maybe_where, having, maybe_having, output_expression, output, output_more, outputs, subquery, named_item, derived_item, item, join_of, block_of, query_of, join_on, join, block_groups, block_filter, order_and_limit, unions, block_joins, block_from, block_body, block, union_more, query, nested_query, statement}
-use Rattle.span_syntax.proofs.Good.{Good, token_good, nothing_good, map_good, then_good, or_good, many_good, beside_good, open_good}
-use Rattle.span_syntax.proofs.Expressing.{spelling_good, closing_good, column_good, direction_good, expression_good, deep}
+use Rattle.span_primary.proofs.Good.{Good, token_good, nothing_good, map_good, then_good, or_good, many_good, beside_good, open_good}
+use Rattle.span_primary.proofs.Expressing.{spelling_good, closing_good, column_good, direction_good, expression_good, deep}
 
 module _ (n : ℕ) where
   pub quantifier_good : Good n (rule_of part.MaybeQuantifier) (quantifier)

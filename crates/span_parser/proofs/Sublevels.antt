@@ -2,9 +2,9 @@
 use Rattle.std.proofs.Common.{◌≡◌, ℕ, zero, suc, ◌<◌, ◌-◌, List, Result, ap, subst, arith}
 use denote.Ref.{Bor}
 use Rattle.span_grammar.specs.declared.class.Lexeme.{Lexeme}
-use Rattle.span_syntax.specs.declared.fault.SyntaxError.{SyntaxError}
+use Rattle.span_primary.specs.declared.fault.SyntaxError.{SyntaxError}
 use Rattle.span_parser.specs.declared.tree.Query.{Query}
-use Rattle.span_syntax.specs.Pieces.{Piece, Gives}
+use Rattle.span_primary.specs.Pieces.{Piece, Gives}
 use Rattle.span_parser.specs.Queries.{query, nested_query}
 
 before : (n : ℕ) → suc n - 1 ≡ n

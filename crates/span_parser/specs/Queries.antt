@@ -7,10 +7,10 @@ use Rattle.span_grammar.specs.declared.class.Sort.TheVariants as sort
 use Rattle.span_grammar.specs.declared.grammar.Part.TheVariants as part
 use Rattle.span_grammar.specs.declared.judge.Goal.TheVariants as goal
 use Rattle.span_grammar.specs.Rules.{limit}
-use Rattle.span_syntax.specs.declared.fault.SyntaxError.TheVariants as fault
-use Rattle.span_syntax.specs.declared.tree.Spelling.{Spelling}
-use Rattle.span_syntax.specs.declared.tree.Column.{Column}
-use Rattle.span_syntax.specs.declared.tree.Expr.{Expr}
+use Rattle.span_primary.specs.declared.fault.SyntaxError.TheVariants as fault
+use Rattle.span_trees.specs.declared.tree.Spelling.{Spelling}
+use Rattle.span_trees.specs.declared.tree.Column.{Column}
+use Rattle.span_trees.specs.declared.tree.Expr.{Expr}
 use Rattle.span_parser.specs.declared.tree.Output.{Output}
 use Rattle.span_parser.specs.declared.tree.Output.TheVariants as output_item
 use Rattle.span_parser.specs.declared.tree.SortKey.{SortKey}
@@ -22,8 +22,8 @@ use Rattle.span_parser.specs.declared.tree.Item.TheVariants as source
 use Rattle.span_parser.specs.declared.tree.Join.{Join, roll-Join}
 use Rattle.span_parser.specs.declared.tree.Block.{Block, roll-Block}
 use Rattle.span_parser.specs.declared.tree.Query.{Query, roll-Query}
-use Rattle.span_syntax.specs.Pieces.{Piece, token, nothing, ◌<$>◌, ◌>>=◌, ◌>>◌, either, optional, each, pair_with, opening}
-use Rattle.span_syntax.specs.Expressions.{value_of, integer_of, spelling, column, direction, in_parentheses, after, expression}
+use Rattle.span_primary.specs.Pieces.{Piece, token, nothing, ◌<$>◌, ◌>>=◌, ◌>>◌, either, optional, each, pair_with, opening}
+use Rattle.span_primary.specs.Expressions.{value_of, integer_of, spelling, column, direction, in_parentheses, after, expression}
 use Rattle.span_syntax.specs.Parsed.{ParsesAs}
 
 -- ---- names

@@ -2,8 +2,8 @@
 use Rattle.std.specs.Prelude.{ℕ, List}
 use Rattle.span_grammar.specs.declared.class.Lexeme.{Lexeme}
 use Rattle.span_grammar.specs.declared.grammar.Part.{Part}
-use Rattle.span_syntax.specs.Pieces.{Piece, Gives, each}
-use Rattle.span_syntax.specs.Reading.{Returned}
+use Rattle.span_primary.specs.Pieces.{Piece, Gives, each}
+use Rattle.span_primary.specs.Reading.{Returned}
 
 -- the text, and the number of openings left
 pub record QueryText : Type 0 where

@@ -7,8 +7,8 @@ use Rattle.span_grammar.specs.declared.class.Lexeme.{Lexeme}
 use Rattle.span_grammar.specs.declared.grammar.Part.{Part}
 use Rattle.span_parser.specs.declared.tree.Query.{Query}
 use Rattle.span_grammar.specs.Rules.{limit}
-use Rattle.span_syntax.specs.Pieces.{Piece, Gives, each}
-use Rattle.span_syntax.specs.Reading.{Reading, Returned}
+use Rattle.span_primary.specs.Pieces.{Piece, Gives, each}
+use Rattle.span_primary.specs.Reading.{Reading, Returned}
 use Rattle.span_parser.specs.Queries.{query, nested_query}
 
 -- the query after an opening was read

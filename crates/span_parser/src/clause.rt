@@ -1,5 +1,5 @@
 //! The clauses of queries, read from tokens: a function for each rule.
-ghost use Rattle.span_syntax.specs.Pieces.{Gives, each};
+ghost use Rattle.span_primary.specs.Pieces.{Gives, each};
 ghost use Rattle.span_parser.specs.Queries as spec;
 ghost use Rattle.span_parser.specs.QueryTexts.{Reads, ReadsEach};
 
@@ -8,12 +8,12 @@ use span_grammar::class::{Context, Lexeme, Sort};
 use span_grammar::grammar::Part;
 use span_grammar::reader::goes_on;
 use span_lexer::token::{Sign, Word};
-use span_syntax::column::{column, direction};
+use span_primary::column::{column, direction};
+use span_primary::fault::SyntaxError;
+use span_primary::token::{integer_of, integer_value, next_is, pair_with, spelling, take};
 use span_syntax::expression::read_expression;
-use span_syntax::fault::SyntaxError;
-use span_syntax::operator::prepend;
-use span_syntax::token::{integer_of, integer_value, next_is, pair_with, spelling, take};
-use span_syntax::tree::{Column, Expr, Spelling};
+use span_trees::operator::prepend;
+use span_trees::tree::{Column, Expr, Spelling};
 use sqlite_items::Items;
 use std::alloc::Global;
 use std::marker::Model;

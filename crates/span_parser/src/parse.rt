@@ -15,8 +15,8 @@ use span_grammar::judge::Goal;
 use span_grammar::reader::DEEPEST;
 use span_lexer::lexer::{ReadError, tokens};
 use span_lexer::token::Token;
+use span_primary::fault::SyntaxError;
 use span_syntax::ending::{before_star, read_error, reported_place, require_end};
-use span_syntax::fault::SyntaxError;
 use span_value::refusal::Refusal;
 use std::alloc::{AllocError, Global};
 

@@ -3,7 +3,7 @@
 //! As with expressions, a single function recurses, after the parenthesis of a derived table.
 ghost use Rattle.std.specs.Prelude.{◌<◌, ◌≤◌};
 ghost use Rattle.span_grammar.specs.Rules.{limit};
-ghost use Rattle.span_syntax.specs.Pieces.{Gives};
+ghost use Rattle.span_primary.specs.Pieces.{Gives};
 ghost use Rattle.span_parser.specs.Queries as spec;
 ghost use Rattle.span_parser.specs.Subqueries.{NestsQueries, ReadsNested, ReadsQuery, ReadsEachQuery};
 
@@ -16,8 +16,8 @@ use span_grammar::class::{Lexeme, Sort};
 use span_grammar::grammar::Part;
 use span_grammar::reader::goes_on;
 use span_lexer::token::{Sign, Word};
-use span_syntax::fault::SyntaxError;
-use span_syntax::token::{close_parenthesis, enter, pair_with, spelling, take};
+use span_primary::fault::SyntaxError;
+use span_primary::token::{close_parenthesis, enter, pair_with, spelling, take};
 use sqlite_items::{Boxed, Items};
 use std::alloc::Global;
 use std::marker::Model;
@@ -31,7 +31,7 @@ struct QueryReader<'t, F> {
 }
 
 impl<'t, F> Model for QueryReader<'t, F> {
-    ghost use Rattle.span_syntax.specs.Reading.{Reading};
+    ghost use Rattle.span_primary.specs.Reading.{Reading};
 
     ghost Value = { Reading F };
 

@@ -1,5 +1,5 @@
 //! The trees of queries, as they are written.
-use span_syntax::tree::{Column, Expr, Integer, Spelling};
+use span_trees::tree::{Column, Expr, Integer, Spelling};
 use sqlite_items::{Boxed, Items};
 
 /// An item of the SELECT list of a block.

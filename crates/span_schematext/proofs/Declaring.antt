@@ -15,10 +15,10 @@ use Rattle.span_grammar.specs.declared.grammar.Place.TheVariants as place
 use Rattle.span_grammar.specs.declared.grammar.Shape.TheVariants as shape
 use Rattle.span_grammar.specs.Shapes.{shape_of, part_inside}
 use Rattle.span_grammar.specs.Grammar.{rule_of}
-use Rattle.span_syntax.specs.Pieces.{token, nothing, ◌<$>◌, ◌>>=◌, either, each}
-use Rattle.span_syntax.specs.Expressions.{direction}
-use Rattle.span_syntax.proofs.Good.{Good, token_good, nothing_good, map_good, then_good, or_good, many_good, open_good}
-use Rattle.span_syntax.proofs.Expressing.{direction_good}
+use Rattle.span_primary.specs.Pieces.{token, nothing, ◌<$>◌, ◌>>=◌, either, each}
+use Rattle.span_primary.specs.Expressions.{direction}
+use Rattle.span_primary.proofs.Good.{Good, token_good, nothing_good, map_good, then_good, or_good, many_good, open_good}
+use Rattle.span_primary.proofs.Expressing.{direction_good}
 use Rattle.span_schematext.specs.Declarations.{name_of, name, at_most, unbounded, length_bound, in_length, long_kind, long_of, not_null, maybe_not_null, no_action, action, on_delete, maybe_on_delete, maybe_last_semicolon, parent, in_parent, interleave, maybe_interleave, key_column, key_column_more, in_key_columns, length_parenthesis, long_type, column_type, table_column, table_column_more, in_table_columns, key_columns, table_columns, key_and_parent, primary_key, named_table, table, table_more, tables}
 
 module _ (n : ℕ) where

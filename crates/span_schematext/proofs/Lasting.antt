@@ -6,8 +6,8 @@ use Rattle.span_grammar.specs.Rules.{limit}
 use Rattle.span_grammar.specs.Shapes.{shape_of}
 use Rattle.span_schematext.specs.Declarations.{key_column_more, table_column_more, table_more}
 use Rattle.span_grammar.proofs.Repeated.{repeated_full}
-use Rattle.span_syntax.proofs.Loops.{Shrinks, each_more, each_end, each_err, each_falls}
-use Rattle.span_syntax.proofs.Shrinking.{shrinking}
+use Rattle.span_primary.proofs.Loops.{Shrinks, each_more, each_end, each_err, each_falls}
+use Rattle.span_primary.proofs.Shrinking.{shrinking}
 use Rattle.span_schematext.proofs.Declaring.{key_column_more_good, table_column_more_good, table_more_good}
 
 pub key_column_more_shrinks : (text : List ℕ) → Shrinks (key_column_more text).read

@@ -14,8 +14,8 @@ use Rattle.span_grammar.specs.declared.class.Context.TheVariants as context
 use Rattle.span_grammar.specs.declared.class.Sort.TheVariants as sort
 use Rattle.span_grammar.specs.declared.grammar.Part.TheVariants as part
 use Rattle.span_grammar.specs.Classes.{token_bytes}
-use Rattle.span_syntax.specs.Pieces.{Piece, token, nothing, ◌<$>◌, ◌>>=◌, ◌>>◌, either, optional, each, opening}
-use Rattle.span_syntax.specs.Expressions.{value_of, direction}
+use Rattle.span_primary.specs.Pieces.{Piece, token, nothing, ◌<$>◌, ◌>>=◌, ◌>>◌, either, optional, each, opening}
+use Rattle.span_primary.specs.Expressions.{value_of, direction}
 
 -- the text of a name
 abbrev pub name_of : List ℕ → Lexeme → List ℕ

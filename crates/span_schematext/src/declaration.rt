@@ -1,7 +1,7 @@
 //! Declarations of tables, read from tokens: a function for each rule.
 ghost use Rattle.std.specs.Prelude.{◌≡◌, ◌<◌, ◌≤◌, ◌-◌, ◌∷◌, IfOk};
 ghost use Rattle.span_grammar.specs.Rules.{limit};
-ghost use Rattle.span_syntax.specs.Pieces.{Gives, each};
+ghost use Rattle.span_primary.specs.Pieces.{Gives, each};
 ghost use Rattle.span_schematext.specs.Declarations as spec;
 
 use span_grammar::class::{Context, Lexeme, Sort};
@@ -9,10 +9,10 @@ use span_grammar::classify::token_bytes;
 use span_grammar::grammar::Part;
 use span_grammar::reader::goes_on;
 use span_lexer::token::{Sign, Word};
+use span_primary::column::direction;
+use span_primary::fault::SyntaxError;
+use span_primary::token::{enter, integer_value, next_is, take};
 use span_schema::table::{Column, KeyColumn, Parent, Table};
-use span_syntax::column::direction;
-use span_syntax::fault::SyntaxError;
-use span_syntax::token::{enter, integer_value, next_is, take};
 use span_value::seq::Seq;
 use span_value::text::Text;
 use span_value::value::ColumnType;

@@ -5,7 +5,7 @@ use Rattle.span_value.specs.declared.value.Kind.{Kind}
 use Rattle.span_value.specs.declared.value.Kind.TheVariants as kind
 use Rattle.span_value.specs.declared.refusal.Refusal.{Refusal}
 use Rattle.span_value.specs.declared.refusal.Refusal.TheVariants.{TypeMismatch}
-use Rattle.span_typing.specs.Kinds.{takes, common_kind, common_kind_with, common_kind_of_all, or_int, text_kind}
+use Rattle.span_operators.specs.Kinds.{takes, common_kind, common_kind_with, common_kind_of_all, or_int, text_kind}
 use Rattle.span_value.specs.Results.{and_then}
 use Rattle.span_soundness.specs.Types.{are_same, is_text}
 use Rattle.span_soundness.proofs.Sameness.{same_kind, is_same}

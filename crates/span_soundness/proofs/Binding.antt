@@ -9,14 +9,14 @@ use Rattle.span_value.specs.declared.refusal.Refusal.{Refusal}
 use Rattle.span_value.specs.declared.refusal.Refusal.TheVariants.{TypeMismatch}
 use Rattle.span_schema.specs.Tables.{is_same_name}
 use Rattle.span_schema.specs.Fitting.{is_of_kind}
-use Rattle.span_syntax.specs.declared.tree.Column.{Column}
-use Rattle.span_syntax.specs.declared.tree.Operator.{Operator}
-use Rattle.span_syntax.specs.declared.tree.Expr.{Expr}
-use Rattle.span_syntax.specs.declared.tree.Arm.{Arm, fold-Arm, map-Arm, roll-Arm}
-use Rattle.span_syntax.specs.declared.tree.Link.{Link, fold-Link, map-Link, roll-Link}
-use Rattle.span_syntax.specs.declared.tree.Expr.TheOpen.{Expr-F, Arm-F, Link-F}
-use Rattle.span_syntax.specs.declared.tree.Expr.TheViews.{roll-Expr}
-use Rattle.span_syntax.specs.declared.tree.Expr.TheFolds.{ind-Expr, map-Expr, fold-roll-Expr, fold-roll-Arm, fold-roll-Link}
+use Rattle.span_trees.specs.declared.tree.Column.{Column}
+use Rattle.span_trees.specs.declared.tree.Operator.{Operator}
+use Rattle.span_trees.specs.declared.tree.Expr.{Expr}
+use Rattle.span_trees.specs.declared.tree.Arm.{Arm, fold-Arm, map-Arm, roll-Arm}
+use Rattle.span_trees.specs.declared.tree.Link.{Link, fold-Link, map-Link, roll-Link}
+use Rattle.span_trees.specs.declared.tree.Expr.TheOpen.{Expr-F, Arm-F, Link-F}
+use Rattle.span_trees.specs.declared.tree.Expr.TheViews.{roll-Expr}
+use Rattle.span_trees.specs.declared.tree.Expr.TheFolds.{ind-Expr, map-Expr, fold-roll-Expr, fold-roll-Arm, fold-roll-Link}
 use Rattle.span_expr.specs.declared.expr.Expr.{Expr as TypedExpr}
 use Rattle.span_expr.specs.declared.expr.Expr.TheVariants as expr
 use Rattle.span_query.specs.declared.query.Aggregate.{Aggregate}
@@ -27,18 +27,18 @@ use Rattle.span_lexer.specs.LiteralValues.{text_of, bytes_of}
 use Rattle.span_params.specs.declared.params.Parameter.{Parameter}
 use Rattle.span_params.specs.Parameters.{with_parameter}
 use Rattle.span_typing.specs.declared.scope.Scope.{Scope}
-use Rattle.span_typing.specs.declared.typed.Typed.{Typed}
-use Rattle.span_typing.specs.declared.typed.TypedArm.{TypedArm}
-use Rattle.span_typing.specs.declared.typed.Chain.{Chain}
-use Rattle.span_typing.specs.declared.typed.Mode.{Mode}
-use Rattle.span_typing.specs.declared.typed.Mode.TheVariants.{Rows, Groups}
-use Rattle.span_typing.specs.declared.function.CalledFunction.{CalledFunction}
-use Rattle.span_typing.specs.declared.function.CalledFunction.TheVariants as called
-use Rattle.span_typing.specs.Kinds.{takes, common_kind, or_int}
-use Rattle.span_typing.specs.Functions.{function_named}
-use Rattle.span_typing.specs.Steps.{from_result, ◌>>=◌}
-use Rattle.span_typing.specs.Operators.{integer, unary_minus, logical_not, null_test, comparison_test, between, in_list, like_test, are_conditions, case_of, match_of, apply_function, operand_of, aggregate_kind}
-use Rattle.span_typing.specs.Typing.{Operand, string, bytes, truth, null, column, parameter_typed, parameter, each, condition_of, condition, conditions, all_true, some_true, append_link, chain_of, next_link, links, arm_typed, arm, arms, check_kind, compared_arm, compared_arms, optional, of_one, of_two, of_three, membership, chain, junction, searched_case, simple_case, new_aggregate, aggregate, unknown_call, aggregate_call, function_call, call, call_star, arm_at, link_at, at_operands, typing}
+use Rattle.span_operators.specs.declared.typed.Typed.{Typed}
+use Rattle.span_operators.specs.declared.typed.TypedArm.{TypedArm}
+use Rattle.span_operators.specs.declared.typed.Chain.{Chain}
+use Rattle.span_operators.specs.declared.typed.Mode.{Mode}
+use Rattle.span_operators.specs.declared.typed.Mode.TheVariants.{Rows, Groups}
+use Rattle.span_operators.specs.declared.function.CalledFunction.{CalledFunction}
+use Rattle.span_operators.specs.declared.function.CalledFunction.TheVariants as called
+use Rattle.span_operators.specs.Kinds.{takes, common_kind, or_int}
+use Rattle.span_operators.specs.Functions.{function_named}
+use Rattle.span_operators.specs.Steps.{from_result, ◌>>=◌}
+use Rattle.span_operators.specs.Operators.{integer, unary_minus, logical_not, null_test, comparison_test, between, in_list, like_test, are_conditions, append_link, chain_of, case_of, match_of, apply_function, operand_of, aggregate_kind}
+use Rattle.span_typing.specs.Typing.{Operand, string, bytes, truth, null, column, parameter_typed, parameter, each, condition_of, condition, conditions, all_true, some_true, next_link, links, arm_typed, arm, arms, check_kind, compared_arm, compared_arms, optional, of_one, of_two, of_three, membership, chain, junction, searched_case, simple_case, new_aggregate, aggregate, unknown_call, aggregate_call, function_call, call, call_star, arm_at, link_at, at_operands, typing}
 use Rattle.span_soundness.specs.Bindings.{column_types, row_types, is_aggregate_of, AreTyped, IsTyped}
 use Rattle.span_soundness.specs.Laws.{ParametersStayTyped, TypesAreRight}
 use Rattle.std.proofs.lemmas.Bool.{and_parts}

@@ -10,9 +10,9 @@ use Rattle.span_value.specs.declared.value.Kind.{Kind}
 use Rattle.span_value.specs.declared.value.Kind.TheVariants as kind
 use Rattle.span_value.specs.declared.refusal.Refusal.{Refusal}
 use Rattle.span_value.specs.declared.refusal.Refusal.TheVariants.{TypeMismatch, DuplicateAlias, ColumnsDiffer, BadOrdinal}
-use Rattle.span_syntax.specs.declared.tree.Spelling.{Spelling}
-use Rattle.span_syntax.specs.declared.tree.Column.{Column}
-use Rattle.span_syntax.specs.declared.tree.Expr.{Expr as Tree}
+use Rattle.span_trees.specs.declared.tree.Spelling.{Spelling}
+use Rattle.span_trees.specs.declared.tree.Column.{Column}
+use Rattle.span_trees.specs.declared.tree.Expr.{Expr as Tree}
 use Rattle.span_parser.specs.declared.tree.Output.{Output}
 use Rattle.span_parser.specs.declared.tree.Output.TheVariants as output
 use Rattle.span_parser.specs.declared.tree.SortKey.{SortKey}
@@ -29,29 +29,29 @@ use Rattle.span_query.specs.declared.query.Aggregate.{Aggregate}
 use Rattle.span_params.specs.declared.params.Parameter.{Parameter}
 use Rattle.span_typing.specs.declared.scope.Scope.{Scope}
 use Rattle.span_typing.specs.declared.scope.ScopeColumn.{ScopeColumn}
-use Rattle.span_typing.specs.declared.typed.Typed.{Typed}
-use Rattle.span_typing.specs.declared.typed.Mode.{Mode}
-use Rattle.span_typing.specs.declared.typed.Mode.TheVariants.{Rows, Groups}
-use Rattle.span_typing.specs.Kinds.{takes}
+use Rattle.span_operators.specs.declared.typed.Typed.{Typed}
+use Rattle.span_operators.specs.declared.typed.Mode.{Mode}
+use Rattle.span_operators.specs.declared.typed.Mode.TheVariants.{Rows, Groups}
+use Rattle.span_operators.specs.Kinds.{takes}
 use Rattle.span_typing.specs.Scopes.{item_named, column_place}
 use Rattle.span_value.specs.Results.{and_then}
-use Rattle.span_typing.specs.Steps.{pure, ◌>>=◌}
+use Rattle.span_operators.specs.Steps.{pure, ◌>>=◌}
 use Rattle.span_typing.specs.Typing.{Finds, typing, kind_at, column_at}
 use Rattle.span_query.specs.declared.query.OutputColumn.{OutputColumn}
-use Rattle.span_binder.specs.declared.bound.Source.{Source}
-use Rattle.span_binder.specs.declared.bound.FromItems.{FromItems}
-use Rattle.span_binder.specs.declared.bound.SelectItem.{SelectItem}
-use Rattle.span_binder.specs.declared.bound.Parts.{Parts}
-use Rattle.span_binder.specs.declared.bound.TypedQuery.{TypedQuery}
-use Rattle.span_binder.specs.declared.bound.BoundBlock.{BoundBlock}
-use Rattle.span_binder.specs.declared.bound.BoundBlocks.{BoundBlocks}
-use Rattle.span_binder.specs.Onward.{fold_results}
-use Rattle.span_binder.specs.Onward.{append_result as one_after}
-use Rattle.span_binder.specs.Sources.{no_names, scope_column, with_names, has_item, check_bool, condition, start_from, join_of, with_join, add_item}
-use Rattle.span_binder.specs.Outputs.{projection, or_nameless, projected_column, projected_columns, all_places, places_of, item_places, output_name, project_all, project_item, project_value, project_output, project_next, select_list}
-use Rattle.span_binder.specs.Aggregating.{mode_of}
-use Rattle.span_binder.specs.Blocks.{with_keys, group_places, place_in, groups_named, filter_of, having_of, projected_exprs, BlockTail, bind_parts, block_of, block_in, bind_block}
-use Rattle.span_binder.specs.Blocks.{projected_columns as columns_of_shown}
+use Rattle.span_blocks.specs.declared.bound.Source.{Source}
+use Rattle.span_blocks.specs.declared.bound.FromItems.{FromItems}
+use Rattle.span_blocks.specs.declared.bound.SelectItem.{SelectItem}
+use Rattle.span_blocks.specs.declared.bound.Parts.{Parts}
+use Rattle.span_blocks.specs.declared.bound.TypedQuery.{TypedQuery}
+use Rattle.span_blocks.specs.declared.bound.BoundBlock.{BoundBlock}
+use Rattle.span_blocks.specs.declared.bound.BoundBlocks.{BoundBlocks}
+use Rattle.span_blocks.specs.Onward.{fold_results}
+use Rattle.span_blocks.specs.Onward.{append_result as one_after}
+use Rattle.span_blocks.specs.Sources.{no_names, scope_column, with_names, has_item, check_bool, condition, start_from, join_of, with_join, add_item}
+use Rattle.span_blocks.specs.Outputs.{projection, or_nameless, projected_column, projected_columns, all_places, places_of, item_places, output_name, project_all, project_item, project_value, project_output, project_next, select_list}
+use Rattle.span_blocks.specs.Aggregating.{mode_of}
+use Rattle.span_blocks.specs.Blocks.{with_keys, group_places, place_in, groups_named, filter_of, having_of, projected_exprs, BlockTail, bind_parts, block_of, block_in, bind_block}
+use Rattle.span_blocks.specs.Blocks.{projected_columns as columns_of_shown}
 use Rattle.span_binder.specs.Queries.{have_same_kind, have_same_kinds, are_union_compatible, ordinal, is_column_named, sort_place, sort_key, sort_keys, blocks_of, limit_of, query_of, bind_query}
 use Rattle.span_soundness.specs.Types.{are_same, is_of}
 use Rattle.span_soundness.specs.Bindings.{column_types, row_types, output_types, AreAggregatesOf, AreTyped, IsTyped}

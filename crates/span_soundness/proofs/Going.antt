@@ -6,7 +6,7 @@ use Rattle.span_value.specs.declared.value.Kind.{Kind}
 use Rattle.span_value.specs.declared.refusal.Refusal.{Refusal}
 use Rattle.span_query.specs.declared.query.Aggregate.{Aggregate}
 use Rattle.span_value.specs.Results.{and_then}
-use Rattle.span_typing.specs.Steps.{pure, from_result, ◌>>=◌, next_of, fold_steps, append_step, all_of}
+use Rattle.span_operators.specs.Steps.{pure, from_result, ◌>>=◌, next_of, fold_steps, append_step, all_of}
 use Rattle.span_typing.specs.Typing.{Finds}
 use Rattle.span_soundness.specs.Bindings.{AreAggregatesOf}
 use Rattle.span_soundness.proofs.Agreeing.{Made}

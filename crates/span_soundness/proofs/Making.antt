@@ -6,10 +6,10 @@ use Rattle.span_value.specs.declared.value.Kind.{Kind}
 use Rattle.span_value.specs.declared.value.Kind.TheVariants as kind
 use Rattle.span_value.specs.declared.value.Value.TheVariants as value
 use Rattle.span_value.specs.declared.refusal.Refusal.TheVariants.{TypeMismatch}
-use Rattle.span_syntax.specs.declared.tree.Integer.{Integer}
-use Rattle.span_syntax.specs.declared.tree.ComparisonOperator.{ComparisonOperator}
-use Rattle.span_syntax.specs.declared.tree.Operator.{Operator as TreeOperator}
-use Rattle.span_syntax.specs.declared.tree.Operator.TheVariants.{Plus, Minus, Times, Concat}
+use Rattle.span_trees.specs.declared.tree.Integer.{Integer}
+use Rattle.span_trees.specs.declared.tree.ComparisonOperator.{ComparisonOperator}
+use Rattle.span_trees.specs.declared.tree.Operator.{Operator as TreeOperator}
+use Rattle.span_trees.specs.declared.tree.Operator.TheVariants.{Plus, Minus, Times, Concat}
 use Rattle.span_expr.specs.declared.expr.Expr.{Expr}
 use Rattle.span_expr.specs.declared.expr.Expr.TheVariants as expr
 use Rattle.span_expr.specs.declared.expr.Link.{Link}
@@ -21,16 +21,16 @@ use Rattle.span_expr.specs.Patterns.{parts_of}
 use Rattle.span_query.specs.declared.query.Function.{Function}
 use Rattle.span_query.specs.declared.query.Function.TheVariants as function
 use Rattle.span_lexer.specs.LiteralValues.{text_of}
-use Rattle.span_typing.specs.declared.typed.Typed.{Typed}
-use Rattle.span_typing.specs.declared.typed.TypedArm.{TypedArm}
-use Rattle.span_typing.specs.declared.typed.Chain.{Chain}
-use Rattle.span_typing.specs.declared.function.CalledFunction.{CalledFunction}
-use Rattle.span_typing.specs.declared.function.CalledFunction.TheVariants as called
-use Rattle.span_typing.specs.Kinds.{takes, common_kind, common_kind_of_all, or_int, text_kind}
+use Rattle.span_operators.specs.declared.typed.Typed.{Typed}
+use Rattle.span_operators.specs.declared.typed.TypedArm.{TypedArm}
+use Rattle.span_operators.specs.declared.typed.Chain.{Chain}
+use Rattle.span_operators.specs.declared.function.CalledFunction.{CalledFunction}
+use Rattle.span_operators.specs.declared.function.CalledFunction.TheVariants as called
+use Rattle.span_operators.specs.Kinds.{takes, common_kind, common_kind_of_all, or_int, text_kind}
 use Rattle.span_value.specs.Results.{and_then}
-use Rattle.span_typing.specs.Operators.{of_kind, kinds_of, exprs_of, number_of, integer, unary_minus, logical_not, null_test, comparison_of, comparison_test, between, in_list, like_test_of, like_test, operator_of, link_kind, arm_of, otherwise_kind, otherwise_of, value_kind, case_kind, case_of, match_of, calculation_of, length_of, starts_with, coalesce_of, one_of, two_of, three_of, some_of, if_of, apply_function, operand_for, operand_of, aggregate_kind}
-use Rattle.span_typing.specs.Operators.{has_condition as is_condition}
-use Rattle.span_typing.specs.Typing.{append_link, chain_of, all_true, some_true}
+use Rattle.span_operators.specs.Operators.{of_kind, kinds_of, exprs_of, number_of, integer, unary_minus, logical_not, null_test, comparison_of, comparison_test, between, in_list, like_test_of, like_test, operator_of, link_kind, append_link, chain_of, arm_of, otherwise_kind, otherwise_of, value_kind, case_kind, case_of, match_of, calculation_of, length_of, starts_with, coalesce_of, one_of, two_of, three_of, some_of, if_of, apply_function, operand_for, operand_of, aggregate_kind}
+use Rattle.span_operators.specs.Operators.{has_condition as is_condition}
+use Rattle.span_typing.specs.Typing.{all_true, some_true}
 use Rattle.span_soundness.specs.Types.{is_text, is_operand, has_type, all_are, are_conditions, is_link_of, has_condition, has_value, is_compared_with, is_else_of, is_of}
 use Rattle.span_soundness.specs.Bindings.{is_function_of, IsTyped}
 use Rattle.span_soundness.proofs.Sameness.{same_kind, of_this}

@@ -11,22 +11,22 @@ use Rattle.span_value.specs.declared.refusal.Refusal.TheVariants.{TooManyTables}
 use Rattle.span_schema.specs.declared.table.Table.{Table}
 use Rattle.span_schema.specs.Tables.{is_same_name}
 use Rattle.span_schema.specs.Numbers.{IsTable, number_named}
-use Rattle.span_syntax.specs.declared.tree.Spelling.{Spelling}
-use Rattle.span_syntax.specs.declared.tree.Expr.{Expr}
+use Rattle.span_trees.specs.declared.tree.Spelling.{Spelling}
+use Rattle.span_trees.specs.declared.tree.Expr.{Expr}
 use Rattle.span_parser.specs.declared.tree.SortKey.{SortKey}
 use Rattle.span_parser.specs.declared.tree.Limit.{Limit}
 use Rattle.span_parser.specs.declared.tree.Query.{Query}
 use Rattle.span_parser.specs.declared.tree.Item.TheOpen.{Query-F, Block-F}
 use Rattle.span_params.specs.declared.params.Parameter.{Parameter}
 use Rattle.span_value.specs.Results.{and_then}
-use Rattle.span_binder.specs.declared.bound.Source.{Source}
-use Rattle.span_binder.specs.declared.bound.FromItems.{FromItems}
-use Rattle.span_binder.specs.declared.bound.TypedQuery.{TypedQuery}
-use Rattle.span_binder.specs.declared.bound.BoundBlock.{BoundBlock}
-use Rattle.span_binder.specs.declared.bound.BoundBlocks.{BoundBlocks}
-use Rattle.span_binder.specs.Onward.{fold_results}
-use Rattle.span_binder.specs.Sources.{name_or_alias, table_source, numbered_source, most_tables, named_source, derived_source, start_from, add_item}
-use Rattle.span_binder.specs.Blocks.{BlockTail, block_tail_of, bind_block}
+use Rattle.span_blocks.specs.declared.bound.Source.{Source}
+use Rattle.span_blocks.specs.declared.bound.FromItems.{FromItems}
+use Rattle.span_blocks.specs.declared.bound.TypedQuery.{TypedQuery}
+use Rattle.span_blocks.specs.declared.bound.BoundBlock.{BoundBlock}
+use Rattle.span_blocks.specs.declared.bound.BoundBlocks.{BoundBlocks}
+use Rattle.span_blocks.specs.Onward.{fold_results}
+use Rattle.span_blocks.specs.Sources.{name_or_alias, table_source, numbered_source, most_tables, named_source, derived_source, start_from, add_item}
+use Rattle.span_blocks.specs.Blocks.{BlockTail, block_tail_of, bind_block}
 use Rattle.span_binder.specs.Queries.{only_block, with_block, bind_query, ItemStep, JoinStep, BlockStep, QueryStep, next_join, from, block_at, next_block, blocks, query_at, query_step}
 use Rattle.span_binder.proofs.ByParts.{query_holds}
 use Rattle.span_soundness.proofs.Agreeing.{Made}

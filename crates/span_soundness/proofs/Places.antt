@@ -7,13 +7,13 @@ use Rattle.std.proofs.lemmas.Bool.{eqb-true}
 use Rattle.span_value.specs.declared.value.Kind.{Kind}
 use Rattle.span_value.specs.declared.value.Kind.TheVariants as kind
 use Rattle.span_value.specs.declared.refusal.Refusal.{Refusal}
-use Rattle.span_syntax.specs.declared.tree.Column.{Column}
+use Rattle.span_trees.specs.declared.tree.Column.{Column}
 use Rattle.span_expr.specs.declared.expr.Expr.TheVariants as expr
 use Rattle.span_query.specs.declared.query.Aggregate.{Aggregate}
 use Rattle.span_typing.specs.declared.scope.Scope.{Scope}
 use Rattle.span_typing.specs.declared.scope.ScopeColumn.{ScopeColumn}
-use Rattle.span_typing.specs.declared.typed.Mode.{Mode}
-use Rattle.span_typing.specs.declared.typed.Mode.TheVariants.{Rows, Groups}
+use Rattle.span_operators.specs.declared.typed.Mode.{Mode}
+use Rattle.span_operators.specs.declared.typed.Mode.TheVariants.{Rows, Groups}
 use Rattle.span_typing.specs.Scopes.{if_unique, only_place, one_place, fits, item_of, column_place}
 use Rattle.span_typing.specs.Typing.{or_number, kind_at, key_typed, column_at, column}
 use Rattle.span_soundness.specs.Types.{are_same, is_some, is_of}

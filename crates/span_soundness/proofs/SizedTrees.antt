@@ -9,7 +9,7 @@ use Rattle.span_value.specs.Results.{and_then}
 use Rattle.span_value.specs.declared.refusal.Refusal.TheVariants.{DuplicateAlias, ColumnsDiffer}
 use Rattle.span_schema.specs.declared.table.Table.{Table}
 use Rattle.span_schema.specs.Numbers.{IsTable, columns_of}
-use Rattle.span_syntax.specs.declared.tree.Expr.{Expr as Tree}
+use Rattle.span_trees.specs.declared.tree.Expr.{Expr as Tree}
 use Rattle.span_parser.specs.declared.tree.SortKey.{SortKey}
 use Rattle.span_parser.specs.declared.tree.Limit.{Limit}
 use Rattle.span_parser.specs.declared.tree.Query.{Query}
@@ -29,16 +29,16 @@ use Rattle.span_planner.specs.Leaves.{table_of, width_of}
 use Rattle.span_planner.specs.Numbered.{is_number}
 use Rattle.span_planner.specs.Sizes.{Shape, item_shape, is_sized_join, is_sized_block, query_shape, shape, is_sized}
 use Rattle.span_params.specs.declared.params.Parameter.{Parameter}
-use Rattle.span_binder.specs.declared.bound.Source.{Source}
-use Rattle.span_binder.specs.declared.bound.FromItems.{FromItems}
-use Rattle.span_binder.specs.declared.bound.SelectItem.{SelectItem}
-use Rattle.span_binder.specs.declared.bound.Parts.{Parts}
-use Rattle.span_binder.specs.declared.bound.TypedQuery.{TypedQuery}
-use Rattle.span_binder.specs.declared.bound.BoundBlock.{BoundBlock}
-use Rattle.span_binder.specs.declared.bound.BoundBlocks.{BoundBlocks}
-use Rattle.span_binder.specs.Sources.{table_column, table_source, with_names, has_item, condition, join_of, with_join, add_item}
-use Rattle.span_binder.specs.Blocks.{with_keys, group_places, BlockTail, bind_parts, block_of, block_in, bind_block}
-use Rattle.span_binder.specs.Aggregating.{mode_of}
+use Rattle.span_blocks.specs.declared.bound.Source.{Source}
+use Rattle.span_blocks.specs.declared.bound.FromItems.{FromItems}
+use Rattle.span_blocks.specs.declared.bound.SelectItem.{SelectItem}
+use Rattle.span_blocks.specs.declared.bound.Parts.{Parts}
+use Rattle.span_blocks.specs.declared.bound.TypedQuery.{TypedQuery}
+use Rattle.span_blocks.specs.declared.bound.BoundBlock.{BoundBlock}
+use Rattle.span_blocks.specs.declared.bound.BoundBlocks.{BoundBlocks}
+use Rattle.span_blocks.specs.Sources.{table_column, table_source, with_names, has_item, condition, join_of, with_join, add_item}
+use Rattle.span_blocks.specs.Blocks.{with_keys, group_places, BlockTail, bind_parts, block_of, block_in, bind_block}
+use Rattle.span_blocks.specs.Aggregating.{mode_of}
 use Rattle.span_binder.specs.Queries.{have_same_kind, have_same_kinds, are_union_compatible, sort_keys, blocks_of, limit_of, query_of, bind_query, query_step}
 use Rattle.span_soundness.proofs.Agreeing.{Made, then_made}
 use Rattle.span_soundness.proofs.Nesting.{IsFront, bound_is}

@@ -10,7 +10,7 @@ use Rattle.span_query.specs.declared.query.Statement.{Statement}
 use Rattle.span_planner.specs.Sizes.{is_sized}
 use Rattle.span_planner.specs.Plannable.{IsPlannable}
 use Rattle.span_value.specs.Results.{and_then}
-use Rattle.span_binder.specs.declared.bound.TypedQuery.{TypedQuery}
+use Rattle.span_blocks.specs.declared.bound.TypedQuery.{TypedQuery}
 use Rattle.span_binder.specs.Queries.{query_step, statement_of, bound}
 use Rattle.span_binder.specs.Understands.{IsBound, IsNotInGrammar}
 use Rattle.span_soundness.specs.Bindings.{output_types}

@@ -9,7 +9,7 @@ use Rattle.span_query.specs.declared.query.BoundQuery.{BoundQuery}
 use Rattle.span_query.specs.declared.query.BoundQuery.TheOpen.{BoundQuery-F}
 use Rattle.span_query.specs.declared.query.BoundQuery.TheViews.{roll-BoundQuery}
 use Rattle.span_params.specs.declared.params.Parameter.{Parameter}
-use Rattle.span_binder.specs.declared.bound.TypedQuery.{TypedQuery}
+use Rattle.span_blocks.specs.declared.bound.TypedQuery.{TypedQuery}
 use Rattle.span_binder.specs.Queries.{query_step}
 use Rattle.span_soundness.specs.Bindings.{table_types, AreTyped}
 use Rattle.span_soundness.specs.WellTyped.{leaf_types, IsLayerOf}

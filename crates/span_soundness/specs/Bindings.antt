@@ -11,13 +11,13 @@ use Rattle.span_query.specs.declared.query.Function.TheVariants.{Count, Sum, Min
 use Rattle.span_params.specs.declared.params.Parameter.{Parameter}
 use Rattle.span_typing.specs.declared.scope.Scope.{Scope}
 use Rattle.span_typing.specs.declared.scope.ScopeColumn.{ScopeColumn}
-use Rattle.span_typing.specs.declared.typed.Typed.{Typed}
-use Rattle.span_typing.specs.declared.typed.Mode.{Mode}
-use Rattle.span_typing.specs.declared.typed.Mode.TheVariants.{Rows, Groups}
-use Rattle.span_typing.specs.Kinds.{takes}
+use Rattle.span_operators.specs.declared.typed.Typed.{Typed}
+use Rattle.span_operators.specs.declared.typed.Mode.{Mode}
+use Rattle.span_operators.specs.declared.typed.Mode.TheVariants.{Rows, Groups}
+use Rattle.span_operators.specs.Kinds.{takes}
 use Rattle.span_typing.specs.Typing.{kind_at}
 use Rattle.span_query.specs.declared.query.OutputColumn.{OutputColumn}
-use Rattle.span_binder.specs.Sources.{table_columns}
+use Rattle.span_blocks.specs.Sources.{table_columns}
 use Rattle.span_soundness.specs.Types.{Typing, are_same, has_type, is_of}
 
 -- ---- rows

@@ -6,7 +6,7 @@ use Rattle.span_value.specs.declared.value.Value.{Value}
 use Rattle.span_value.specs.declared.truth.Outcome.TheVariants.{Val}
 use Rattle.span_schema.specs.declared.table.Table.{Table}
 use Rattle.span_schema.specs.Fitting.{is_of_kind}
-use Rattle.span_syntax.specs.declared.tree.Expr.{Expr as Tree}
+use Rattle.span_trees.specs.declared.tree.Expr.{Expr as Tree}
 use Rattle.span_parser.specs.declared.tree.Query.{Query}
 use Rattle.span_expr.specs.declared.expr.Expr.{Expr}
 use Rattle.span_expr.specs.declared.expr.Operator.{Operator}
@@ -26,10 +26,10 @@ use Rattle.span_query.specs.Meaning.{meaning}
 use Rattle.span_params.specs.declared.params.Parameter.{Parameter}
 use Rattle.span_params.specs.Parameters.{with_parameter}
 use Rattle.span_typing.specs.declared.scope.Scope.{Scope}
-use Rattle.span_typing.specs.declared.typed.Typed.{Typed}
-use Rattle.span_typing.specs.declared.typed.Mode.{Mode}
+use Rattle.span_operators.specs.declared.typed.Typed.{Typed}
+use Rattle.span_operators.specs.declared.typed.Mode.{Mode}
 use Rattle.span_typing.specs.Typing.{typing}
-use Rattle.span_binder.specs.declared.bound.TypedQuery.{TypedQuery}
+use Rattle.span_blocks.specs.declared.bound.TypedQuery.{TypedQuery}
 use Rattle.span_binder.specs.Queries.{query_step, bound}
 use Rattle.span_binder.specs.Understands.{Understands}
 use Rattle.span_planner.specs.Plannable.{IsPlannable}

@@ -1,7 +1,2 @@
-pub mod Expressing
-pub mod Good
-pub mod Levels
-pub mod Loops
 pub mod Parsing
 pub mod Places
-pub mod Shrinking

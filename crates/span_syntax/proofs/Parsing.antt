@@ -7,22 +7,22 @@ use Rattle.span_lexer.specs.declared.lexer.ReadError.{ReadError}
 use Rattle.span_lexer.specs.Tokens.{Item}
 use Rattle.span_lexer.specs.Readings.{IsReadError}
 use Rattle.span_grammar.specs.declared.class.Lexeme.{Lexeme}
-use Rattle.span_syntax.specs.declared.fault.SyntaxError.{SyntaxError}
-use Rattle.span_syntax.specs.declared.fault.SyntaxError.TheVariants as fault
+use Rattle.span_primary.specs.declared.fault.SyntaxError.{SyntaxError}
+use Rattle.span_primary.specs.declared.fault.SyntaxError.TheVariants as fault
 use Rattle.span_grammar.specs.declared.judge.Goal.{Goal}
 use Rattle.span_grammar.specs.Rules.{Rule, Tree, Answer, Read, Wrong, Deep, limit, parse}
 use Rattle.span_grammar.specs.Texts.{HasTree, IsWrong, IsTooDeep}
 use Rattle.span_grammar.specs.Grammar.{inside}
 use Rattle.span_grammar.specs.Goals.{goal_part, goal_rule}
 use Rattle.span_grammar.specs.Judged.{HasItems, lexemes_in, IsTokenRefusal, IsRefused}
-use Rattle.span_syntax.specs.Pieces.{Piece, to_read_result}
+use Rattle.span_primary.specs.Pieces.{Piece, to_read_result}
 use Rattle.span_syntax.specs.Parsed.{ParsesAs, GivesToEnd, require_end, at_end, read_to_end, refusal_of, Reports, Refuses, IsOrOutOfMemory}
 use Rattle.span_grammar.proofs.Whole.{whole, Right, answered, tree_answered, deep_answered, wrong_answered}
 use Rattle.span_grammar.proofs.Ending.{ends, inside_ends}
 use Rattle.span_grammar.proofs.Apart.{st}
 use Rattle.span_grammar.proofs.Verdicts.{wide, good, goal_good}
 use Rattle.span_grammar.proofs.Judging.{same_lexemes, judged_refused, made_not, misread_same}
-use Rattle.span_syntax.proofs.Good.{Good}
+use Rattle.span_primary.proofs.Good.{Good}
 
 -- ---- for the code
 

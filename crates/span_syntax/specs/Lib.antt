@@ -1,5 +1,1 @@
-pub mod Expressions
-pub mod Nests
 pub mod Parsed
-pub mod Pieces
-pub mod Reading

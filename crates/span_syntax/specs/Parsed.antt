@@ -8,8 +8,8 @@ use Rattle.span_lexer.specs.declared.lexer.ReadError.{ReadError}
 use Rattle.span_lexer.specs.declared.token.Token.{Token}
 use Rattle.span_lexer.specs.Tokens.{Item}
 use Rattle.span_grammar.specs.declared.class.Lexeme.{Lexeme}
-use Rattle.span_syntax.specs.declared.fault.SyntaxError.{SyntaxError}
-use Rattle.span_syntax.specs.declared.fault.SyntaxError.TheVariants as fault
+use Rattle.span_primary.specs.declared.fault.SyntaxError.{SyntaxError}
+use Rattle.span_primary.specs.declared.fault.SyntaxError.TheVariants as fault
 use Rattle.span_grammar.specs.declared.judge.Goal.{Goal}
 use Rattle.span_grammar.specs.declared.class.Sort.TheVariants as sort
 use Rattle.span_grammar.specs.Rules.{is_of, Tree}
@@ -17,7 +17,7 @@ use Rattle.span_grammar.specs.Texts.{HasTree}
 use Rattle.span_grammar.specs.Grammar.{inside}
 use Rattle.span_grammar.specs.Goals.{goal_rule}
 use Rattle.span_grammar.specs.Judged.{HasItems, lexemes_in}
-use Rattle.span_syntax.specs.Pieces.{Piece, ReadResult}
+use Rattle.span_primary.specs.Pieces.{Piece, ReadResult}
 
 -- the text has a tree, and the value is that of the tree
 pub record ParsesAs {A : Type 0} (g : Goal) (of : Tree → A) (text : List ℕ) (value : A) : Type 0 where

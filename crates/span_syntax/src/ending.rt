@@ -3,11 +3,11 @@ ghost use Rattle.std.specs.Prelude.{◌≡◌};
 ghost use Rattle.span_syntax.specs.Parsed as parsed;
 ghost use Rattle.span_syntax.specs.Parsed.{GivesToEnd, require_end, refusal_of, start_or, GivesSplit};
 
-use super::fault::SyntaxError;
 use span_grammar::class::{Lexeme, Sort};
 use span_grammar::reader::is_class;
 use span_lexer::lexer::ReadError;
 use span_lexer::token::Token;
+use span_primary::fault::SyntaxError;
 use span_value::refusal::Refusal;
 use std::alloc::AllocError;
 

@@ -1,31 +1,41 @@
-//! Expressions, read from tokens: a function for each rule.
+//! Expressions, read from tokens: a function for each rule above the primary expressions.
 //!
-//! Each function knows the number of openings left, and is given the function that reads after one: so only one recurses, no deeper
-//! than openings may be nested.
+//! Each function is given the function that reads after an opening: so only one recurses, no deeper than openings may be nested.
 ghost use Rattle.std.specs.Prelude.{◌≤◌};
 ghost use Rattle.span_grammar.specs.Rules.{limit};
-ghost use Rattle.span_syntax.specs.Pieces.{Gives};
-ghost use Rattle.span_syntax.specs.Expressions as spec;
-ghost use Rattle.span_syntax.specs.Nests.{Nests, at};
-ghost use Rattle.span_syntax.specs.Reading.{Reads, ReadsEach};
+ghost use Rattle.span_primary.specs.Pieces.{Gives};
+ghost use Rattle.span_primary.specs.Expressions as spec;
+ghost use Rattle.span_primary.specs.Nests.{Nests, at};
+ghost use Rattle.span_primary.specs.Reading.{Reads, ReadsEach};
 
-use super::column::qualified_column;
-use super::fault::SyntaxError;
-use super::operator::{
-    PredicateTest, apply_test, chain_of, comparison, conjunction_of, disjunction_of, maybe_not,
-    null_words, sum_sign, term_sign,
-};
-use super::reader::{Level, Reader};
-use super::token::{
-    close_parenthesis, enter, integer_of, next_is, pair_with, span_of, spelling, take,
-};
-use super::tree::{Expr, Link, Spelling};
 use span_grammar::class::{Lexeme, Sort};
 use span_grammar::grammar::Part;
 use span_grammar::reader::goes_on;
-use span_lexer::token::{Sign, Word};
-use sqlite_items::{Boxed, Items};
+use span_lexer::token::Word;
+use span_primary::fault::SyntaxError;
+use span_primary::reader::{Level, Reader};
+use span_primary::sign::{comparison, maybe_not, sum_sign, term_sign};
+use span_primary::token::{pair_with, take};
+use span_trees::operator::{PredicateTest, apply_test, chain_of, conjunction_of, disjunction_of};
+use span_trees::tree::{Expr, Link};
+use sqlite_items::Items;
 use std::alloc::Global;
+use std::marker::Model;
+
+/// Reads expressions, by what reads their primary expressions.
+#[derive(Drop)]
+struct ExpressionReader<'t, F> {
+    alloc: Global,
+    primary: Reader<'t, F>,
+}
+
+impl<'t, F> Model for ExpressionReader<'t, F> {
+    ghost use Rattle.span_primary.specs.Reading.{Reading};
+
+    ghost Value = { Reading F };
+
+    ghost view = { λ r. r.primary };
+}
 
 impl<
     F: for<'a> Fn(
@@ -35,236 +45,20 @@ impl<
         Level,
         &'a [Lexeme],
     ) -> Result<(Expr, &'a [Lexeme]), SyntaxError>,
-> Reader<'_, F> {
-    /// `"(" expr ")"`
-    #[tactic(auto, unfolding(crate::specs::Expressions::parenthesis))]
-    fn parenthesis<'a>(&self, tokens: &'a [Lexeme]) -> Result<(Expr, &'a [Lexeme]), SyntaxError>
-        requires nests { Nests F.Fn self.now }
-        ensures { Reads self.now spec.parenthesis tokens.now result }
-    {
-        let (_, rest) = enter(self.left, Sort::Sign(Sign::Open), tokens)?;
-        let (inner, rest) = self.after(Level::Expression, rest)?;
-        close_parenthesis(inner, rest)
-    }
-
-    /// A call, after its name.
-    #[tactic(auto, unfolding(crate::specs::Expressions::arguments))]
-    fn arguments<'a>(
-        &self,
-        name: Spelling,
-        tokens: &'a [Lexeme],
-    ) -> Result<(Expr, &'a [Lexeme]), SyntaxError>
-        requires nests { Nests F.Fn self.now }
-        ensures { Reads self.now (λ text left inner. spec.arguments text left inner name) tokens.now result }
-    {
-        let (_, rest) = enter(self.left, Sort::Sign(Sign::Open), tokens)?;
-        let (call, rest) = self.argument_list(name, rest)?;
-        close_parenthesis(call, rest)
-    }
-
-    /// `"(" expr {"," expr} ")"`
-    #[tactic(auto, unfolding(crate::specs::Expressions::members))]
-    fn members<'a>(&self, tokens: &'a [Lexeme]) -> Result<(Items<Expr>, &'a [Lexeme]), SyntaxError>
-        requires nests { Nests F.Fn self.now }
-        ensures { Reads self.now spec.members tokens.now result }
-    {
-        let (_, rest) = enter(self.left, Sort::Sign(Sign::Open), tokens)?;
-        let (found, rest) = self.list(rest)?;
-        close_parenthesis(found, rest)
-    }
-
-    /// A CASE.
-    #[tactic(auto, unfolding(crate::specs::Expressions::case))]
-    fn case<'a>(&self, tokens: &'a [Lexeme]) -> Result<(Expr, &'a [Lexeme]), SyntaxError>
-        requires nests { Nests F.Fn self.now }
-        ensures { Reads self.now spec.case tokens.now result }
-    {
-        let (_, rest) = enter(self.left, Sort::Word(Word::Case), tokens)?;
-        self.in_case(rest)
-    }
-
-    /// `NOT neg`
-    #[tactic(auto, unfolding(crate::specs::Expressions::negation))]
-    fn negation<'a>(&self, tokens: &'a [Lexeme]) -> Result<(Expr, &'a [Lexeme]), SyntaxError>
-        requires nests { Nests F.Fn self.now }
-        ensures { Reads self.now spec.negation tokens.now result }
-    {
-        let (_, rest) = enter(self.left, Sort::Word(Word::Not), tokens)?;
-        let (operand, rest) = self.after(Level::Negated, rest)?;
-        Ok((Expr::Not(Boxed::new(self.alloc, operand)?), rest))
-    }
-
-    /// `"-" unary`
-    #[tactic(auto, unfolding(crate::specs::Expressions::opposite))]
-    fn opposite<'a>(&self, tokens: &'a [Lexeme]) -> Result<(Expr, &'a [Lexeme]), SyntaxError>
-        requires nests { Nests F.Fn self.now }
-        ensures { Reads self.now spec.opposite tokens.now result }
-    {
-        let (_, rest) = enter(self.left, Sort::Sign(Sign::Minus), tokens)?;
-        self.after(Level::Signed, rest)
-    }
-
-    /// A call or a column, after its name.
-    #[tactic(auto, unfolding(crate::specs::Expressions::after_name))]
-    fn after_name<'a>(
-        &self,
-        name: Spelling,
-        tokens: &'a [Lexeme],
-    ) -> Result<(Expr, &'a [Lexeme]), SyntaxError>
-        requires nests { Nests F.Fn self.now }
-        ensures { Reads self.now (λ text left inner. spec.after_name text left inner name) tokens.now result }
-    {
-        if goes_on(Part::Arguments, tokens) {
-            return self.arguments(name, tokens);
-        }
-        let (column, rest) = qualified_column(self.alloc, self.text, name, tokens)?;
-        Ok((Expr::Column(column), rest))
-    }
-
-    /// A call or a column.
-    #[tactic(auto, unfolding(crate::specs::Expressions::call_or_column))]
-    fn call_or_column<'a>(&self, tokens: &'a [Lexeme]) -> Result<(Expr, &'a [Lexeme]), SyntaxError>
-        requires nests { Nests F.Fn self.now }
-        ensures { Reads self.now spec.call_or_column tokens.now result }
-    {
-        let (name, rest) = spelling(self.alloc, self.text, Sort::Name, tokens)?;
-        self.after_name(name, rest)
-    }
-
-    /// A call of IF.
-    #[tactic(auto, unfolding(crate::specs::Expressions::if_call))]
-    fn if_call<'a>(&self, tokens: &'a [Lexeme]) -> Result<(Expr, &'a [Lexeme]), SyntaxError>
-        requires nests { Nests F.Fn self.now }
-        ensures { Reads self.now spec.if_call tokens.now result }
-    {
-        let (name, rest) = spelling(self.alloc, self.text, Sort::Word(Word::If), tokens)?;
-        self.arguments(name, rest)
-    }
-
-    /// A call, a column, a CASE or an expression in parentheses.
-    #[tactic(auto, unfolding(crate::specs::Expressions::compound))]
-    fn compound<'a>(&self, tokens: &'a [Lexeme]) -> Result<(Expr, &'a [Lexeme]), SyntaxError>
-        requires nests { Nests F.Fn self.now }
-        ensures { Reads self.now spec.compound tokens.now result }
-    {
-        if goes_on(Part::Named, tokens) {
-            return self.call_or_column(tokens);
-        }
-        if goes_on(Part::IfCall, tokens) {
-            return self.if_call(tokens);
-        }
-        if goes_on(Part::Case, tokens) {
-            return self.case(tokens);
-        }
-        self.parenthesis(tokens)
-    }
-
-    /// TRUE, FALSE, NULL, a parameter, or what has other parts.
-    #[tactic(auto, unfolding(crate::specs::Expressions::word_literal))]
-    fn word_literal<'a>(&self, tokens: &'a [Lexeme]) -> Result<(Expr, &'a [Lexeme]), SyntaxError>
-        requires nests { Nests F.Fn self.now }
-        ensures { Reads self.now spec.word_literal tokens.now result }
-    {
-        if next_is(Sort::Word(Word::True), tokens) {
-            let (found, rest) = take(Sort::Word(Word::True), tokens)?;
-            return Ok((Expr::Truth(true, span_of(&found.token)), rest));
-        }
-        if next_is(Sort::Word(Word::False), tokens) {
-            let (found, rest) = take(Sort::Word(Word::False), tokens)?;
-            return Ok((Expr::Truth(false, span_of(&found.token)), rest));
-        }
-        if next_is(Sort::Word(Word::Null), tokens) {
-            let (found, rest) = take(Sort::Word(Word::Null), tokens)?;
-            return Ok((Expr::Null(span_of(&found.token)), rest));
-        }
-        if next_is(Sort::Parameter, tokens) {
-            let (name, rest) = spelling(self.alloc, self.text, Sort::Parameter, tokens)?;
-            return Ok((Expr::Parameter(name), rest));
-        }
-        self.compound(tokens)
-    }
-
-    /// `prim`, but no integer.
-    #[tactic(auto, unfolding(crate::specs::Expressions::other_primary))]
-    fn other_primary<'a>(&self, tokens: &'a [Lexeme]) -> Result<(Expr, &'a [Lexeme]), SyntaxError>
-        requires nests { Nests F.Fn self.now }
-        ensures { Reads self.now spec.other_primary tokens.now result }
-    {
-        if next_is(Sort::Str, tokens) {
-            let (literal, rest) = spelling(self.alloc, self.text, Sort::Str, tokens)?;
-            return Ok((Expr::Str(literal), rest));
-        }
-        if next_is(Sort::Bytes, tokens) {
-            let (literal, rest) = spelling(self.alloc, self.text, Sort::Bytes, tokens)?;
-            return Ok((Expr::Bytes(literal), rest));
-        }
-        self.word_literal(tokens)
-    }
-
-    /// `prim`
-    #[tactic(auto, unfolding(crate::specs::Expressions::primary))]
-    fn primary<'a>(&self, tokens: &'a [Lexeme]) -> Result<(Expr, &'a [Lexeme]), SyntaxError>
-        requires nests { Nests F.Fn self.now }
-        ensures { Reads self.now spec.primary tokens.now result }
-    {
-        if next_is(Sort::Int, tokens) {
-            let (found, rest) = take(Sort::Int, tokens)?;
-            return Ok((Expr::Integer(integer_of(false, found)), rest));
-        }
-        self.other_primary(tokens)
-    }
-
-    /// `unary`
-    #[tactic(auto, unfolding(crate::specs::Expressions::unary))]
-    fn unary<'a>(&self, tokens: &'a [Lexeme]) -> Result<(Expr, &'a [Lexeme]), SyntaxError>
-        requires nests { Nests F.Fn self.now }
-        ensures { Reads self.now spec.unary tokens.now result }
-    {
-        if goes_on(Part::Opposite, tokens) {
-            return self.opposite(tokens);
-        }
-        self.primary(tokens)
-    }
-
-    /// `unary`, but no integer.
-    #[tactic(auto, unfolding(crate::specs::Expressions::other_unary))]
-    fn other_unary<'a>(&self, tokens: &'a [Lexeme]) -> Result<(Expr, &'a [Lexeme]), SyntaxError>
-        requires nests { Nests F.Fn self.now }
-        ensures { Reads self.now spec.other_unary tokens.now result }
-    {
-        if goes_on(Part::Opposite, tokens) {
-            return self.opposite(tokens);
-        }
-        self.other_primary(tokens)
-    }
-
-    /// What is after a minus. One directly before an integer belongs to it.
-    #[tactic(auto, unfolding(crate::specs::Expressions::signed_primary))]
-    fn signed_primary<'a>(&self, tokens: &'a [Lexeme]) -> Result<(Expr, &'a [Lexeme]), SyntaxError>
-        requires nests { Nests F.Fn self.now }
-        ensures { Reads self.now spec.signed_primary tokens.now result }
-    {
-        if next_is(Sort::Int, tokens) {
-            let (found, rest) = take(Sort::Int, tokens)?;
-            return Ok((Expr::Integer(integer_of(true, found)), rest));
-        }
-        let (operand, rest) = self.other_unary(tokens)?;
-        Ok((Expr::Negative(Boxed::new(self.alloc, operand)?), rest))
-    }
-
+> ExpressionReader<'_, F> {
     /// An operator and the operand after it.
-    #[tactic(auto, unfolding(crate::specs::Expressions::term_more))]
+    #[tactic(auto, unfolding(span_primary::specs::Expressions::term_more))]
     fn term_more<'a>(&self, tokens: &'a [Lexeme]) -> Result<(Link, &'a [Lexeme]), SyntaxError>
         requires nests { Nests F.Fn self.now }
         ensures { Reads self.now spec.term_more tokens.now result }
     {
         let (operator, rest) = term_sign(tokens)?;
-        let (operand, rest) = self.unary(rest)?;
+        let (operand, rest) = self.primary.unary(rest)?;
         Ok((Link { operator, operand }, rest))
     }
 
     /// The operators with their operands.
-    #[tactic(auto, using(crate::proofs::Shrinking::loop_steps))]
+    #[tactic(auto, using(span_primary::proofs::Shrinking::loop_steps))]
     fn term_rest<'a>(
         &self,
         tokens: &'a [Lexeme],
@@ -283,18 +77,18 @@ impl<
     }
 
     /// `term`
-    #[tactic(auto, unfolding(crate::specs::Expressions::term))]
+    #[tactic(auto, unfolding(span_primary::specs::Expressions::term))]
     fn term<'a>(&self, tokens: &'a [Lexeme]) -> Result<(Expr, &'a [Lexeme]), SyntaxError>
         requires nests { Nests F.Fn self.now }
         ensures { Reads self.now spec.term tokens.now result }
     {
-        let (first, rest) = self.unary(tokens)?;
+        let (first, rest) = self.primary.unary(tokens)?;
         let ((first, more), rest) = pair_with(first, self.term_rest(rest))?;
         Ok((chain_of(self.alloc, first, more)?, rest))
     }
 
     /// An operator and the operand after it.
-    #[tactic(auto, unfolding(crate::specs::Expressions::sum_more))]
+    #[tactic(auto, unfolding(span_primary::specs::Expressions::sum_more))]
     fn sum_more<'a>(&self, tokens: &'a [Lexeme]) -> Result<(Link, &'a [Lexeme]), SyntaxError>
         requires nests { Nests F.Fn self.now }
         ensures { Reads self.now spec.sum_more tokens.now result }
@@ -305,7 +99,7 @@ impl<
     }
 
     /// The operators with their operands.
-    #[tactic(auto, using(crate::proofs::Shrinking::loop_steps))]
+    #[tactic(auto, using(span_primary::proofs::Shrinking::loop_steps))]
     fn sum_rest<'a>(&self, tokens: &'a [Lexeme]) -> Result<(Items<Link>, &'a [Lexeme]), SyntaxError>
         requires nests { Nests F.Fn self.now }
         ensures { ReadsEach self.now Part.SumMore spec.sum_more tokens.now result }
@@ -321,7 +115,7 @@ impl<
     }
 
     /// `sum`
-    #[tactic(auto, unfolding(crate::specs::Expressions::sum))]
+    #[tactic(auto, unfolding(span_primary::specs::Expressions::sum))]
     fn sum<'a>(&self, tokens: &'a [Lexeme]) -> Result<(Expr, &'a [Lexeme]), SyntaxError>
         requires nests { Nests F.Fn self.now }
         ensures { Reads self.now spec.sum tokens.now result }
@@ -332,7 +126,7 @@ impl<
     }
 
     /// A comparison with an operand.
-    #[tactic(auto, unfolding(crate::specs::Expressions::comparison_test))]
+    #[tactic(auto, unfolding(span_primary::specs::Expressions::comparison_test))]
     fn comparison_test<'a>(
         &self,
         tokens: &'a [Lexeme],
@@ -345,32 +139,8 @@ impl<
         Ok(((false, PredicateTest::Compared(how, second)), rest))
     }
 
-    /// `IS [NOT] NULL`
-    #[tactic(auto, unfolding(crate::specs::Expressions::is_null))]
-    fn is_null<'a>(
-        &self,
-        tokens: &'a [Lexeme],
-    ) -> Result<((bool, PredicateTest), &'a [Lexeme]), SyntaxError>
-        requires nests { Nests F.Fn self.now }
-        ensures { Reads self.now spec.is_null tokens.now result }
-    {
-        let (is_not, rest) = null_words(tokens)?;
-        Ok(((is_not, PredicateTest::IsNull), rest))
-    }
-
-    /// `LIKE string`
-    #[tactic(auto, unfolding(crate::specs::Expressions::like))]
-    fn like<'a>(&self, tokens: &'a [Lexeme]) -> Result<(PredicateTest, &'a [Lexeme]), SyntaxError>
-        requires nests { Nests F.Fn self.now }
-        ensures { Reads self.now spec.like tokens.now result }
-    {
-        let (_, rest) = take(Sort::Word(Word::Like), tokens)?;
-        let (pattern, rest) = spelling(self.alloc, self.text, Sort::Str, rest)?;
-        Ok((PredicateTest::Like(pattern), rest))
-    }
-
     /// `AND sum`, after the low end of a BETWEEN.
-    #[tactic(auto, unfolding(crate::specs::Expressions::high_end))]
+    #[tactic(auto, unfolding(span_primary::specs::Expressions::high_end))]
     fn high_end<'a>(&self, tokens: &'a [Lexeme]) -> Result<(Expr, &'a [Lexeme]), SyntaxError>
         requires nests { Nests F.Fn self.now }
         ensures { Reads self.now spec.high_end tokens.now result }
@@ -380,7 +150,7 @@ impl<
     }
 
     /// `BETWEEN sum AND sum`
-    #[tactic(auto, unfolding(crate::specs::Expressions::between))]
+    #[tactic(auto, unfolding(span_primary::specs::Expressions::between))]
     fn between<'a>(
         &self,
         tokens: &'a [Lexeme],
@@ -394,19 +164,8 @@ impl<
         Ok((PredicateTest::Between(low, high), rest))
     }
 
-    /// `IN "(" expr {"," expr} ")"`
-    #[tactic(auto, unfolding(crate::specs::Expressions::within))]
-    fn within<'a>(&self, tokens: &'a [Lexeme]) -> Result<(PredicateTest, &'a [Lexeme]), SyntaxError>
-        requires nests { Nests F.Fn self.now }
-        ensures { Reads self.now spec.within tokens.now result }
-    {
-        let (_, rest) = take(Sort::Word(Word::In), tokens)?;
-        let (members, rest) = self.members(rest)?;
-        Ok((PredicateTest::In(members), rest))
-    }
-
     /// LIKE, BETWEEN or IN.
-    #[tactic(auto, unfolding(crate::specs::Expressions::negatable_test))]
+    #[tactic(auto, unfolding(span_primary::specs::Expressions::negatable_test))]
     fn negatable_test<'a>(
         &self,
         tokens: &'a [Lexeme],
@@ -415,16 +174,16 @@ impl<
         ensures { Reads self.now spec.negatable_test tokens.now result }
     {
         if goes_on(Part::Like, tokens) {
-            return self.like(tokens);
+            return self.primary.like(tokens);
         }
         if goes_on(Part::Between, tokens) {
             return self.between(tokens);
         }
-        self.within(tokens)
+        self.primary.within(tokens)
     }
 
     /// LIKE, BETWEEN or IN, with NOT or without.
-    #[tactic(auto, unfolding(crate::specs::Expressions::maybe_not_test))]
+    #[tactic(auto, unfolding(span_primary::specs::Expressions::maybe_not_test))]
     fn maybe_not_test<'a>(
         &self,
         tokens: &'a [Lexeme],
@@ -438,7 +197,7 @@ impl<
     }
 
     /// What is asked of an operand, and whether with NOT.
-    #[tactic(auto, unfolding(crate::specs::Expressions::predicate_rest))]
+    #[tactic(auto, unfolding(span_primary::specs::Expressions::predicate_rest))]
     fn predicate_rest<'a>(
         &self,
         tokens: &'a [Lexeme],
@@ -450,7 +209,7 @@ impl<
             return self.comparison_test(tokens);
         }
         if goes_on(Part::IsNull, tokens) {
-            return self.is_null(tokens);
+            return self.primary.is_null(tokens);
         }
         if goes_on(Part::MaybeNotTest, tokens) {
             return self.maybe_not_test(tokens);
@@ -459,7 +218,7 @@ impl<
     }
 
     /// `pred`
-    #[tactic(auto, unfolding(crate::specs::Expressions::predicate))]
+    #[tactic(auto, unfolding(span_primary::specs::Expressions::predicate))]
     fn predicate<'a>(&self, tokens: &'a [Lexeme]) -> Result<(Expr, &'a [Lexeme]), SyntaxError>
         requires nests { Nests F.Fn self.now }
         ensures { Reads self.now spec.predicate tokens.now result }
@@ -470,7 +229,7 @@ impl<
     }
 
     /// `neg`
-    #[tactic(auto, unfolding(crate::specs::Expressions::negated_predicate))]
+    #[tactic(auto, unfolding(span_primary::specs::Expressions::negated_predicate))]
     fn negated_predicate<'a>(
         &self,
         tokens: &'a [Lexeme],
@@ -479,13 +238,13 @@ impl<
         ensures { Reads self.now spec.negated_predicate tokens.now result }
     {
         if goes_on(Part::Negation, tokens) {
-            return self.negation(tokens);
+            return self.primary.negation(tokens);
         }
         self.predicate(tokens)
     }
 
     /// AND and the operand after it.
-    #[tactic(auto, unfolding(crate::specs::Expressions::conjunction_more))]
+    #[tactic(auto, unfolding(span_primary::specs::Expressions::conjunction_more))]
     fn conjunction_more<'a>(
         &self,
         tokens: &'a [Lexeme],
@@ -498,7 +257,7 @@ impl<
     }
 
     /// The other operands of AND.
-    #[tactic(auto, using(crate::proofs::Shrinking::loop_steps))]
+    #[tactic(auto, using(span_primary::proofs::Shrinking::loop_steps))]
     fn conjunction_rest<'a>(
         &self,
         tokens: &'a [Lexeme],
@@ -517,7 +276,7 @@ impl<
     }
 
     /// `conj`
-    #[tactic(auto, unfolding(crate::specs::Expressions::conjunction))]
+    #[tactic(auto, unfolding(span_primary::specs::Expressions::conjunction))]
     fn conjunction<'a>(&self, tokens: &'a [Lexeme]) -> Result<(Expr, &'a [Lexeme]), SyntaxError>
         requires nests { Nests F.Fn self.now }
         ensures { Reads self.now spec.conjunction tokens.now result }
@@ -528,7 +287,7 @@ impl<
     }
 
     /// OR and the operand after it.
-    #[tactic(auto, unfolding(crate::specs::Expressions::expression_more))]
+    #[tactic(auto, unfolding(span_primary::specs::Expressions::expression_more))]
     fn expression_more<'a>(&self, tokens: &'a [Lexeme]) -> Result<(Expr, &'a [Lexeme]), SyntaxError>
         requires nests { Nests F.Fn self.now }
         ensures { Reads self.now spec.expression_more tokens.now result }
@@ -538,7 +297,7 @@ impl<
     }
 
     /// The other operands of OR.
-    #[tactic(auto, using(crate::proofs::Shrinking::loop_steps))]
+    #[tactic(auto, using(span_primary::proofs::Shrinking::loop_steps))]
     fn expression_rest<'a>(
         &self,
         tokens: &'a [Lexeme],
@@ -557,7 +316,7 @@ impl<
     }
 
     /// `expr`
-    #[tactic(auto, unfolding(crate::specs::Expressions::expression))]
+    #[tactic(auto, unfolding(span_primary::specs::Expressions::expression))]
     fn expression<'a>(&self, tokens: &'a [Lexeme]) -> Result<(Expr, &'a [Lexeme]), SyntaxError>
         requires nests { Nests F.Fn self.now }
         ensures { Reads self.now spec.expression tokens.now result }
@@ -569,7 +328,7 @@ impl<
 }
 
 /// An expression, or what else a level asks for, with `left` openings left. This function alone recurses.
-#[tactic(auto, using(crate::proofs::Levels::level_steps))]
+#[tactic(auto, using(span_primary::proofs::Levels::level_steps))]
 fn read<'a>(
     alloc: Global,
     text: &[u8],
@@ -580,16 +339,14 @@ fn read<'a>(
     requires { left ≤ limit }
     ensures { Gives result ((at level text.now left).read tokens.now) }
 {
-    let reader = Reader {
+    let reader = ExpressionReader {
         alloc,
-        text,
-        left,
-        read,
+        primary: Reader::new(alloc, text, left, read),
     };
     match level {
         Level::Expression => reader.expression(tokens),
         Level::Negated => reader.negated_predicate(tokens),
-        Level::Signed => reader.signed_primary(tokens),
+        Level::Signed => reader.primary.signed_primary(tokens),
     }
 }
 

@@ -1,11 +1,5 @@
-//! Expressions, read from tokens as trees, and the steps that every rule is read by.
+//! Expressions, read from tokens as trees, and whole texts.
 #![tactic(auto)]
 
-pub mod column;
 pub mod ending;
 pub mod expression;
-pub mod fault;
-pub mod operator;
-mod reader;
-pub mod token;
-pub mod tree;

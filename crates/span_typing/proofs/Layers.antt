@@ -1,19 +1,19 @@
 -- The typed forms of a chain and a CASE, by their parts.
 use Rattle.std.proofs.Common.{◌≡◌, ℕ, Ok, List, [], ◌∷◌, map, Option, Some, None, ap, sym, ◌∙◌, refl}
 use Rattle.std.specs.Option.{option_map}
-use Rattle.span_syntax.specs.declared.tree.Operator.{Operator}
-use Rattle.span_syntax.specs.declared.tree.Expr.{Expr}
-use Rattle.span_syntax.specs.declared.tree.Arm.{Arm, fold-Arm}
-use Rattle.span_syntax.specs.declared.tree.Link.{Link, fold-Link}
-use Rattle.span_syntax.specs.declared.tree.Expr.TheVariants as e
-use Rattle.span_syntax.specs.declared.tree.Expr.TheVariants.{rolls-Chain, rolls-Case, rolls-Negative, rolls-IsNull, rolls-Not, rolls-Like}
-use Rattle.span_syntax.specs.declared.tree.Expr.TheOpen.{Expr-F}
-use Rattle.span_syntax.specs.declared.tree.Expr.TheFolds.{fold-roll-Expr, fold_out-Arm, fold_out-Link}
+use Rattle.span_trees.specs.declared.tree.Operator.{Operator}
+use Rattle.span_trees.specs.declared.tree.Expr.{Expr}
+use Rattle.span_trees.specs.declared.tree.Arm.{Arm, fold-Arm}
+use Rattle.span_trees.specs.declared.tree.Link.{Link, fold-Link}
+use Rattle.span_trees.specs.declared.tree.Expr.TheVariants as e
+use Rattle.span_trees.specs.declared.tree.Expr.TheVariants.{rolls-Chain, rolls-Case, rolls-Negative, rolls-IsNull, rolls-Not, rolls-Like}
+use Rattle.span_trees.specs.declared.tree.Expr.TheOpen.{Expr-F}
+use Rattle.span_trees.specs.declared.tree.Expr.TheFolds.{fold-roll-Expr, fold_out-Arm, fold_out-Link}
 use Rattle.span_params.specs.declared.params.Parameter.{Parameter}
-use Rattle.span_syntax.specs.declared.tree.Spelling.{Spelling}
+use Rattle.span_trees.specs.declared.tree.Spelling.{Spelling}
 use Rattle.span_typing.specs.declared.scope.Scope.{Scope}
-use Rattle.span_typing.specs.declared.typed.Typed.{Typed}
-use Rattle.span_typing.specs.Operators.{unary_minus, logical_not, null_test, like_test}
+use Rattle.span_operators.specs.declared.typed.Typed.{Typed}
+use Rattle.span_operators.specs.Operators.{unary_minus, logical_not, null_test, like_test}
 use Rattle.span_typing.specs.Typing.{Operand, at_operands, arm_at, link_at, typing, arm_typing, link_typing, chain, case, simple_case, of_one}
 
 abbrev arm_fold : Scope → List Parameter → Arm → Operand × Operand

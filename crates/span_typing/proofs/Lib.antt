@@ -1,4 +1,3 @@
-pub mod Agreement
 pub mod Stepping
 pub mod Making
 pub mod Sizes

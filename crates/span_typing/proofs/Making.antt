@@ -2,21 +2,21 @@
 use Rattle.std.proofs.Common.{◌≡◌, List, Option, Result, Ok, Err, subst}
 use Rattle.span_value.specs.declared.refusal.Refusal.{Refusal}
 use Rattle.span_value.specs.declared.refusal.Refusal.TheVariants as refusal
-use Rattle.span_syntax.specs.declared.tree.Operator.{Operator}
+use Rattle.span_trees.specs.declared.tree.Operator.{Operator}
 use Rattle.span_expr.specs.declared.expr.Expr.{Expr as TypedExpr}
 use Rattle.span_query.specs.declared.query.Aggregate.{Aggregate}
 use Rattle.span_query.specs.declared.query.Function.{Function}
-use Rattle.span_typing.specs.declared.typed.Typed.{Typed}
-use Rattle.span_typing.specs.declared.typed.TypedArm.{TypedArm}
-use Rattle.span_typing.specs.declared.typed.Chain.{Chain}
-use Rattle.span_typing.specs.declared.typed.Mode.{Mode}
-use Rattle.span_typing.specs.declared.typed.Mode.TheVariants.{Rows}
+use Rattle.span_operators.specs.declared.typed.Typed.{Typed}
+use Rattle.span_operators.specs.declared.typed.TypedArm.{TypedArm}
+use Rattle.span_operators.specs.declared.typed.Chain.{Chain}
+use Rattle.span_operators.specs.declared.typed.Mode.{Mode}
+use Rattle.span_operators.specs.declared.typed.Mode.TheVariants.{Rows}
 use Rattle.span_typing.specs.declared.scope.Scope.{Scope}
-use Rattle.span_typing.specs.declared.function.CalledFunction.{CalledFunction}
+use Rattle.span_operators.specs.declared.function.CalledFunction.{CalledFunction}
 use Rattle.span_value.specs.Results.{and_then}
-use Rattle.span_typing.specs.Steps.{◌>>=◌, from_result, Gives, Leaves}
-use Rattle.span_typing.specs.Operators.{in_list, case_of, match_of, apply_function}
-use Rattle.span_typing.specs.Typing.{Operand, each, conditions, links, arms, compared_arms, optional, chain_of, of_one, of_two, of_three, membership, chain, junction, searched_case, simple_case, unknown_call, aggregate_call, function_call, aggregate}
+use Rattle.span_operators.specs.Steps.{◌>>=◌, from_result, Gives, Leaves}
+use Rattle.span_operators.specs.Operators.{in_list, chain_of, case_of, match_of, apply_function}
+use Rattle.span_typing.specs.Typing.{Operand, each, conditions, links, arms, compared_arms, optional, of_one, of_two, of_three, membership, chain, junction, searched_case, simple_case, unknown_call, aggregate_call, function_call, aggregate}
 use Rattle.span_typing.proofs.Stepping.{made_of, made_of_two, made_of_three, made_step, stopped, stopped_second}
 
 -- one value alone is there

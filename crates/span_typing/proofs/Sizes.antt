@@ -1,13 +1,13 @@
 -- How large a tree is: what falls as the binding goes down.
 use Rattle.std.proofs.Common.{◌≡◌, ℕ, zero, suc, ◌+◌, ◌<◌, List, [], ◌∷◌, length, map, get_or, Option, Some, None, ap, sym, ◌∙◌, refl, arith}
 use Rattle.std.specs.Option.{option_map}
-use Rattle.span_syntax.specs.declared.tree.Expr.{Expr}
-use Rattle.span_syntax.specs.declared.tree.Arm.{Arm, fold-Arm}
-use Rattle.span_syntax.specs.declared.tree.Link.{Link, fold-Link}
-use Rattle.span_syntax.specs.declared.tree.Expr.TheVariants as e
-use Rattle.span_syntax.specs.declared.tree.Expr.TheVariants.{rolls-Chain, rolls-Case}
-use Rattle.span_syntax.specs.declared.tree.Expr.TheOpen.{Expr-F, Arm-F, Link-F}
-use Rattle.span_syntax.specs.declared.tree.Expr.TheFolds.{fold-Expr, fold-roll-Expr, fold_out-Arm, fold_out-Link}
+use Rattle.span_trees.specs.declared.tree.Expr.{Expr}
+use Rattle.span_trees.specs.declared.tree.Arm.{Arm, fold-Arm}
+use Rattle.span_trees.specs.declared.tree.Link.{Link, fold-Link}
+use Rattle.span_trees.specs.declared.tree.Expr.TheVariants as e
+use Rattle.span_trees.specs.declared.tree.Expr.TheVariants.{rolls-Chain, rolls-Case}
+use Rattle.span_trees.specs.declared.tree.Expr.TheOpen.{Expr-F, Arm-F, Link-F}
+use Rattle.span_trees.specs.declared.tree.Expr.TheFolds.{fold-Expr, fold-roll-Expr, fold_out-Arm, fold_out-Link}
 
 -- more than each is
 abbrev pub all_sizes : List ℕ → ℕ

@@ -5,7 +5,7 @@ use Rattle.std.specs.List.{fold}
 use Rattle.span_value.specs.declared.refusal.Refusal.{Refusal}
 use Rattle.span_value.specs.declared.refusal.Refusal.TheVariants as refusal
 use Rattle.span_value.specs.Results.{and_then}
-use Rattle.span_typing.specs.Steps.{TypingStep, from_result, ◌>>=◌, next_of, Gives, Leaves}
+use Rattle.span_operators.specs.Steps.{TypingStep, from_result, ◌>>=◌, next_of, Gives, Leaves}
 
 err_is : {X : Type 0} (v w : Refusal) → (let o : Result X Refusal = Err v in o) ≡ Err w → v ≡ w
 err_is v w h = cc

@@ -4,8 +4,8 @@ use Rattle.std.specs.Prelude.{ℕ, ◌+◌, ◌==◌, ◌&&◌, Bool, true, fals
 use Rattle.span_value.specs.declared.refusal.Refusal.{Refusal}
 use Rattle.span_value.specs.declared.refusal.Refusal.TheVariants.{NoColumn, Ambiguous}
 use Rattle.span_schema.specs.Tables.{is_same_name}
-use Rattle.span_syntax.specs.declared.tree.Column.{Column}
-use Rattle.span_syntax.specs.declared.tree.Spelling.{Spelling}
+use Rattle.span_trees.specs.declared.tree.Column.{Column}
+use Rattle.span_trees.specs.declared.tree.Spelling.{Spelling}
 use Rattle.span_typing.specs.declared.scope.ScopeColumn.{ScopeColumn}
 use Rattle.span_typing.specs.declared.scope.Scope.{Scope}
 use Rattle.span_value.specs.Results.{and_then}

@@ -5,13 +5,13 @@ use Rattle.span_value.specs.declared.value.Kind.{Kind}
 use Rattle.span_value.specs.declared.value.Kind.TheVariants as kind
 use Rattle.span_value.specs.declared.refusal.Refusal.{Refusal}
 use Rattle.span_value.specs.declared.refusal.Refusal.TheVariants.{TypeMismatch, NotGrouped, NoParameter}
-use Rattle.span_syntax.specs.declared.tree.Column.{Column}
-use Rattle.span_syntax.specs.declared.tree.Operator.{Operator}
-use Rattle.span_syntax.specs.declared.tree.Expr.{Expr}
-use Rattle.span_syntax.specs.declared.tree.Arm.{Arm}
-use Rattle.span_syntax.specs.declared.tree.Link.{Link as TreeLink}
-use Rattle.span_syntax.specs.declared.tree.Expr.TheOpen.{Expr-F, Arm-F, Link-F}
-use Rattle.span_syntax.specs.declared.tree.Expr.TheFolds.{fold-Expr}
+use Rattle.span_trees.specs.declared.tree.Column.{Column}
+use Rattle.span_trees.specs.declared.tree.Operator.{Operator}
+use Rattle.span_trees.specs.declared.tree.Expr.{Expr}
+use Rattle.span_trees.specs.declared.tree.Arm.{Arm}
+use Rattle.span_trees.specs.declared.tree.Link.{Link as TreeLink}
+use Rattle.span_trees.specs.declared.tree.Expr.TheOpen.{Expr-F, Arm-F, Link-F}
+use Rattle.span_trees.specs.declared.tree.Expr.TheFolds.{fold-Expr}
 use Rattle.span_expr.specs.declared.expr.Expr.TheVariants as expr
 use Rattle.span_expr.specs.declared.expr.Expr.{Expr as TypedExpr}
 use Rattle.span_query.specs.declared.query.Aggregate.{Aggregate}
@@ -21,21 +21,21 @@ use Rattle.span_query.specs.declared.query.Function.TheVariants.{Count}
 use Rattle.span_lexer.specs.LiteralValues.{text_of, bytes_of}
 use Rattle.span_params.specs.declared.params.Parameter.{Parameter}
 use Rattle.span_params.specs.Parameters.{parameter_named}
-use Rattle.span_typing.specs.declared.typed.Typed.{Typed}
-use Rattle.span_typing.specs.declared.typed.TypedArm.{TypedArm}
-use Rattle.span_typing.specs.declared.typed.Chain.{Chain}
-use Rattle.span_typing.specs.declared.typed.Mode.{Mode}
-use Rattle.span_typing.specs.declared.typed.Mode.TheVariants.{Rows, Groups}
+use Rattle.span_operators.specs.declared.typed.Typed.{Typed}
+use Rattle.span_operators.specs.declared.typed.TypedArm.{TypedArm}
+use Rattle.span_operators.specs.declared.typed.Chain.{Chain}
+use Rattle.span_operators.specs.declared.typed.Mode.{Mode}
+use Rattle.span_operators.specs.declared.typed.Mode.TheVariants.{Rows, Groups}
 use Rattle.span_typing.specs.declared.scope.Scope.{Scope}
 use Rattle.span_typing.specs.declared.scope.ScopeColumn.{ScopeColumn}
-use Rattle.span_typing.specs.declared.function.CalledFunction.{CalledFunction}
-use Rattle.span_typing.specs.declared.function.CalledFunction.TheVariants as called
-use Rattle.span_typing.specs.Kinds.{common_kind}
+use Rattle.span_operators.specs.declared.function.CalledFunction.{CalledFunction}
+use Rattle.span_operators.specs.declared.function.CalledFunction.TheVariants as called
+use Rattle.span_operators.specs.Kinds.{common_kind}
 use Rattle.span_typing.specs.Scopes.{column_place}
-use Rattle.span_typing.specs.Functions.{function_named}
+use Rattle.span_operators.specs.Functions.{function_named}
 use Rattle.span_value.specs.Results.{and_then}
-use Rattle.span_typing.specs.Steps.{TypingStep, pure, from_result, ◌>>=◌, fold_steps, all_of}
-use Rattle.span_typing.specs.Operators.{of_kind, integer, unary_minus, logical_not, null_test, comparison_test, between, in_list, like_test, are_conditions, operator_of, link_kind, case_of, match_of, apply_function, operand_of, aggregate_kind}
+use Rattle.span_operators.specs.Steps.{TypingStep, pure, from_result, ◌>>=◌, fold_steps, all_of}
+use Rattle.span_operators.specs.Operators.{of_kind, integer, unary_minus, logical_not, null_test, comparison_test, between, in_list, like_test, are_conditions, append_link, chain_of, case_of, match_of, apply_function, operand_of, aggregate_kind}
 
 -- ---- literals, columns and parameters
 
@@ -106,18 +106,6 @@ all_true x es = of_kind (expr.And x.expr es) kind.Bool
 
 unfoldable pub some_true : Typed → List TypedExpr → Typed
 some_true x es = of_kind (expr.Or x.expr es) kind.Bool
-
--- a chain, one operator on
-unfoldable pub append_link : Chain → Operator → Typed → Result Chain Refusal
-append_link c op x =
-    and_then (link_kind op c.kind x.kind)
-    (λ k. Ok (record {
-      kind = Some k;
-      links = c.links ++ (record { operator = operator_of op; operand = x.expr } ∷ []);
-    }))
-
-unfoldable pub chain_of : Typed → Chain → Typed
-chain_of x c = record { expr = expr.Chain x.expr c.links; kind = c.kind }
 
 abbrev pub next_link : Mode → Chain → Operator × Operand → Finds Chain
 next_link m c l = l.1 m >>= (λ x. from_result (append_link c l.0 x))

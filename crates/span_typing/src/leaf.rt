@@ -4,22 +4,22 @@ ghost use Rattle.std.specs.Option.{option_copied};
 ghost use Rattle.span_schema.specs.Tables.{is_same_name};
 ghost use Rattle.span_params.specs.Parameters.{parameter_named};
 ghost use Rattle.span_value.specs.Results.{and_then};
-ghost use Rattle.span_typing.specs.Steps.{Gives, Leaves};
-ghost use Rattle.span_typing.specs.Operators as operators;
+ghost use Rattle.span_operators.specs.Steps.{Gives, Leaves};
+ghost use Rattle.span_operators.specs.Operators as operators;
 ghost use Rattle.span_typing.specs.Typing as spec;
 
-use super::call::operand_of;
-use super::function::CalledFunction;
-use super::kind::or_int;
-use super::operator::{TypingResult, of_kind};
 use super::scope::{Scope, column_place};
-use super::step::{append, pair_with};
-use super::typed::{Mode, Typed};
 use span_expr::expr::Expr;
 use span_lexer::literal_value::{bytes_of, text_of};
+use span_operators::call::operand_of;
+use span_operators::function::CalledFunction;
+use span_operators::kind::or_int;
+use span_operators::operator::{TypingResult, of_kind};
+use span_operators::step::{append, pair_with};
+use span_operators::typed::{Mode, Typed};
 use span_params::params::{Parameter, Params};
 use span_query::query::{Aggregate, Function};
-use span_syntax::tree::Column;
+use span_trees::tree::Column;
 use span_value::refusal::Refusal;
 use span_value::seq::Seq;
 use span_value::value::{Kind, Value};
@@ -183,7 +183,7 @@ pub(crate) fn call_star(
     }
 }
 
-#[tactic(auto, unfolding(crate::specs::Operators::aggregate_kind))]
+#[tactic(auto, unfolding(span_operators::specs::Operators::aggregate_kind))]
 fn aggregate_kind(function: Function, kind: Option<Kind>) -> Kind
     ensures { result ≡ operators.aggregate_kind function kind }
 {

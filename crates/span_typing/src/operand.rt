@@ -1,13 +1,13 @@
 //! Steps along typed operands.
 ghost use Rattle.std.specs.Prelude.{◌≡◌, Ok};
-ghost use Rattle.span_typing.specs.Steps.{Gives};
+ghost use Rattle.span_operators.specs.Steps.{Gives};
 ghost use Rattle.span_typing.specs.Typing as spec;
 
-use super::kind::common_kind;
-use super::operator::{TypingResult, are_conditions, of_kind};
-use super::step::{keep_if, pair_with};
-use super::typed::Typed;
 use span_expr::expr::Expr;
+use span_operators::kind::common_kind;
+use span_operators::operator::{TypingResult, are_conditions, of_kind};
+use span_operators::step::{keep_if, pair_with};
+use span_operators::typed::Typed;
 use span_value::refusal::Refusal;
 use span_value::seq::Seq;
 use span_value::value::Kind;

@@ -4,7 +4,7 @@ ghost use Rattle.std.specs.List.{list_any};
 ghost use Rattle.span_typing.specs.Scopes as spec;
 
 use span_schema::table::are_same;
-use span_syntax::tree::{Column, Spelling};
+use span_trees::tree::{Column, Spelling};
 use span_value::refusal::Refusal;
 use span_value::seq::Seq;
 use span_value::text::Text;

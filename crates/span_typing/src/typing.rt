@@ -5,27 +5,27 @@
 ghost use Rattle.std.specs.Prelude.{◌≡◌, ◌++◌, ◌∷◌, [], Ok, map};
 ghost use Rattle.std.specs.Option.{option_map};
 ghost use Rattle.span_value.specs.Results.{and_then};
-ghost use Rattle.span_typing.specs.Steps.{Gives, Leaves};
-ghost use Rattle.span_typing.specs.Functions as functions;
-ghost use Rattle.span_typing.specs.Operators as operators;
+ghost use Rattle.span_operators.specs.Steps.{Gives, Leaves};
+ghost use Rattle.span_operators.specs.Functions as functions;
+ghost use Rattle.span_operators.specs.Operators as operators;
 ghost use Rattle.span_typing.specs.Typing as spec;
 
-use super::call::apply_function;
-use super::choice::{case_of, in_list, match_of};
-use super::function::{CalledFunction, function_named};
 use super::leaf::{aggregate, bytes, call_star, column, null, parameter, string, truth};
 use super::operand::{all_true, check_kind, condition_of, some_true};
-use super::operator::{
+use super::scope::Scope;
+use span_expr::expr::Expr;
+use span_operators::call::apply_function;
+use span_operators::choice::{case_of, in_list, match_of};
+use span_operators::function::{CalledFunction, function_named};
+use span_operators::operator::{
     TypingResult, append_link, between, chain_of, comparison_test, integer, like_test, logical_not,
     null_test, unary_minus,
 };
-use super::scope::Scope;
-use super::step::{pair_with, push_result};
-use super::typed::{Chain, Mode, Typed, TypedArm};
-use span_expr::expr::Expr;
+use span_operators::step::{pair_with, push_result};
+use span_operators::typed::{Chain, Mode, Typed, TypedArm};
 use span_params::params::Params;
 use span_query::query::Aggregate;
-use span_syntax::tree;
+use span_trees::tree;
 use span_value::refusal::Refusal;
 use span_value::seq::Seq;
 use span_value::value::Kind;

@@ -1,5 +1,5 @@
 use Rattle.std.proofs.Common.{◌≡◌, drop}
-use Rattle.span_binder.specs.Onward.{fold_results, append_result}
+use Rattle.span_blocks.specs.Onward.{fold_results, append_result}
 use Rattle.span_binder.specs.Queries as spec
 use Rattle.span_binder.proofs.order.sort_keys.Given as goal
 

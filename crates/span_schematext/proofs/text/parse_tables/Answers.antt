@@ -1,7 +1,7 @@
 use Rattle.std.proofs.Common.{◌≡◌, ◌∙◌, ap, subst, List, ℕ, Result}
 use Rattle.span_lexer.specs.declared.token.Token.{Token}
 use Rattle.span_grammar.specs.declared.judge.Goal.TheVariants as goal_of
-use Rattle.span_syntax.specs.declared.fault.SyntaxError.{SyntaxError}
+use Rattle.span_primary.specs.declared.fault.SyntaxError.{SyntaxError}
 use Rattle.span_schema.specs.declared.table.Table.{Table}
 use Rattle.span_grammar.specs.Classes.{lexemes_of}
 use Rattle.span_grammar.specs.Rules.{limit}

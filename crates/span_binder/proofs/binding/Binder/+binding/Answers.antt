@@ -2,12 +2,12 @@ use Rattle.std.proofs.Common.{rules, ap, sym, ◌∙◌, ℕ, List, Ok, Err, Res
 use Rattle.span_value.specs.declared.refusal.Refusal.{Refusal}
 use Rattle.span_value.specs.Results.{and_then}
 use Rattle.span_parser.specs.declared.tree.Item.TheViews.{out-Query}
-use Rattle.span_typing.specs.Steps.{Gives}
-use Rattle.span_binder.specs.declared.bound.BoundBlock.{BoundBlock}
-use Rattle.span_binder.specs.declared.bound.BoundBlocks.{BoundBlocks}
-use Rattle.span_binder.specs.declared.bound.FromItems.{FromItems}
-use Rattle.span_binder.specs.declared.bound.TypedQuery.{TypedQuery}
-use Rattle.span_binder.specs.Blocks.{block_tail, bind_block}
+use Rattle.span_operators.specs.Steps.{Gives}
+use Rattle.span_blocks.specs.declared.bound.BoundBlock.{BoundBlock}
+use Rattle.span_blocks.specs.declared.bound.BoundBlocks.{BoundBlocks}
+use Rattle.span_blocks.specs.declared.bound.FromItems.{FromItems}
+use Rattle.span_blocks.specs.declared.bound.TypedQuery.{TypedQuery}
+use Rattle.span_blocks.specs.Blocks.{block_tail, bind_block}
 use Rattle.span_binder.specs.Queries.{bind_query}
 use Rattle.span_binder.specs.Queries as spec
 use Rattle.span_binder.proofs.Adding.{found_tables, join_made, join_refused, block_made}

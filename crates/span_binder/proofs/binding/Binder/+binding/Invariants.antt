@@ -1,6 +1,6 @@
 use Rattle.std.proofs.Common.{◌≡◌, map, drop}
-use Rattle.span_binder.specs.Onward.{fold_results}
-use Rattle.span_binder.specs.Sources.{AreTables}
+use Rattle.span_blocks.specs.Onward.{fold_results}
+use Rattle.span_blocks.specs.Sources.{AreTables}
 use Rattle.span_binder.specs.Queries as spec
 use Rattle.span_binder.proofs.binding.Binder.+binding.Given as goal
 

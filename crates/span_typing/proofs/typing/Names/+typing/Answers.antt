@@ -1,17 +1,17 @@
 use Rattle.std.proofs.Common.{rules, arith, ◌<◌, ◌++◌, ◌∷◌, [], List, map, refl, sym, subst, Ok, Err, Option, Result}
 use Rattle.std.specs.Option.{option_map}
-use Rattle.span_syntax.specs.declared.tree.Operator.{Operator}
+use Rattle.span_trees.specs.declared.tree.Operator.{Operator}
 use Rattle.span_expr.specs.declared.expr.Expr.{Expr as TypedExpr}
 use Rattle.span_query.specs.declared.query.Aggregate.{Aggregate}
 use Rattle.span_value.specs.declared.refusal.Refusal.{Refusal}
 use Rattle.span_value.specs.declared.refusal.Refusal.TheVariants as refusal
 use Rattle.span_value.specs.Results.{and_then}
-use Rattle.span_typing.specs.declared.typed.Typed.{Typed}
-use Rattle.span_typing.specs.declared.typed.TypedArm.{TypedArm}
-use Rattle.span_typing.specs.declared.typed.Chain.{Chain}
-use Rattle.span_typing.specs.Steps.{TypingStep, Leaves, append_step, from_result, ◌>>=◌}
-use Rattle.span_typing.specs.Operators.{unary_minus, logical_not, null_test, like_test, comparison_test, between, in_list, case_of, match_of, apply_function}
-use Rattle.span_typing.specs.Typing.{Operand, typing, arm_typing, link_typing, condition, condition_of, append_link, next_link, arm, arm_typed, check_kind, compared_arm, chain_of, all_true, some_true, aggregate}
+use Rattle.span_operators.specs.declared.typed.Typed.{Typed}
+use Rattle.span_operators.specs.declared.typed.TypedArm.{TypedArm}
+use Rattle.span_operators.specs.declared.typed.Chain.{Chain}
+use Rattle.span_operators.specs.Steps.{TypingStep, Leaves, append_step, from_result, ◌>>=◌}
+use Rattle.span_operators.specs.Operators.{unary_minus, logical_not, null_test, like_test, comparison_test, between, in_list, append_link, chain_of, case_of, match_of, apply_function}
+use Rattle.span_typing.specs.Typing.{Operand, typing, arm_typing, link_typing, condition, condition_of, next_link, arm, arm_typed, check_kind, compared_arm, all_true, some_true, aggregate}
 use Rattle.span_typing.proofs.Sizes.{size, all_sizes, arm_size, link_size, smaller_at}
 use Rattle.span_typing.proofs.Layers.{chain_read, case_read, negative_read, null_test_read, denied_read, like_read, case_some}
 use Rattle.span_typing.proofs.Stepping.{made_of, made_of_two, stopped, given, gives, given_with, refused_with, given_two, refused_two, given_three, refused_three, second_refused, taken, refused}

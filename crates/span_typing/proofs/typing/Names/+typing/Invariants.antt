@@ -1,7 +1,7 @@
 use Rattle.std.proofs.Common.{◌≡◌, ◌+◌, map, drop, Ok}
 use Rattle.std.specs.Option.{option_map}
 use Rattle.std.specs.List.{fold}
-use Rattle.span_typing.specs.Steps.{next_of, append_step}
+use Rattle.span_operators.specs.Steps.{next_of, append_step}
 use Rattle.span_typing.specs.Typing.{Operand, typing, arm_typing, link_typing, each, conditions, condition, links, next_link, arms, arm, compared_arms, compared_arm}
 use Rattle.span_typing.proofs.Sizes.{size, all_sizes, arm_size, link_size, or_zero}
 use Rattle.span_typing.proofs.typing.Names.+typing.Given as goal

@@ -1,8 +1,0 @@
-use Rattle.std.proofs.Common.{◌≡◌, drop}
-use Rattle.std.specs.List.{list_any}
-use Rattle.span_binder.specs.Aggregating.{calls_aggregate}
-use Rattle.span_binder.specs.Blocks.{ons_of}
-use Rattle.span_binder.proofs.aggregating.joins_call.Given as goal
-
-abbrev pub invariant-loop-join : goal.invariant-loop-join
-invariant-loop-join l = list_any calls_aggregate (ons_of l.joins) ≡ list_any calls_aggregate (ons_of (drop l.join-index l.joins))

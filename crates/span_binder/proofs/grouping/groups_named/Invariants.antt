@@ -1,6 +1,0 @@
-use Rattle.std.proofs.Common.{◌≡◌, drop}
-use Rattle.span_binder.specs.Blocks as spec
-use Rattle.span_binder.proofs.grouping.groups_named.Given as goal
-
-abbrev pub invariant-loop-column : goal.invariant-loop-column
-invariant-loop-column l = spec.groups_named l.scope l.groups ≡ spec.groups_named l.scope (drop l.column-index l.groups)

@@ -1,0 +1,5 @@
+pub mod Onward
+pub mod Sources
+pub mod Aggregating
+pub mod Outputs
+pub mod Blocks

@@ -1,0 +1,4 @@
+pub mod Kinds
+pub mod Steps
+pub mod Functions
+pub mod Operators

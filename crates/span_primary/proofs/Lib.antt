@@ -1,0 +1,5 @@
+pub mod Expressing
+pub mod Good
+pub mod Levels
+pub mod Loops
+pub mod Shrinking

@@ -1,0 +1,4 @@
+pub mod Pieces
+pub mod Expressions
+pub mod Reading
+pub mod Nests

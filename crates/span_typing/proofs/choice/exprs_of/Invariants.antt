@@ -1,6 +1,0 @@
-use Rattle.std.proofs.Common.{◌≡◌}
-use Rattle.span_typing.specs.Operators.{exprs_of}
-use Rattle.span_typing.proofs.choice.exprs_of.Given as goal
-
-abbrev pub invariant-loop-operand : goal.invariant-loop-operand
-invariant-loop-operand l = l.exprs.items ≡ exprs_of l.yielded
