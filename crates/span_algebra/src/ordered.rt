@@ -11,7 +11,7 @@ use super::part_rows::PartRows;
 use span_query::query::{Block, BoundQuery, Item, Limit, SortKey};
 use span_rows::columns::{columns_of, keys_over};
 use span_rows::row_list::{RowList, lent_rows};
-use span_rows::sort::{few_rows, order_columns};
+use span_sorting::sort::{few_rows, order_columns};
 use span_value::value::Value;
 use std::alloc::{AllocError, Global};
 

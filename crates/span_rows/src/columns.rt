@@ -91,7 +91,7 @@ pub(crate) fn put_columns(
 }
 
 /// Copies of the columns of the rows.
-pub(crate) fn copy_columns(
+pub fn copy_columns(
     alloc: Global,
     columns: &[usize],
     rows: &[&[Value]],
