@@ -15,8 +15,8 @@ use Rattle.span_shard.specs.Reading.{has_short_key}
 use Rattle.span_expr.specs.declared.cell.Failure.{Failure}
 use Rattle.span_query.specs.Rows.{Row, Rows}
 use Rattle.span_rows.specs.Answers.{Gives}
-use Rattle.span_planner.specs.declared.leaf.Leaf.{Leaf}
-use Rattle.span_planner.specs.Picks.{pick_rows}
+use Rattle.span_columns.specs.declared.leaf.Leaf.{Leaf}
+use Rattle.span_columns.specs.Picks.{pick_rows}
 use Rattle.span_planner.specs.Results.{leaf_rows}
 use Rattle.span_fragment.specs.Meaning.{declared_row, whole_table}
 use Rattle.span_fragment.specs.Entries.{key_row, AreNoRows}

@@ -3,7 +3,7 @@ ghost use Rattle.std.specs.Prelude.{◌≡◌, ◌≤◌, ◌⊎◌, IfOk, OnOk,
 ghost use Rattle.span_value.specs.declared.value.Value.TheVariants.{Null};
 ghost use Rattle.span_schema.specs.Numbers.{IsTable};
 ghost use Rattle.span_planner.specs.Leaves.{width_of};
-ghost use Rattle.span_planner.specs.Picks.{picked_width};
+ghost use Rattle.span_columns.specs.Picks.{picked_width};
 ghost use Rattle.span_fragment.specs.Entries.{IsWhetherOf};
 ghost use Rattle.span_fragment.specs.Placed.{IsNoRowOf, wants_none};
 ghost use Rattle.span_fragment.specs.Readers as spec;
@@ -15,8 +15,8 @@ use super::longest::longest_key;
 use super::place::{is_wanted, wants_none};
 use super::steps::{KeyStep, goes_along, key_steps};
 use super::whole_key::{WholeKey, is_own_by_length, table_by_length};
+use span_columns::narrow::picked_width;
 use span_expr::rank::rank;
-use span_planner::narrow::picked_width;
 use span_planner::table::width_of;
 use span_schema::schema::Schema;
 use span_value::refusal::Refusal;

@@ -17,8 +17,8 @@ use Rattle.span_schema.specs.Fitting.{Fits}
 use Rattle.span_expr.specs.declared.expr.Expr.{Expr}
 use Rattle.span_expr.specs.Operators.{column_of}
 use Rattle.span_query.specs.Rows.{Row}
-use Rattle.span_planner.specs.declared.leaf.Leaf.{Leaf}
-use Rattle.span_planner.specs.declared.leaf.LeafJoin.{LeafJoin}
+use Rattle.span_columns.specs.declared.leaf.Leaf.{Leaf}
+use Rattle.span_columns.specs.declared.leaf.LeafJoin.{LeafJoin}
 use Rattle.span_planner.specs.Conditions.{equates, equates_all}
 use Rattle.span_planner.specs.Leaves.{width_of, root_places}
 use Rattle.span_planner.specs.Ranges.{KeyBound, is_of_type, range_by}

@@ -22,7 +22,7 @@ use Rattle.span_shard.specs.Rows.{code_of, row_coded}
 use Rattle.span_shard.specs.Reading.{is_same_row}
 use Rattle.span_shard.specs.Versions.{row_at, kept_upto}
 use Rattle.span_shard.specs.Shard.{KeyRow, versions_at, prepared_at, AreInOrder, IsInUse}
-use Rattle.span_planner.specs.declared.leaf.Leaf.{Leaf}
+use Rattle.span_columns.specs.declared.leaf.Leaf.{Leaf}
 use Rattle.span_planner.specs.Plannable.{IsPlannable}
 use Rattle.span_fragment.specs.declared.piece.Piece.{Piece}
 pub use Rattle.span_fragment.specs.Entries.{key_row}

@@ -5,7 +5,7 @@ use Rattle.span_shard.specs.Shard.{KeyRow}
 use Rattle.span_shard.specs.Reading.{entry_row, has_short_key}
 use Rattle.span_expr.specs.declared.cell.Failure.{Failure}
 use Rattle.span_query.specs.Rows.{Row}
-use Rattle.span_planner.specs.declared.leaf.Leaf.{Leaf}
+use Rattle.span_columns.specs.declared.leaf.Leaf.{Leaf}
 use Rattle.span_fragment.specs.Scans.{IsTakenBy}
 use Rattle.span_fragment.proofs.ScannedRows.{KeptBefore, kept_first, kept_more, scan_given, scan_fails, scan_refused}
 use Rattle.span_fragment.proofs.scan.scan_rows.Goals as goal

@@ -7,7 +7,7 @@ use Rattle.span_value.specs.declared.value.Value.TheVariants.{Null}
 use Rattle.span_schema.specs.Numbers.{other_kinds, other_places, key_places}
 use Rattle.span_keycode.specs.Keys.{IsKey, key_code}
 use Rattle.span_rowcode.specs.Rows.{IsRow}
-use Rattle.span_planner.specs.Picks.{picked_width}
+use Rattle.span_columns.specs.Picks.{picked_width}
 use Rattle.span_fragment.specs.Meaning.{declared_row}
 use Rattle.span_fragment.specs.Placed.{placed}
 use Rattle.span_fragment.specs.Readers.{target}
