@@ -17,7 +17,7 @@ use Rattle.span_query.specs.Rows.{Row, OrFault, append_results, singleton, value
 use Rattle.span_query.specs.Groups.{columns_at}
 use Rattle.span_query.specs.Meaning.{limit_rows}
 use Rattle.span_query.specs.Sorting.{reverse_if, or_next, key_order, row_order, comes_before, sorted}
-use Rattle.span_rows.specs.Columns.{AreColumns, AreKeysOver, key_over}
+use Rattle.span_sorting.specs.Columns.{AreColumns, AreKeysOver, key_over}
 use Rattle.span_sorting.proofs.Sorting.{sorted_map}
 
 -- ---- the select list

@@ -13,10 +13,10 @@ ghost use Rattle.span_rows.specs.LentRows.{lent_rows};
 ghost use Rattle.span_sorting.specs.Orders.{IsSorted};
 
 use super::coded::{CodedRows, code_rows, compare_coded, uncode_rows};
+use super::columns::copy_columns;
 use super::first_rows::first_rows;
 use span_expr::cell::Failure;
 use span_query::query::{Limit, SortKey};
-use span_rows::columns::copy_columns;
 use span_rows::row_list::{RowList, lent_rows};
 use span_value::order::compare;
 use span_value::value::Value;

@@ -1,6 +1,6 @@
 use Rattle.std.proofs.Common.{◌≡◌, ◌++◌, drop, map, Some}
-use Rattle.span_rows.specs.Columns.{key_over}
-use Rattle.span_rows.proofs.columns.keys_over.Given as goal
+use Rattle.span_sorting.specs.Columns.{key_over}
+use Rattle.span_sorting.proofs.columns.keys_over.Given as goal
 
 -- the keys so far, and those that are left
 abbrev pub invariant-loop-key : goal.invariant-loop-key
