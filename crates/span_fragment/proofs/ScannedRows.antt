@@ -38,15 +38,15 @@ use Rattle.span_columns.specs.Picks.{picked, pick_rows}
 use Rattle.span_columns.specs.Reads.{has_place, reads_within, condition_reads, leaf_widths, leaf_on_reads, leaf_reads}
 use Rattle.span_planner.specs.Results.{join_tables, leaf_rows}
 use Rattle.span_planner.proofs.Picked.{Agrees, agrees, val-picked, pick_rows-append}
-use Rattle.span_fragment.specs.Meaning.{declared_row, whole_table}
-use Rattle.span_fragment.specs.Entries.{key_row, AreNoRows, IsWhetherOf}
+use Rattle.span_rowreader.specs.Meaning.{declared_row, whole_table}
+use Rattle.span_rowreader.specs.Entries.{key_row, AreNoRows, IsWhetherOf}
 use Rattle.span_fragment.specs.Given.{picked_given, IsGivenOn}
-use Rattle.span_fragment.specs.Longest.{IsLongest, AreLongest, HaveShortKeys}
-use Rattle.span_fragment.specs.declared.number_test.NumberTest.{NumberTest}
-use Rattle.span_fragment.specs.NumberTests.{meets, AreNeededFor, AreTestsOf, IsKnown, IsWhetherPass}
-use Rattle.span_fragment.specs.Readers.{ArePickedOf}
+use Rattle.span_rowreader.specs.Longest.{IsLongest, AreLongest, HaveShortKeys}
+use Rattle.span_numbertest.specs.declared.number_test.NumberTest.{NumberTest}
+use Rattle.span_numbertest.specs.NumberTests.{meets, AreNeededFor, AreTestsOf, IsKnown, IsWhetherPass}
+use Rattle.span_rowreader.specs.Readers.{ArePickedOf}
 use Rattle.span_fragment.specs.Scans.{passes, kept_row, AreNeeded, AreTestsWhere, IsMaskOf, IsConditionAt, IsAdded, IsAddedWhere, IsTaken}
-use Rattle.span_fragment.proofs.DeclaredRows.{row_width}
+use Rattle.span_rowreader.proofs.DeclaredRows.{row_width}
 use Rattle.span_fragment.proofs.ShortKeys.{given_on_all, refused_of_all}
 
 -- ---- the mask of a condition

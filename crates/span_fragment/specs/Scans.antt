@@ -15,13 +15,13 @@ use Rattle.span_rows.specs.Answers.{Adds}
 use Rattle.span_planner.specs.Leaves.{width_of}
 use Rattle.span_columns.specs.Picks.{picked}
 use Rattle.span_columns.specs.Reads.{reads_within}
-use Rattle.span_fragment.specs.declared.number_test.NumberTest.{NumberTest}
+use Rattle.span_numbertest.specs.declared.number_test.NumberTest.{NumberTest}
 use Rattle.span_fragment.specs.declared.scan.Test.{Test}
 use Rattle.span_fragment.specs.declared.scan.Test.TheVariants.{Always, OnRow, OnColumns}
 use Rattle.span_fragment.specs.declared.scan.TableScan.{TableScan}
-use Rattle.span_fragment.specs.Meaning.{declared_row}
-use Rattle.span_fragment.specs.NumberTests.{meets, IsNumberAt}
-use Rattle.span_fragment.specs.Readers.{IsReader}
+use Rattle.span_rowreader.specs.Meaning.{declared_row}
+use Rattle.span_numbertest.specs.NumberTests.{meets, IsNumberAt}
+use Rattle.span_rowreader.specs.Readers.{IsReader}
 
 -- ---- what is kept
 

@@ -4,9 +4,9 @@ ghost use Rattle.std.specs.List.{range_with_len};
 ghost use Rattle.span_expr.specs.Places as places;
 ghost use Rattle.span_fragment.specs.Scans.{IsMaskOf};
 
-use super::place::is_wanted;
 use span_expr::expr::Expr;
 use span_expr::reads::reads_within;
+use span_rowreader::place::is_wanted;
 use std::alloc::{AllocError, Global};
 
 /// The first of a number of columns that a condition reads. What is made of it is tested.

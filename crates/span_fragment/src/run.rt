@@ -6,7 +6,7 @@ ghost use Rattle.span_query.specs.Rows.{Rows};
 ghost use Rattle.span_rows.specs.Answers.{Gives};
 ghost use Rattle.span_algebra.specs.BlockMeaning.{GroupsTable};
 ghost use Rattle.span_planner.specs.Maskable.{IsMaskable};
-ghost use Rattle.span_fragment.specs.Entries.{AreNoRows};
+ghost use Rattle.span_rowreader.specs.Entries.{AreNoRows};
 ghost use Rattle.span_fragment.specs.Given.{IsGivenOn};
 ghost use Rattle.span_fragment.specs.Pieces.{IsPieceOf};
 

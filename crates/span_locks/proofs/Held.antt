@@ -18,7 +18,7 @@ use Rattle.span_planner.specs.Maskable.{IsMaskable}
 use Rattle.span_gather.specs.declared.rows.Rows.{Rows as Found}
 use Rattle.span_planner.proofs.MaskableLeaves.{leaves_maskable}
 use Rattle.span_planner.proofs.Tabled.{leaves_tabled}
-use Rattle.span_fragment.proofs.KeyPlaces.{keyed}
+use Rattle.span_rowreader.proofs.KeyPlaces.{keyed}
 use Rattle.span_shard.specs.KeyVersions.{KeyVersions}
 use Rattle.span_binder.specs.Understands.{Understands}
 use Rattle.span_gather.specs.Gathered.{gathered}

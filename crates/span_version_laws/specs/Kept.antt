@@ -25,7 +25,7 @@ use Rattle.span_shard.specs.Shard.{KeyRow, versions_at, prepared_at, AreInOrder,
 use Rattle.span_columns.specs.declared.leaf.Leaf.{Leaf}
 use Rattle.span_planner.specs.Plannable.{IsPlannable}
 use Rattle.span_fragment.specs.declared.piece.Piece.{Piece}
-pub use Rattle.span_fragment.specs.Entries.{key_row}
+pub use Rattle.span_rowreader.specs.Entries.{key_row}
 use Rattle.span_machine.specs.declared.query.ScanLeaf.{ScanLeaf}
 use Rattle.span_machine.specs.declared.slot.SlotState.{SlotState}
 use Rattle.span_machine.specs.declared.transaction.Commit.{Commit}

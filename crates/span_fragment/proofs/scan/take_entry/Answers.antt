@@ -2,7 +2,7 @@ use Rattle.std.proofs.Common.{ℕ, Bool, true, List, Option, Result, Ok, Err, su
 use Rattle.std.specs.Prelude.{IfOk}
 use Rattle.span_expr.specs.declared.expr.Expr.{Expr}
 use Rattle.span_query.specs.Rows.{Row}
-use Rattle.span_fragment.specs.Entries.{IsWhetherOf}
+use Rattle.span_rowreader.specs.Entries.{IsWhetherOf}
 use Rattle.span_fragment.specs.Scans.{IsTestOf, IsAddedWhere}
 use Rattle.span_fragment.proofs.ScannedRows.{own_taken}
 use Rattle.span_fragment.proofs.scan.take_entry.Goals as goal
