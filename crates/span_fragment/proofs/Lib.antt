@@ -3,5 +3,3 @@ mod Ending
 mod LastJoin
 mod Running
 mod Fronts
-mod ScannedRows
-mod ShortKeys

@@ -1,4 +1,2 @@
-pub mod Given
 pub mod Pieces
 pub mod Directories
-pub mod Scans

@@ -3,9 +3,7 @@
 
 mod directory;
 mod joined;
-mod narrow;
 pub mod piece;
 mod rooted;
 pub mod run;
-mod scan;
 mod short;
