@@ -9,8 +9,9 @@ use Rattle.span_query.specs.declared.query.Item.TheVariants as item
 use Rattle.span_query.specs.declared.query.Join.{Join}
 use Rattle.span_query.specs.Layers.{map_block, map_item, map_join}
 use Rattle.span_query.specs.Meaning.{block_rows, distinct_if, from}
-use Rattle.span_rows.specs.Columns.{AreColumns, distinct_at}
-use Rattle.span_rows.proofs.TakenColumns.{project_columns}
+use Rattle.span_rows.specs.Columns.{distinct_at}
+use Rattle.span_sorting.specs.Columns.{AreColumns}
+use Rattle.span_sorting.proofs.TakenColumns.{project_columns}
 use Rattle.span_query.specs.Rows.{Row, Rows, OrFault, ◌>>=◌, filter_where, project_rows}
 use Rattle.span_query.specs.Groups.{groups, group_rows}
 use Rattle.span_algebra.specs.BlockMeaning.{GroupsTable, TakesDistinct, project_groups}

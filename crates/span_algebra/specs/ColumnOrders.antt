@@ -3,7 +3,7 @@ use Rattle.std.specs.Prelude.{◌≡◌, ℕ, false, [], None}
 use Rattle.span_query.specs.declared.query.Block.{Block}
 use Rattle.span_query.specs.declared.query.BoundQuery.TheOpen.{BoundQuery-F}
 use Rattle.span_query.specs.declared.query.Item.TheVariants as item
-use Rattle.span_rows.specs.Columns.{AreColumns, AreKeysOver}
+use Rattle.span_sorting.specs.Columns.{AreColumns, AreKeysOver}
 use Rattle.span_algebra.specs.declared.ordered.ColumnOrder.{ColumnOrder}
 
 -- the query is one SELECT, whose select list is taken at each row of its FROM

@@ -5,8 +5,8 @@ ghost use Rattle.span_algebra.specs.BlockMeaning.{TakesDistinct};
 use super::ordered::only_table;
 use super::part_rows::PartRows;
 use span_query::query::{Block, BoundQuery};
-use span_rows::columns::columns_of;
 use span_rows::row_list::RowList;
+use span_sorting::columns::columns_of;
 use std::alloc::{AllocError, Global};
 
 /// The table at all rows of which a block takes its select list, each row of this once, where it is such a block.

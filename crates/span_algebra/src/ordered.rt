@@ -9,9 +9,9 @@ ghost use Rattle.span_algebra.specs.ColumnOrders.{IsColumnOrder, IsTable, TakesA
 
 use super::part_rows::PartRows;
 use span_query::query::{Block, BoundQuery, Item, Limit, SortKey};
-use span_rows::columns::{columns_of, keys_over};
 use span_rows::row_list::{RowList, lent_rows};
-use span_rows::sort::{few_rows, order_columns};
+use span_sorting::columns::{columns_of, keys_over};
+use span_sorting::sort::{few_rows, order_columns};
 use span_value::value::Value;
 use std::alloc::{AllocError, Global};
 

@@ -17,7 +17,7 @@ use span_expr::expr::Expr;
 use span_query::query::{Aggregate, Function, Grouping, SortKey};
 use span_rows::key::LentKey;
 use span_rows::row_list::{RowList, lend_rows};
-use span_rows::rows_with_order::RowsWithOrder;
+use span_sorting::rows_with_order::RowsWithOrder;
 use span_value::value::Value;
 use std::alloc::{AllocError, Global};
 use std::marker::Model;

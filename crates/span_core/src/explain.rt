@@ -4,8 +4,8 @@ ghost use Rattle.span_gather.specs.Explained.{explained};
 ghost use Rattle.span_machine.specs.Machine.{statement_plan};
 ghost use Rattle.span_planner.specs.Plannable.{IsPlannable};
 
+use span_columns::leaf::Plan;
 use span_gather::explain::explain;
-use span_planner::leaf::Plan;
 use span_planner::plan::plan;
 use span_query::query::Statement;
 use span_schema::schema::Schema;

@@ -1,14 +1,2 @@
-pub mod Meaning
-pub mod Placed
-pub mod Entries
-pub mod Given
 pub mod Pieces
 pub mod Directories
-pub mod Longest
-pub mod Narrowed
-pub mod Readers
-pub mod LeafReaders
-pub mod NumberTests
-pub mod Scans
-pub mod Steps
-pub mod WholeKeys

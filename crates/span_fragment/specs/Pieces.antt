@@ -4,12 +4,12 @@ use Rattle.span_schema.specs.declared.table.Table.{Table}
 use Rattle.span_mutate.specs.declared.row.TableRow.{TableRow}
 use Rattle.span_mutate.specs.Typed.{AreTyped}
 use Rattle.span_shard.specs.Shard.{KeyRow}
-use Rattle.span_planner.specs.declared.leaf.Leaf.{Leaf}
-use Rattle.span_planner.specs.Picks.{pick_rows}
+use Rattle.span_columns.specs.declared.leaf.Leaf.{Leaf}
+use Rattle.span_columns.specs.Picks.{pick_rows}
 use Rattle.span_planner.specs.Results.{leaf_rows}
 use Rattle.span_fragment.specs.declared.piece.Piece.{Piece}
-use Rattle.span_fragment.specs.Meaning.{whole_table}
-use Rattle.span_fragment.specs.Entries.{key_row}
+use Rattle.span_rowreader.specs.Meaning.{whole_table}
+use Rattle.span_rowreader.specs.Entries.{key_row}
 
 -- The piece has the rows that the leaf gives where its tables have the rows that the entries are, each with the columns alone that something reads,
 -- or the fault.

@@ -6,24 +6,24 @@ ghost use Rattle.span_query.specs.Rows.{Rows};
 ghost use Rattle.span_rows.specs.Answers.{Gives};
 ghost use Rattle.span_algebra.specs.BlockMeaning.{GroupsTable};
 ghost use Rattle.span_planner.specs.Maskable.{IsMaskable};
-ghost use Rattle.span_fragment.specs.Entries.{AreNoRows};
-ghost use Rattle.span_fragment.specs.Given.{IsGivenOn};
+ghost use Rattle.span_rowreader.specs.Entries.{AreNoRows};
+ghost use Rattle.span_tablescan.specs.Given.{IsGivenOn};
 ghost use Rattle.span_fragment.specs.Pieces.{IsPieceOf};
 
 use super::directory::rows_of_leaf;
 use super::piece::Piece;
-use super::scan::rows_of_table;
 use super::short::leaf_entries;
 use span_algebra::distinct::{distinct_part, distinct_table};
 use span_algebra::ordered::{order_part, ordered_table};
 use span_algebra::part_rows::PartRows;
 use span_algebra::plain::grouped_table;
+use span_columns::leaf::Leaf;
 use span_expr::cell::Failure;
-use span_planner::leaf::Leaf;
 use span_query::query::{Block, BoundQuery, Grouping};
 use span_rows::row_list::RowList;
 use span_schema::schema::Schema;
 use span_shard::snapshot::Snapshot;
+use span_tablescan::scan::rows_of_table;
 use span_value::refusal::Refusal;
 use std::alloc::{AllocError, Global};
 

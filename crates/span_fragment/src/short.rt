@@ -3,9 +3,9 @@ ghost use Rattle.std.specs.Prelude.{◌≡◌, IfOk, map};
 ghost use Rattle.std.specs.List.{AllByRecursion};
 ghost use Rattle.span_schema.specs.Numbers.{IsTable};
 ghost use Rattle.span_shard.specs.Reading.{entry_row};
-ghost use Rattle.span_fragment.specs.Longest.{AreLongest, HaveShortKeys};
+ghost use Rattle.span_rowreader.specs.Longest.{AreLongest, HaveShortKeys};
 
-use super::longest::longest_key;
+use span_rowreader::longest::longest_key;
 use span_schema::schema::Schema;
 use span_shard::shard::Entry;
 use span_shard::snapshot::Snapshot;

@@ -6,8 +6,8 @@ ghost use Rattle.span_value.specs.Cells.{hex_pairs};
 ghost use Rattle.span_gather.specs.Explained as spec;
 
 use itoa::Buffer;
+use span_columns::leaf::{Leaf, Plan};
 use span_keycode::range::KeyRange;
-use span_planner::leaf::{Leaf, Plan};
 use span_schema::schema::Schema;
 use span_value::text::Text;
 use std::alloc::{AllocError, Global};

@@ -31,6 +31,7 @@ use super::transactions::{
     abort_at, add_prepared_at, check_apply, commit_at, count_prepared, count_undecided,
     end_prepared_at, find_transaction, is_any_prepared, may_prepare, remove_at,
 };
+use span_columns::leaf::Leaf;
 use span_fragment::piece::Piece;
 use span_keycode::key::Key;
 use span_keycode::range::KeyRange;
@@ -41,7 +42,6 @@ use span_machine::transaction::Prepared;
 use span_mutate::mutation::CheckedMutation;
 use span_mutate::transaction::Transaction;
 use span_params::params::Params;
-use span_planner::leaf::Leaf;
 use span_query::query::{BoundQuery, Statement};
 use span_schema::schema::Schema;
 use span_truetime::bound::{Bound, choose};

@@ -11,12 +11,12 @@ ghost use Rattle.span_journal.specs.Scans.{taken_of};
 
 use super::owned::insert_in_both;
 use super::taken::Taken;
+use span_columns::leaf::{Leaf, Plan};
 use span_fragment::piece::Piece;
 use span_keycode::parts::{place_among, tiles};
 use span_keycode::range::KeyRange;
 use span_machine::query::{OpenQuery, ScanLeaf};
 use span_params::params::Params;
-use span_planner::leaf::{Leaf, Plan};
 use span_planner::plan::plan;
 use span_query::query::{BoundQuery, Statement};
 use span_schema::schema::Schema;

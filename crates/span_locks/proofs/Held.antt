@@ -12,13 +12,13 @@ use Rattle.span_mutate.specs.declared.mutation.CheckedMutation.{CheckedMutation}
 use Rattle.span_params.specs.declared.params.Parameter.{Parameter}
 use Rattle.span_query.specs.declared.query.Statement.{Statement}
 use Rattle.span_query.specs.Rows.{Row}
-use Rattle.span_planner.specs.declared.leaf.Leaf.{Leaf}
-use Rattle.span_planner.specs.declared.leaf.Plan.{Plan}
+use Rattle.span_columns.specs.declared.leaf.Leaf.{Leaf}
+use Rattle.span_columns.specs.declared.leaf.Plan.{Plan}
 use Rattle.span_planner.specs.Maskable.{IsMaskable}
 use Rattle.span_gather.specs.declared.rows.Rows.{Rows as Found}
 use Rattle.span_planner.proofs.MaskableLeaves.{leaves_maskable}
 use Rattle.span_planner.proofs.Tabled.{leaves_tabled}
-use Rattle.span_fragment.proofs.KeyPlaces.{keyed}
+use Rattle.span_rowreader.proofs.KeyPlaces.{keyed}
 use Rattle.span_shard.specs.KeyVersions.{KeyVersions}
 use Rattle.span_binder.specs.Understands.{Understands}
 use Rattle.span_gather.specs.Gathered.{gathered}

@@ -10,11 +10,11 @@ use Rattle.span_mutate.specs.Database.{rows_of}
 use Rattle.span_query.specs.declared.query.BoundQuery.{BoundQuery}
 use Rattle.span_query.specs.Rows.{Rows}
 use Rattle.span_query.specs.Meaning.{meaning_over, meaning, given}
-use Rattle.span_planner.specs.declared.leaf.Leaf.{Leaf}
-use Rattle.span_planner.specs.declared.leaf.Plan.{Plan}
-use Rattle.span_planner.specs.Picks.{pick_rows}
+use Rattle.span_columns.specs.declared.leaf.Leaf.{Leaf}
+use Rattle.span_columns.specs.declared.leaf.Plan.{Plan}
+use Rattle.span_columns.specs.Picks.{pick_rows}
 use Rattle.span_planner.specs.Results.{leaf_rows}
-pub use Rattle.span_fragment.specs.Meaning.{value_for, value_at, declared_row, whole_table}
+pub use Rattle.span_rowreader.specs.Meaning.{value_for, value_at, declared_row, whole_table}
 
 -- the rows, in order, that a query with these leaves, tables by their numbers, means on a database; none is the fault
 abbrev pub means : List Table → BoundQuery → List ℕ → List TableRow → Rows

@@ -3,7 +3,7 @@ use Rattle.span_schema.specs.declared.table.Table.{Table}
 use Rattle.span_keycode.specs.declared.range.KeyRange.{KeyRange}
 use Rattle.span_keycode.specs.Parts.{place_among}
 use Rattle.span_params.specs.declared.params.Parameter.{Parameter}
-use Rattle.span_planner.specs.declared.leaf.Leaf.{Leaf}
+use Rattle.span_columns.specs.declared.leaf.Leaf.{Leaf}
 use Rattle.span_fragment.specs.declared.piece.Piece.{Piece}
 use Rattle.span_query.specs.declared.query.Statement.{Statement}
 use Rattle.span_machine.specs.declared.slot.SlotState.{SlotState}

@@ -1,7 +1,7 @@
 //! Open queries.
+use span_columns::leaf::Leaf;
 use span_keycode::range::KeyRange;
 use span_params::params::Params;
-use span_planner::leaf::Leaf;
 use span_query::query::{BoundQuery, Statement};
 use span_value::seq::Seq;
 use span_value::text::Text;

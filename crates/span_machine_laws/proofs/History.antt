@@ -18,10 +18,10 @@ use Rattle.span_keycode.specs.declared.range.KeyRange.{KeyRange}
 use Rattle.span_mutate.proofs.TypedRows.{typed_stay}
 use Rattle.span_query.specs.declared.query.Statement.{Statement}
 use Rattle.span_query.specs.Meaning.{meaning_over, given}
-use Rattle.span_planner.specs.declared.leaf.Leaf.{Leaf}
-use Rattle.span_planner.specs.declared.leaf.Plan.{Plan}
+use Rattle.span_columns.specs.declared.leaf.Leaf.{Leaf}
+use Rattle.span_columns.specs.declared.leaf.Plan.{Plan}
 use Rattle.span_planner.specs.Plannable.{IsPlannable}
-use Rattle.span_planner.specs.Picks.{pick_rows}
+use Rattle.span_columns.specs.Picks.{pick_rows}
 use Rattle.span_planner.specs.Results.{leaf_rows}
 use Rattle.span_planner.proofs.Ranged.{IsRanged, leaves_ranged}
 use Rattle.span_machine_laws.proofs.Locality.{apply-database, empty_database}

@@ -42,7 +42,7 @@ use Rattle.span_keycode.specs.Parts.{is_within}
 use Rattle.span_keycode.specs.declared.range.KeyRange.{KeyRange}
 use Rattle.span_machine.specs.Slots.{root_code}
 use Rattle.span_machine.specs.declared.query.ScanLeaf.{ScanLeaf}
-use Rattle.span_planner.specs.declared.leaf.Leaf.{Leaf}
+use Rattle.span_columns.specs.declared.leaf.Leaf.{Leaf}
 use Rattle.span_machine_laws.proofs.FamilyRows.{tiles_have}
 use Rattle.span_machine_laws.proofs.Pieces.{AllCovered, HasLeaves, AreOpenQueries, leaves_of}
 

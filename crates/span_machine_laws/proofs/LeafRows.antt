@@ -36,7 +36,7 @@ use Rattle.span_planner.proofs.Cutting.{columns}
 use Rattle.span_machine.specs.Meaning.{value_for, value_at, declared_row, row_within}
 use Rattle.span_machine_laws.proofs.FamilyRows.{root_first, first_within}
 use Rattle.span_machine_laws.proofs.FirstColumns.{first_place, IsOfFamily}
-use Rattle.span_fragment.proofs.DeclaredRows.{key_of_columns}
+use Rattle.span_rowreader.proofs.DeclaredRows.{key_of_columns}
 
 module _ (schema : List Table) (rules : MeetsRules schema) where
   -- ---- ranges that are narrowed by bounds of the first key column

@@ -25,18 +25,18 @@ use Rattle.span_mutate.specs.Typed.{IsTyped, AreTyped}
 use Rattle.span_expr.specs.declared.expr.Expr.{Expr}
 use Rattle.span_query.specs.Rows.{Row, Rows, ◌>>=◌, append_results, concat_map, filter_where}
 use Rattle.span_shard.specs.Rows.{code_of}
-use Rattle.span_planner.specs.declared.leaf.Leaf.{Leaf}
-use Rattle.span_planner.specs.declared.leaf.LeafJoin.{LeafJoin}
+use Rattle.span_columns.specs.declared.leaf.Leaf.{Leaf}
+use Rattle.span_columns.specs.declared.leaf.LeafJoin.{LeafJoin}
 use Rattle.span_planner.specs.Leaves.{width_of, root_places}
-use Rattle.span_planner.specs.Picks.{pick_rows}
+use Rattle.span_columns.specs.Picks.{pick_rows}
 use Rattle.span_planner.specs.Results.{join_tables, leaf_rows}
 use Rattle.span_planner.proofs.Picked.{pick_rows-append}
 use Rattle.span_planner.proofs.Cutting.{CutTable, whole_rows, first_rows, second_rows, IsOnSide, AreCut, columns, leaf-cut}
 use Rattle.span_planner.proofs.Planned.{AreRooted, IsPlanned}
 use Rattle.span_machine.specs.Meaning.{declared_row, row_within, rows_within, tables_within, leaf_within}
 use Rattle.span_machine_laws.proofs.Ends.{below_as_root}
-use Rattle.span_fragment.proofs.KeyPlaces.{keyed, has_key_columns, root_key_of}
-use Rattle.span_fragment.proofs.DeclaredRows.{row_width, root_of_columns, root_places_long}
+use Rattle.span_rowreader.proofs.KeyPlaces.{keyed, has_key_columns, root_key_of}
+use Rattle.span_rowreader.proofs.DeclaredRows.{row_width, root_of_columns, root_places_long}
 use Rattle.span_machine_laws.proofs.Pieces.{IsEnd, AreEnds}
 use Rattle.span_machine_laws.proofs.TableOrder.{IsOfTable, of_table, table_rises, parts_joined}
 

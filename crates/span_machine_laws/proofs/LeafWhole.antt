@@ -17,8 +17,8 @@ use Rattle.span_schema.specs.Fitting.{Fits}
 use Rattle.span_expr.specs.declared.expr.Expr.{Expr}
 use Rattle.span_expr.specs.Operators.{column_of}
 use Rattle.span_query.specs.Rows.{Row}
-use Rattle.span_planner.specs.declared.leaf.Leaf.{Leaf}
-use Rattle.span_planner.specs.declared.leaf.LeafJoin.{LeafJoin}
+use Rattle.span_columns.specs.declared.leaf.Leaf.{Leaf}
+use Rattle.span_columns.specs.declared.leaf.LeafJoin.{LeafJoin}
 use Rattle.span_planner.specs.Conditions.{equates, equates_all}
 use Rattle.span_planner.specs.Leaves.{width_of, root_places}
 use Rattle.span_planner.specs.Ranges.{KeyBound, is_of_type, range_by}
@@ -29,7 +29,7 @@ use Rattle.span_planner.proofs.Planned.{AreRooted, IsNarrowed, IsPlanned}
 use Rattle.span_machine.specs.Meaning.{declared_row, whole_table, row_within, rows_within, tables_within}
 use Rattle.span_machine_laws.proofs.FirstColumns.{first_place, IsOfFamily, HasFirst, first_of_family, root_places_first}
 use Rattle.span_machine_laws.proofs.TableOrder.{IsOfTable, of_table, all_in_family}
-use Rattle.span_fragment.proofs.DeclaredRows.{row_width}
+use Rattle.span_rowreader.proofs.DeclaredRows.{row_width}
 use Rattle.span_machine_laws.proofs.LeafRows.{row_in_bounds, first_fits}
 
 -- ---- lists

@@ -13,18 +13,18 @@ use Rattle.span_mutate.specs.Typed.{AreTyped}
 use Rattle.span_query.specs.declared.query.Statement.{Statement}
 use Rattle.span_query.specs.Rows.{Row, Rows}
 use Rattle.span_query.specs.Meaning.{table_rows, meaning_over, given}
-use Rattle.span_planner.specs.declared.leaf.Leaf.{Leaf}
-use Rattle.span_planner.specs.declared.leaf.Plan.{Plan}
+use Rattle.span_columns.specs.declared.leaf.Leaf.{Leaf}
+use Rattle.span_columns.specs.declared.leaf.Plan.{Plan}
 use Rattle.span_planner.specs.Leaves.{table_of}
 use Rattle.span_planner.specs.Plannable.{IsPlannable}
-use Rattle.span_planner.specs.Picks.{pick_rows}
+use Rattle.span_columns.specs.Picks.{pick_rows}
 use Rattle.span_planner.specs.Results.{leaf_rows}
 use Rattle.span_planner.proofs.Known.{leaves_known}
 use Rattle.span_planner.proofs.Planned.{IsPlanned}
 use Rattle.span_planner.proofs.MaskedPlan.{query_above_picked}
 use Rattle.span_machine.specs.Machine.{statement_plan}
 use Rattle.span_machine.specs.Meaning.{declared_row, whole_table, means, rows_within, tables_within, leaf_within, plan_means}
-use Rattle.span_fragment.proofs.KeyPlaces.{keyed}
+use Rattle.span_rowreader.proofs.KeyPlaces.{keyed}
 use Rattle.span_machine_laws.proofs.LeafWhole.{table_width, leaf_whole}
 use Rattle.span_machine_laws.proofs.TableOrder.{IsOfTable, of_table}
 pub use Rattle.span_machine_laws.proofs.LeafTiled.{leaf_tiled}

@@ -7,7 +7,7 @@ use Rattle.span_value.specs.Results.{first_cause}
 use Rattle.span_truetime.specs.declared.interval.Interval.{Interval}
 use Rattle.span_schema.specs.declared.table.Table.{Table}
 use Rattle.span_keycode.specs.declared.range.KeyRange.{KeyRange}
-use Rattle.span_planner.specs.declared.leaf.Leaf.{Leaf}
+use Rattle.span_columns.specs.declared.leaf.Leaf.{Leaf}
 use Rattle.span_fragment.specs.declared.piece.Piece.{Piece}
 use Rattle.span_shard.specs.KeyVersions.{KeyVersions}
 use Rattle.span_machine.specs.declared.step.Step.TheVariants as step

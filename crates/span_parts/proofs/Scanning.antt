@@ -3,7 +3,7 @@ use Rattle.std.proofs.Common.{◌≡◌, ℕ, ◌≤◌, arith, nat_lt, cond, tr
 use Rattle.std.specs.Prelude.{IfSome, MatchOption, Result, Err, find, slice_get, option_map}
 use Rattle.std.specs.List.{AllByRecursion}
 use Rattle.span_schema.specs.Numbers.{IsTable}
-use Rattle.span_planner.specs.declared.leaf.Leaf.{Leaf}
+use Rattle.span_columns.specs.declared.leaf.Leaf.{Leaf}
 use Rattle.span_planner.specs.Maskable.{IsMaskable}
 use Rattle.std.proofs.lemmas.Bool.Decides.{nat_tests}
 use Rattle.span_value.specs.declared.refusal.Refusal.{Refusal}

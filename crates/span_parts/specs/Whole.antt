@@ -16,9 +16,9 @@ use Rattle.span_shard.specs.KeyVersions.{KeyVersions}
 use Rattle.span_shard.specs.declared.write.Write.{Write}
 use Rattle.span_shard.specs.Reading.{AreWrites}
 use Rattle.span_shard.specs.Shard.{KeyRow, snapshot, with_writes, live}
-use Rattle.span_planner.specs.declared.leaf.Leaf.{Leaf}
+use Rattle.span_columns.specs.declared.leaf.Leaf.{Leaf}
 use Rattle.span_fragment.specs.declared.piece.Piece.{Piece}
-use Rattle.span_fragment.specs.Entries.{AreNoRows}
+use Rattle.span_rowreader.specs.Entries.{AreNoRows}
 use Rattle.span_fragment.specs.Pieces.{IsPieceOf}
 use Rattle.span_query.specs.Rows.{Row}
 use Rattle.span_machine.specs.declared.transaction.Commit.{Commit}

@@ -7,10 +7,10 @@ ghost use Rattle.span_machine.specs.Pieces.{machine_of};
 ghost use Rattle.span_journal.specs.Judged.{leaf_of};
 ghost use Rattle.span_parts.specs.Whole.{IsRead, IsUnread};
 
+use span_columns::leaf::Leaf;
 use span_fragment::piece::Piece;
 use span_fragment::run::{LeafUse, leaf_use, run_leaf};
 use span_journal::journal::{Gap, Journal};
-use span_planner::leaf::Leaf;
 use span_schema::schema::Schema;
 use span_shard::shard::Shard;
 use span_value::refusal::Refusal;

@@ -18,8 +18,8 @@ use Rattle.span_query.specs.Groups.{group_rows}
 use Rattle.span_query.specs.Meaning.{item_rows, join_rows, join_next, from, distinct_if, block_rows, meaning_over}
 use Rattle.span_query.proofs.Layers.{map_item, map_join, map_block}
 use Rattle.span_query.proofs.Results.{bind-assoc, bind-Some}
-use Rattle.span_planner.specs.declared.leaf.LeafJoin.{LeafJoin}
-use Rattle.span_planner.specs.declared.leaf.Leaf.{Leaf}
+use Rattle.span_columns.specs.declared.leaf.LeafJoin.{LeafJoin}
+use Rattle.span_columns.specs.declared.leaf.Leaf.{Leaf}
 use Rattle.span_planner.specs.Conditions.{have_total_ons, where_conjuncts, conjuncts_on}
 use Rattle.span_planner.specs.Leaves.{Planned, table_of, width_of, is_joined, leaf_len, leaf_join, join_table, widths, reads_of, first_leaf, unless_left, join_leaves, rest_leaves, leaves_from, block_leaves, count_leaves, top_join, top_joins, top_from, top_block}
 use Rattle.span_planner.specs.Results.{as_join, join_tables, leaf_rows}

@@ -26,9 +26,7 @@ pub mod PickedQuery
 pub mod PickedAbove
 pub mod MaskedPlan
 pub mod PickedPlan
-pub mod Layered
 pub mod OwnReads
 pub mod OwnChecks
 pub mod MaskableLeaves
 pub mod PickedLeaves
-pub mod Kept

@@ -5,11 +5,11 @@ use Rattle.span_schema.specs.declared.table.Table.{Table}
 use Rattle.span_schema.specs.Numbers.{key_places}
 use Rattle.span_query.specs.declared.query.BoundQuery.{BoundQuery}
 use Rattle.span_query.specs.Rows.{Row}
-use Rattle.span_planner.specs.declared.leaf.Leaf.{Leaf}
-use Rattle.span_planner.specs.declared.leaf.LeafJoin.{LeafJoin}
+use Rattle.span_columns.specs.declared.leaf.Leaf.{Leaf}
+use Rattle.span_columns.specs.declared.leaf.LeafJoin.{LeafJoin}
 use Rattle.span_planner.specs.Leaves.{width_of, planned}
 use Rattle.span_planner.specs.Maskable.{AreStated, IsMaskable}
-use Rattle.span_planner.specs.Reads.{leaf_widths, reads_own, join_masks}
+use Rattle.span_columns.specs.Reads.{leaf_widths, reads_own, join_masks}
 use Rattle.span_planner.specs.Sizes.{is_sized}
 use Rattle.span_planner.proofs.Known.{leaves_known}
 use Rattle.span_planner.proofs.MaskedPlan.{AreMaskable, rest_len}

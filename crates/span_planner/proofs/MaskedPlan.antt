@@ -9,12 +9,12 @@ use Rattle.span_expr.specs.declared.expr.Expr.{Expr}
 use Rattle.span_query.specs.declared.query.BoundQuery.{BoundQuery}
 use Rattle.span_query.specs.Rows.{Row, Rows, ◌>>=◌, filter_where}
 use Rattle.span_query.specs.Meaning.{given, join_rows, meaning_over}
-use Rattle.span_planner.specs.declared.leaf.Leaf.{Leaf}
-use Rattle.span_planner.specs.declared.leaf.LeafJoin.{LeafJoin}
+use Rattle.span_columns.specs.declared.leaf.Leaf.{Leaf}
+use Rattle.span_columns.specs.declared.leaf.LeafJoin.{LeafJoin}
 use Rattle.span_planner.specs.Leaves.{table_of, width_of, planned}
-use Rattle.span_planner.specs.Narrow.{narrowed}
-use Rattle.span_planner.specs.Picks.{pick_rows}
-use Rattle.span_planner.specs.Reads.{leaf_widths, masks_of, is_within, join_masks}
+use Rattle.span_columns.specs.Narrow.{narrowed}
+use Rattle.span_columns.specs.Picks.{pick_rows}
+use Rattle.span_columns.specs.Reads.{leaf_widths, masks_of, is_within, join_masks}
 use Rattle.span_planner.specs.Results.{as_join, join_tables, leaf_rows}
 use Rattle.span_planner.specs.Sizes.{is_sized}
 use Rattle.span_planner.proofs.Blocks.{AgreesAt}

@@ -5,8 +5,8 @@ use Rattle.std.proofs.lemmas.Bool.Decides.{nat_tests}
 use Rattle.std.proofs.lemmas.Bool.{and_from, and_parts}
 use Rattle.span_expr.specs.declared.expr.Expr.{Expr}
 use Rattle.span_expr.proofs.Places.{reads_only-wider}
-use Rattle.span_planner.specs.declared.leaf.LeafJoin.{LeafJoin}
-use Rattle.span_planner.specs.Reads.{has_place, is_not, condition_reads, leaf_on_reads, leaf_reads}
+use Rattle.span_columns.specs.declared.leaf.LeafJoin.{LeafJoin}
+use Rattle.span_columns.specs.Reads.{has_place, is_not, condition_reads, leaf_on_reads, leaf_reads}
 use Rattle.span_planner.proofs.Reading.{ByPlace, expr_by, by_both, by_list, condition_by, everywhere}
 
 leaf_by : (joins : List LeafJoin) (filter : Option Expr) → ByPlace (λ t. leaf_reads t joins filter)

@@ -18,10 +18,10 @@ use Rattle.span_query.proofs.Results.{concat_map-same}
 use Rattle.span_planner.proofs.Joins.{all_map}
 use Rattle.span_planner.proofs.Pushing.{AreOfWidth}
 use Rattle.span_planner.proofs.Narrowing.{wide_filter}
-use Rattle.span_planner.specs.Reads.{has_place, reads_within, aggregate_reads, selection_reads}
+use Rattle.span_columns.specs.Reads.{has_place, reads_within, aggregate_reads, selection_reads}
 use Rattle.span_planner.proofs.Masked.{concat_map-unmasked}
-use Rattle.span_planner.specs.Picks.{picked}
-use Rattle.span_planner.specs.Narrow.{moved_aggregate, moved_grouping, moved_outputs}
+use Rattle.span_columns.specs.Picks.{picked}
+use Rattle.span_columns.specs.Narrow.{moved_aggregate, moved_grouping, moved_outputs}
 use Rattle.span_planner.proofs.Picked.{Agrees, val-picked}
 
 -- what holds of all items holds of those of a list

@@ -17,7 +17,7 @@ use Rattle.span_query.specs.Rows.{Row, Rows, ◌>>=◌, append_results, concat_m
 use Rattle.span_query.specs.Meaning.{item_rows, block_rows, limit_rows, query_rows, meaning_over}
 use Rattle.span_query.specs.Sorting.{sorted}
 use Rattle.span_query.proofs.Layers.{map_item, map_join, map_block, map_layer, layer_mapped}
-use Rattle.span_planner.specs.declared.leaf.Leaf.{Leaf}
+use Rattle.span_columns.specs.declared.leaf.Leaf.{Leaf}
 use Rattle.span_planner.specs.Leaves.{Planned, table_of, width_of, block_leaves, top_block, top_blocks, planned_query, planned}
 use Rattle.span_planner.specs.Sizes.{Shape, item_shape, is_sized_join, is_sized_block, query_shape, shape, is_sized}
 use Rattle.span_planner.proofs.Pushing.{AreOfWidth}

@@ -13,7 +13,7 @@ use Rattle.span_query.specs.declared.query.Item.{Item}
 use Rattle.span_query.specs.declared.query.Item.TheVariants as item
 use Rattle.span_query.specs.declared.query.Join.{Join}
 use Rattle.span_query.proofs.Layers.{map_item, map_join, map_block, map_layer}
-use Rattle.span_planner.specs.declared.leaf.Leaf.{Leaf}
+use Rattle.span_columns.specs.declared.leaf.Leaf.{Leaf}
 use Rattle.span_planner.specs.Conditions.{pushable}
 use Rattle.span_planner.specs.Ranges.{leaf_range}
 use Rattle.span_planner.specs.Leaves.{Planned, table_of, width_of, widths, reads_of, leaf_len, unless_left, join_leaves, rest_leaves, leaves_from, block_leaves, planned_query, planned}

@@ -17,10 +17,10 @@ use Rattle.span_query.specs.declared.query.Item.{Item}
 use Rattle.span_query.specs.declared.query.Item.TheVariants as item
 use Rattle.span_query.specs.declared.query.Join.{Join}
 use Rattle.span_query.proofs.Layers.{map_item, map_join, map_block, map_layer, layer_mapped}
-use Rattle.span_planner.specs.declared.leaf.Leaf.{Leaf}
+use Rattle.span_columns.specs.declared.leaf.Leaf.{Leaf}
 use Rattle.span_planner.specs.Conditions.{pushable}
 use Rattle.span_planner.specs.Leaves.{Planned, table_of, width_of, leaf_len, widths, reads_of, join_leaves, rest_leaves, leaves_from, block_leaves, top_item, count_leaves, top_joins, filter_above, top_from, top_block, top_blocks, planned_query, planned}
-use Rattle.span_planner.specs.Reads.{has_place, condition_reads, on_reads, selection_reads, block_reads, Reading, item_mask, join_mask, from_mask, item_within, join_within, block_within, query_reading, reading, is_within}
+use Rattle.span_columns.specs.Reads.{has_place, condition_reads, on_reads, selection_reads, block_reads, Reading, item_mask, join_mask, from_mask, item_within, join_within, block_within, query_reading, reading, is_within}
 use Rattle.span_planner.specs.Sizes.{Shape, item_shape, is_sized_join, is_sized_block, query_shape, shape, is_sized}
 use Rattle.span_planner.proofs.Extents.{all_dropped}
 use Rattle.span_planner.proofs.Planned.{part_len, widths_split, reads_of_len}

@@ -17,7 +17,7 @@ use Rattle.span_query.specs.declared.query.Aggregate.{Aggregate}
 use Rattle.span_query.specs.declared.query.Aggregate.TheVariants.{CountRows, Of}
 use Rattle.span_query.specs.declared.query.Join.{Join}
 use Rattle.span_planner.specs.Leaves.{widths, reads_of}
-use Rattle.span_planner.specs.Reads.{has_place, is_not, is_read, condition_reads, on_reads, aggregate_reads, selection_reads, block_reads}
+use Rattle.span_columns.specs.Reads.{has_place, is_not, is_read, condition_reads, on_reads, aggregate_reads, selection_reads, block_reads}
 use Rattle.std.proofs.Math.Bool.{and-false}
 
 -- ---- tests of the places that something reads

@@ -15,13 +15,13 @@ use Rattle.span_query.specs.declared.query.Block.{Block}
 use Rattle.span_query.specs.declared.query.Item.{Item}
 use Rattle.span_query.specs.declared.query.Item.TheVariants as item
 use Rattle.span_query.specs.declared.query.Join.{Join}
-use Rattle.span_planner.specs.declared.leaf.LeafJoin.{LeafJoin}
-use Rattle.span_planner.specs.declared.leaf.Leaf.{Leaf}
-use Rattle.span_planner.specs.declared.leaf.Plan.{Plan}
+use Rattle.span_columns.specs.declared.leaf.LeafJoin.{LeafJoin}
+use Rattle.span_columns.specs.declared.leaf.Leaf.{Leaf}
+use Rattle.span_columns.specs.declared.leaf.Plan.{Plan}
 use Rattle.span_planner.specs.Conditions.{equates_all, pushable, conjuncts_on}
 use Rattle.span_planner.specs.Ranges.{leaf_range}
-use Rattle.span_planner.specs.Narrow.{narrowed}
-use Rattle.span_planner.specs.Reads.{is_read, masks_of}
+use Rattle.span_columns.specs.Narrow.{narrowed}
+use Rattle.span_columns.specs.Reads.{is_read, masks_of}
 
 -- ---- tables
 

@@ -6,7 +6,4 @@ pub mod Sizes
 pub mod Plannable
 pub mod Numbered
 pub mod Masks
-pub mod Reads
 pub mod Maskable
-pub mod Picks
-pub mod Narrow

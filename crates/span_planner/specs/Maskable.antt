@@ -1,10 +1,10 @@
 -- Leaves that give on masked tables their rows, masked.
 use Rattle.std.specs.Prelude.{◌≡◌, ℕ, ◌+◌, true, List, [], ◌∷◌, length}
 use Rattle.span_schema.specs.declared.table.Table.{Table}
-use Rattle.span_planner.specs.declared.leaf.LeafJoin.{LeafJoin}
-use Rattle.span_planner.specs.declared.leaf.Leaf.{Leaf}
+use Rattle.span_columns.specs.declared.leaf.LeafJoin.{LeafJoin}
+use Rattle.span_columns.specs.declared.leaf.Leaf.{Leaf}
 use Rattle.span_planner.specs.Leaves.{width_of}
-use Rattle.span_planner.specs.Reads.{leaf_widths, reads_own}
+use Rattle.span_columns.specs.Reads.{leaf_widths, reads_own}
 
 -- each join states the number of columns of its table
 abbrev pub AreStated : List Table → List LeafJoin → List ℕ → Type 0

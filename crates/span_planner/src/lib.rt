@@ -2,10 +2,7 @@
 #![tactic(auto)]
 
 mod condition;
-mod copy;
 pub mod first;
-pub mod leaf;
-pub mod narrow;
 pub mod plan;
 mod range;
 mod reads;

@@ -8,7 +8,5 @@ pub mod Candidates
 pub mod LentRows
 pub mod RowIndexes
 pub mod KeyRuns
-pub mod Orders
-pub mod Codes
 pub mod Columns
 pub mod RowPlaces

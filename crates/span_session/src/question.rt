@@ -10,12 +10,12 @@ ghost use Rattle.span_locks.specs.Refusing.{IsFaultOf};
 ghost use Rattle.span_locks.specs.Replies.{IsAmong};
 
 use span_binder::understand::understand;
+use span_columns::leaf::{Leaf, Plan};
 use span_gather::finish::finish as finish_pieces;
 use span_gather::rows::Rows;
 use span_journal::taken::Taken;
 use span_locks::same::are_same;
 use span_params::params::Params;
-use span_planner::leaf::{Leaf, Plan};
 use span_planner::plan::plan;
 use span_query::query::Statement;
 use span_schema::schema::Schema;

@@ -20,17 +20,17 @@ use Rattle.span_params.specs.declared.params.Parameter.{Parameter}
 use Rattle.span_query.specs.declared.query.Statement.{Statement}
 use Rattle.span_query.specs.Rows.{Row, Rows, append_results, concat_map}
 use Rattle.span_query.specs.Meaning.{meaning_over, given}
-use Rattle.span_planner.specs.declared.leaf.Leaf.{Leaf}
+use Rattle.span_columns.specs.declared.leaf.Leaf.{Leaf}
 use Rattle.span_planner.specs.Maskable.{IsMaskable}
 use Rattle.span_planner.specs.Plannable.{IsPlannable}
-use Rattle.span_planner.specs.Picks.{pick_rows}
+use Rattle.span_columns.specs.Picks.{pick_rows}
 use Rattle.span_planner.specs.Results.{leaf_rows}
 use Rattle.span_planner.proofs.MaskableLeaves.{leaves_maskable}
 use Rattle.span_planner.proofs.Planned.{IsPlanned}
 use Rattle.span_planner.proofs.Tabled.{leaves_tabled}
 use Rattle.span_fragment.specs.declared.piece.Piece.{Piece}
 use Rattle.span_fragment.specs.Pieces.{IsPieceOf}
-use Rattle.span_fragment.proofs.KeyPlaces.{keyed}
+use Rattle.span_rowreader.proofs.KeyPlaces.{keyed}
 use Rattle.span_gather.specs.Gathered.{joined_pieces, gathered}
 use Rattle.span_shard.specs.KeyVersions.{KeyVersions}
 use Rattle.span_shard.specs.Rows.{code_of}

@@ -22,10 +22,10 @@ use Rattle.span_shard.specs.Rows.{code_of, row_coded}
 use Rattle.span_shard.specs.Reading.{is_same_row}
 use Rattle.span_shard.specs.Versions.{row_at, kept_upto}
 use Rattle.span_shard.specs.Shard.{KeyRow, versions_at, prepared_at, AreInOrder, IsInUse}
-use Rattle.span_planner.specs.declared.leaf.Leaf.{Leaf}
+use Rattle.span_columns.specs.declared.leaf.Leaf.{Leaf}
 use Rattle.span_planner.specs.Plannable.{IsPlannable}
 use Rattle.span_fragment.specs.declared.piece.Piece.{Piece}
-pub use Rattle.span_fragment.specs.Entries.{key_row}
+pub use Rattle.span_rowreader.specs.Entries.{key_row}
 use Rattle.span_machine.specs.declared.query.ScanLeaf.{ScanLeaf}
 use Rattle.span_machine.specs.declared.slot.SlotState.{SlotState}
 use Rattle.span_machine.specs.declared.transaction.Commit.{Commit}

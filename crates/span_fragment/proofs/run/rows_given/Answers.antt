@@ -4,10 +4,10 @@ use Rattle.span_value.specs.declared.refusal.Refusal.TheVariants.{OutOfMemory}
 use Rattle.span_shard.specs.Reading.{entry_row}
 use Rattle.span_shard.specs.Shard.{KeyRow}
 use Rattle.span_shard.specs.declared.shard.Entry.{Entry}
-use Rattle.span_fragment.specs.Entries.{AreNoRows}
-use Rattle.span_fragment.specs.Given.{IsGivenOn}
-use Rattle.span_fragment.specs.Longest.{HaveShortKeys}
-use Rattle.span_fragment.proofs.ShortKeys.{found_on_all, refused_on_all}
+use Rattle.span_rowreader.specs.Entries.{AreNoRows}
+use Rattle.span_tablescan.specs.Given.{IsGivenOn}
+use Rattle.span_rowreader.specs.Longest.{HaveShortKeys}
+use Rattle.span_tablescan.proofs.ShortKeys.{found_on_all, refused_on_all}
 use Rattle.span_fragment.proofs.run.rows_given.Goals as goal
 
 pub returns-clause-ok : goal.returns-clause-ok

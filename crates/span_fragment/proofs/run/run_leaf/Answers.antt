@@ -1,4 +1,4 @@
-use Rattle.span_fragment.specs.Given.{picked_given}
+use Rattle.span_tablescan.specs.Given.{picked_given}
 use Rattle.span_fragment.proofs.run.run_leaf.Goals as goal
 
 pub returns : goal.returns

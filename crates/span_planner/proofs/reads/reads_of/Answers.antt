@@ -1,7 +1,7 @@
 use Rattle.std.proofs.Common.{◌++◌, ◌∷◌, [], map, sym, ap, ◌∙◌, arith}
 use Rattle.std.proofs.lemmas.List.FromFn.{map-range_with_len_more}
 use Rattle.std.specs.List.{range_with_len}
-use Rattle.span_planner.specs.Reads.{is_read}
+use Rattle.span_columns.specs.Reads.{is_read}
 use Rattle.span_planner.proofs.reads.reads_of.Goals as goal
 
 pub loop-place-preserved : goal.loop-place-preserved

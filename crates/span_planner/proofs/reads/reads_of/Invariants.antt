@@ -1,6 +1,6 @@
 use Rattle.std.proofs.Common.{◌≡◌, map}
 use Rattle.std.specs.List.{range_with_len}
-use Rattle.span_planner.specs.Reads.{is_read}
+use Rattle.span_columns.specs.Reads.{is_read}
 use Rattle.span_planner.proofs.reads.reads_of.Given as goal
 
 -- the places so far

@@ -1,6 +1,6 @@
 use Rattle.std.proofs.Common.{◌≡◌, ℕ, List, IfOk, ap, subst}
 use Rattle.span_planner.specs.Leaves.{plan_of}
-use Rattle.span_planner.specs.declared.leaf.Plan.{Plan}
+use Rattle.span_columns.specs.declared.leaf.Plan.{Plan}
 use Rattle.span_session.proofs.question.plan_statement.Goals as goal
 
 pub returns : goal.returns

@@ -1,7 +1,0 @@
-use Rattle.std.proofs.Common.{◌≡◌, map, take}
-use Rattle.span_fragment.specs.Readers.{target}
-use Rattle.span_fragment.proofs.reader.targets.Given as goal
-
--- the places so far
-abbrev pub invariant-loop-place : goal.invariant-loop-place
-invariant-loop-place l = l.found.items ≡ map (target l.mask) (take l.place-index l.places)

@@ -1,5 +1,0 @@
-use Rattle.std.proofs.Common.{◌≡◌, ◌++◌, drop}
-use Rattle.span_planner.proofs.copy.copy_aggregates.Given as goal
-
-abbrev pub invariant-loop-aggregate : goal.invariant-loop-aggregate
-invariant-loop-aggregate l = l.aggregates ≡ l.copies ++ drop l.aggregate-index l.aggregates

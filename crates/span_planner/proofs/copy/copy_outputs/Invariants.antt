@@ -1,5 +1,0 @@
-use Rattle.std.proofs.Common.{◌≡◌, ◌++◌, drop}
-use Rattle.span_planner.proofs.copy.copy_outputs.Given as goal
-
-abbrev pub invariant-loop-output : goal.invariant-loop-output
-invariant-loop-output l = l.outputs ≡ l.copies ++ drop l.output-index l.outputs

@@ -1,0 +1,11 @@
+pub mod DeclaredRows
+pub mod Entries
+pub mod KeyPlaces
+pub mod RowWidths
+pub mod ReadTables
+pub mod KeyLengths
+pub mod PlacedRows
+pub mod Placing
+pub mod TargetRows
+pub mod Along
+pub mod WholeKeys

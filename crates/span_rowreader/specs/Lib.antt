@@ -1,0 +1,9 @@
+pub mod Meaning
+pub mod Placed
+pub mod Entries
+pub mod Longest
+pub mod Narrowed
+pub mod Readers
+pub mod LeafReaders
+pub mod Steps
+pub mod WholeKeys

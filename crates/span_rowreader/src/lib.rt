@@ -1,0 +1,12 @@
+//! Rows of tables read from the entries of a shard, of the columns alone that a mask has.
+#![tactic(auto)]
+
+mod cells;
+pub mod decode;
+mod keys;
+pub mod leaf_reader;
+pub mod longest;
+pub mod place;
+pub mod reader;
+mod steps;
+mod whole_key;

@@ -1,0 +1,31 @@
+//! Values put at their places in a row, as far as a mask has the places.
+ghost use Rattle.std.specs.Prelude.{◌≡◌, slice_set};
+ghost use Rattle.span_rowreader.specs.Placed as spec;
+
+use span_value::value::Value;
+
+/// Whether the mask has a place.
+pub fn is_wanted(wanted: &[bool], place: usize) -> bool
+    ensures { result ≡ spec.is_wanted wanted.now place }
+{
+    if place >= wanted.len() {
+        return false;
+    }
+    wanted[place]
+}
+
+/// Whether the mask has none of the places.
+pub(crate) fn wants_none(wanted: &[bool], places: &[usize]) -> bool
+    ensures { result ≡ spec.wants_none wanted.now places.now }
+{
+    places.iter().all(|place| !is_wanted(wanted, *place))
+}
+
+/// Puts a value at a place of a row, if the row has the place.
+pub(crate) fn put_value(row: &mut Vec<Value>, place: usize, value: Value)
+    ensures { row.new.items ≡ slice_set row.old.items place value }
+{
+    if place < row.len() {
+        row[place] = value;
+    }
+}

@@ -1,0 +1,214 @@
+//! Reading of a table's rows, of the columns alone that a mask has: a value is put at its place among these, and no other is made.
+ghost use Rattle.std.specs.Prelude.{◌≡◌, ◌≤◌, ◌⊎◌, IfOk, OnOk, MatchResult, drop, length, map, replicate, take, true};
+ghost use Rattle.span_value.specs.declared.value.Value.TheVariants.{Null};
+ghost use Rattle.span_schema.specs.Numbers.{IsTable};
+ghost use Rattle.span_planner.specs.Leaves.{width_of};
+ghost use Rattle.span_columns.specs.Picks.{picked_width};
+ghost use Rattle.span_rowreader.specs.Entries.{IsWhetherOf};
+ghost use Rattle.span_rowreader.specs.Placed.{IsNoRowOf, wants_none};
+ghost use Rattle.span_rowreader.specs.Readers as spec;
+ghost use Rattle.span_rowreader.specs.Readers.{IsReader, ArePickedOf};
+
+use super::cells::put_cells;
+use super::keys::put_key;
+use super::longest::longest_key;
+use super::place::{is_wanted, wants_none};
+use super::steps::{KeyStep, goes_along, key_steps};
+use super::whole_key::{WholeKey, is_own_by_length, table_by_length};
+use span_columns::narrow::picked_width;
+use span_expr::rank::rank;
+use span_planner::table::width_of;
+use span_schema::schema::Schema;
+use span_value::refusal::Refusal;
+use span_value::seq::Seq;
+use span_value::value::Value;
+use std::alloc::{AllocError, Global};
+
+/// How the rows of a table are read.
+#[derive(Debug, Drop)]
+pub struct TableReader {
+    pub table: usize,
+    /// A number of bytes that no coded key of the table exceeds.
+    pub most: usize,
+    /// Its keys without NULL, where the length of a key decides whether it is one of the table.
+    by_length: Option<WholeKey>,
+    /// The steps of its coded keys.
+    steps: Seq<KeyStep>,
+    /// The columns that are read.
+    pub mask: Seq<bool>,
+    /// TRUE for each of these.
+    all: Seq<bool>,
+    /// The place of each column of the key among those that are read, or a place after all of them.
+    key: Seq<usize>,
+    /// Whether a column of the key is read.
+    reads_key: bool,
+    /// The place of each other column among those that are read, or a place after all of them.
+    others: Seq<usize>,
+    /// How many of the other columns there are up to the last that is read.
+    others_read: usize,
+}
+
+fn target(mask: &[bool], place: usize) -> usize
+    ensures { result ≡ spec.target mask.now place }
+{
+    if is_wanted(mask, place) {
+        rank(mask, place)
+    } else {
+        mask.len()
+    }
+}
+
+fn targets(alloc: Global, mask: &[bool], places: &[usize]) -> Result<Seq<usize>, AllocError>
+    ensures { IfOk result (λ found. found ≡ map (spec.target mask.now) places.now) }
+{
+    let mut found = Vec::with_capacity(alloc, places.len())?;
+    for place in places {
+        found.push(target(mask, *place))?;
+    }
+    Ok(Seq::from_vec(found))
+}
+
+/// TRUE for each place that a mask has.
+fn all_of(alloc: Global, mask: &[bool]) -> Result<Seq<bool>, AllocError>
+    ensures { IfOk result (λ all. all ≡ replicate (picked_width mask.now) true) }
+{
+    Ok(Seq::from_vec(vec![in alloc; true; picked_width(mask)]?))
+}
+
+fn copy_mask(alloc: Global, mask: &[bool]) -> Result<Seq<bool>, AllocError>
+    ensures { IfOk result (λ copy. copy ≡ mask.now) }
+{
+    let mut copy = Vec::with_capacity(alloc, mask.len())?;
+    for has in mask {
+        copy.push(*has)?;
+    }
+    Ok(Seq::from_vec(copy))
+}
+
+/// How many places there are up to the last that is wanted.
+fn count_to_last(wanted: &[bool], places: &[usize]) -> usize
+    ensures within { result ≤ length places.now }
+    ensures rest { wants_none wanted.now (drop result places.now) ≡ true }
+{
+    let mut count = places.len();
+    while count > 0 {
+        if is_wanted(wanted, places[count - 1]) {
+            return count;
+        }
+        count -= 1;
+    }
+    0
+}
+
+/// The first places of a mask, as many as there are of a number.
+fn mask_before(mask: &[bool], width: usize) -> &[bool]
+    ensures { result.now ≡ take width mask.now }
+{
+    &mask[..width.min(mask.len())]
+}
+
+/// What reads the columns of a table that the front of a mask has.
+pub fn table_reader(
+    alloc: Global,
+    schema: &Schema,
+    table: usize,
+    mask: &[bool],
+) -> Result<TableReader, AllocError>
+    requires { IsTable schema.now table }
+    ensures reader { IfOk result (λ reader. IsReader schema.now reader) }
+    ensures table { IfOk result (λ reader. reader.table ≡ table) }
+    ensures mask { IfOk result (λ reader. reader.mask ≡ take (width_of schema.now table) mask.now) }
+{
+    let front = mask_before(mask, width_of(schema, table));
+    let all = all_of(alloc, front)?;
+    let key = targets(alloc, front, schema.key_places(table))?;
+    let others = targets(alloc, front, schema.other_places(table))?;
+    let reads_key = !wants_none(all.as_slice(), key.as_slice());
+    let others_read = count_to_last(all.as_slice(), others.as_slice());
+    Ok(TableReader {
+        table,
+        most: longest_key(schema, table),
+        by_length: table_by_length(schema, table),
+        steps: key_steps(alloc, schema, table)?,
+        mask: copy_mask(alloc, front)?,
+        all,
+        key,
+        reads_key,
+        others,
+        others_read,
+    })
+}
+
+/// Makes a row one of NULLs.
+fn put_nulls(row: &mut Vec<Value>, len: usize) -> Result<(), AllocError>
+    ensures { OnOk result (row.new.items ≡ replicate len Null) }
+{
+    row.clear();
+    for _ in 0..len {
+        row.push(Value::Null)?;
+    }
+    Ok(())
+}
+
+impl TableReader {
+    /// Whether a coded key is one of the table. It takes no allocation.
+    pub fn is_own_key(&self, schema: &Schema, key: &[u8]) -> bool
+        requires table { IsTable schema.now self.now.table }
+        requires reader { IsReader schema.now self.now }
+        ensures { IsWhetherOf schema.now self.now.table key.now result }
+    {
+        if key.len() > self.most {
+            return false;
+        }
+        if let Some(at) = &self.by_length {
+            if let Some(is_own) = is_own_by_length(schema, self.table, at, key) {
+                return is_own;
+            }
+        }
+        goes_along(schema, self.table, self.steps.as_slice(), key)
+    }
+
+    /// Makes a row the values of a row of the table in the columns that are read, in the order in which they are declared. What the row
+    /// was is dropped; its memory is used again. Each text and byte string that is long takes an allocation.
+    ///
+    /// `OutOfMemory`, where the bytes are the coded key and the packed cells of a row of the table.
+    pub fn read(
+        &self,
+        alloc: Global,
+        schema: &Schema,
+        key: &[u8],
+        cells: &[u8],
+        row: &mut Vec<Value>,
+    ) -> Result<(), Refusal>
+        requires table { IsTable schema.now self.now.table }
+        requires reader { IsReader schema.now self.now }
+        ensures { MatchResult result
+            (λ done. ArePickedOf schema.now self.now.table self.now.mask key.now cells.now row.new.items)
+            (λ why. (why ≡ Refusal.OutOfMemory) ⊎ IsNoRowOf schema.now self.now.table key.now cells.now) }
+    {
+        schema.meets_rules();
+        let all = self.all.as_slice();
+        put_nulls(row, all.len())?;
+        if all.is_empty() {
+            return Ok(());
+        }
+        let kinds = schema.other_kinds(self.table);
+        let others = self.others.as_slice();
+        if !put_cells(alloc, kinds, others, all, self.others_read, cells, row)? {
+            return Err(Refusal::BadRow);
+        }
+        if !put_key(
+            alloc,
+            schema,
+            self.table,
+            self.key.as_slice(),
+            all,
+            self.reads_key,
+            key,
+            row,
+        )? {
+            return Err(Refusal::BadKey);
+        }
+        Ok(())
+    }
+}

@@ -1,0 +1,143 @@
+//! The table of a coded key by the key's length. Where all columns of a table's key are numbers, its keys without NULL have one length; and
+//! where each key of this length has the number of its own table at one place, the byte there decides.
+ghost use Rattle.std.specs.Prelude.{◌≡◌, IfSome, true};
+ghost use Rattle.std.specs.List.{list_all};
+ghost use Rattle.span_schema.specs.Numbers.{IsTable};
+ghost use Rattle.span_rowreader.specs.Entries.{IsWhetherOf};
+ghost use Rattle.span_rowreader.specs.WholeKeys as spec;
+ghost use Rattle.span_rowreader.specs.WholeKeys.{HasNumberAt, IsDecided, IsTableByLength, IsWholeKey};
+
+use span_keycode::key::MOST_BYTES;
+use span_schema::layout::KeyPart;
+use span_schema::schema::Schema;
+use span_value::value::Kind;
+
+/// The keys of a table without NULL, where all their columns are numbers.
+#[derive(Clone, Copy, Debug)]
+pub(crate) struct WholeKey {
+    /// How many bytes code such a key.
+    pub len: usize,
+    /// The number of the root table, with which it begins.
+    pub root: usize,
+    /// The place of the number of the table itself.
+    pub place: usize,
+}
+
+/// Whether a column of a key is one of numbers.
+fn is_number(column: &KeyPart) -> bool
+    ensures { result ≡ spec.is_number column.now }
+{
+    match column.kind {
+        Kind::Int => true,
+        _ => false,
+    }
+}
+
+/// Whether all columns of a key are.
+fn are_numbers(columns: &[KeyPart]) -> bool
+    ensures { result ≡ list_all spec.is_number columns.now }
+{
+    columns.iter().all(|column| is_number(column))
+}
+
+/// The keys of a table without NULL. None where a column of them is not of numbers.
+fn whole_key(schema: &Schema, table: usize) -> Option<WholeKey>
+    requires { IsTable schema.now table }
+    ensures { IfSome result (IsWholeKey schema.now table) }
+{
+    let columns = schema.key_columns(table);
+    let own = schema.own_key_columns(table);
+    // No schema has a table of as many columns.
+    if columns.len() > MOST_BYTES {
+        return None;
+    }
+    if own.len() > MOST_BYTES {
+        return None;
+    }
+    if !are_numbers(columns) {
+        return None;
+    }
+    // A byte for each level, and nine for each number.
+    let len = schema.path_of(table).len() + 9 * columns.len();
+    let place = len.checked_sub(1 + 9 * own.len())?;
+    Some(WholeKey {
+        len,
+        root: schema.root_of(table),
+        place,
+    })
+}
+
+/// Whether each key of a table that has the length of a whole key, and its root, has the table's number at the place of that one's. It may,
+/// where this is false.
+#[tactic(auto, using(crate::proofs::WholeKeys::number_of_another_root, crate::proofs::WholeKeys::number_decided))]
+fn has_number_at(schema: &Schema, at: &WholeKey, table: usize) -> bool
+    requires { IsTable schema.now table }
+    ensures { result ≡ true → HasNumberAt schema.now at.now table }
+{
+    schema.meets_rules();
+    if schema.root_of(table) != at.root {
+        return true;
+    }
+    match whole_key(schema, table) {
+        None => false,
+        Some(whole) => has_number_of(at, &whole),
+    }
+}
+
+/// The same of a table whose keys without NULL are known. Each NULL is eight bytes shorter than a number.
+fn has_number_of(at: &WholeKey, whole: &WholeKey) -> bool
+    ensures { result ≡ true → IsDecided at.now whole.now }
+{
+    if whole.len < at.len {
+        return true;
+    }
+    if whole.len == at.len {
+        return whole.place == at.place;
+    }
+    (whole.len - at.len) % 8 != 0
+}
+
+/// The keys of a table without NULL, where the table of each key that has their length and their root is found at one place.
+pub(crate) fn table_by_length(schema: &Schema, table: usize) -> Option<WholeKey>
+    requires { IsTable schema.now table }
+    ensures { IfSome result (IsTableByLength schema.now table) }
+{
+    let at = whole_key(schema, table)?;
+    for i in 0..schema.len() {
+        if !has_number_at(schema, &at, i + 1) {
+            return None;
+        }
+    }
+    Some(at)
+}
+
+/// Whether a coded key is one of the table, where the key's length and the byte at the place of the table's number decide.
+#[tactic(auto, using(crate::proofs::WholeKeys::other_length, crate::proofs::WholeKeys::by_number))]
+pub(crate) fn is_own_by_length(
+    schema: &Schema,
+    table: usize,
+    at: &WholeKey,
+    key: &[u8],
+) -> Option<bool>
+    requires { IsTableByLength schema.now table at.now }
+    ensures { IfSome result (IsWhetherOf schema.now table key.now) }
+{
+    schema.meets_rules();
+    if key.len() > at.len {
+        return Some(false);
+    }
+    if (at.len - key.len()) % 8 != 0 {
+        return Some(false);
+    }
+    if key.len() != at.len {
+        // It has NULLs, or is of another table.
+        return None;
+    }
+    if at.place >= key.len() {
+        return None;
+    }
+    if key[0] as usize != at.root {
+        return None;
+    }
+    Some(key[at.place] as usize == table)
+}

@@ -1,8 +1,0 @@
-use Rattle.std.proofs.Common.{◌≡◌, ◌++◌, drop}
-use Rattle.span_rows.specs.Codes.{uncoded}
-use Rattle.span_rows.specs.LentRows.{lent_rows}
-use Rattle.span_rows.proofs.coded.uncode_rows.Given as goal
-
--- the rows so far, and those that are left
-abbrev pub invariant-loop-row : goal.invariant-loop-row
-invariant-loop-row l = uncoded l.rows ≡ lent_rows l.all.items ++ uncoded (drop l.row-index l.rows)

@@ -1,8 +1,0 @@
-use Rattle.std.proofs.Common.{◌≡◌, ◌++◌, drop, map}
-use Rattle.span_query.specs.Groups.{columns_at}
-use Rattle.span_rows.specs.LentRows.{lent_rows}
-use Rattle.span_rows.proofs.columns.copy_columns.Given as goal
-
--- the copies so far, and the rows that are left
-abbrev pub invariant-loop-row : goal.invariant-loop-row
-invariant-loop-row l = map (columns_at l.columns) (lent_rows l.rows) ≡ l.copies ++ map (columns_at l.columns) (lent_rows (drop l.row-index l.rows))

@@ -1,0 +1,10 @@
+pub mod Order
+pub mod Sorting
+pub mod RowOrder
+mod FirstRows
+pub mod Limits
+pub mod Codes
+pub mod CodedRows
+pub mod TakenColumns
+pub mod Placing
+pub mod FirstOfParts

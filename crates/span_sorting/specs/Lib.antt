@@ -1,0 +1,4 @@
+pub mod Orders
+pub mod Codes
+pub mod PlacesInOrder
+pub mod Columns

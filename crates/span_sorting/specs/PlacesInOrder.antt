@@ -1,0 +1,29 @@
+-- The places of the rows of a list, in the order of some keys.
+use Rattle.std.specs.Prelude.{◌≡◌, ℕ, ◌<◌, Bool, List, [], length, map, slice_index_or}
+use Rattle.std.specs.List.{All}
+use Rattle.span_query.specs.declared.query.SortKey.{SortKey}
+use Rattle.span_query.specs.Rows.{Row}
+use Rattle.span_query.specs.Sorting.{sorted}
+use Rattle.span_rows.specs.RowPlaces.{rows_at}
+use Rattle.span_sorting.specs.declared.coded.CodedRow.{CodedRow}
+use Rattle.span_sorting.specs.declared.placed.PlacedRow.{PlacedRow}
+use Rattle.span_sorting.specs.declared.rows_with_order.RowOrder.{RowOrder}
+use Rattle.span_sorting.specs.Codes.{IsCodedAs}
+
+-- rows with their codes, without their places
+abbrev pub without_places : List PlacedRow → List CodedRow
+without_places xs = map (λ (x : PlacedRow). x.coded) xs
+
+-- a row of a list, with its codes and its place there
+pub record IsPlaced (rows : List Row) (keys : List SortKey) (exact : Bool) (x : PlacedRow) : Type 0 where
+  pub coded : IsCodedAs keys exact x.coded
+  pub row : x.coded.row.now ≡ slice_index_or rows x.place []
+  pub within : x.place < length rows
+
+-- the places of the rows of a list, in the order of the keys
+pub record ArePlacesBy (keys : List SortKey) (rows : List Row) (places : List ℕ) : Type 0 where
+  pub within : All (λ (place : ℕ). place < length rows) places
+  pub sorted : rows_at rows places ≡ sorted keys rows
+
+abbrev pub IsOrderOf : List Row → RowOrder → Type 0
+IsOrderOf rows order = ArePlacesBy order.keys.items rows order.places.items

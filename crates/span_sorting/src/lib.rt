@@ -1,0 +1,10 @@
+//! Rows in the order of some keys: ORDER BY and LIMIT, and parts that are put in order by themselves.
+#![tactic(auto)]
+
+mod code;
+mod coded;
+pub mod columns;
+mod first_rows;
+mod placed;
+pub mod rows_with_order;
+pub mod sort;

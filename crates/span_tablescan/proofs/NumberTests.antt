@@ -1,0 +1,596 @@
+-- Comparisons of numbers with literals, at packed rows.
+use Rattle.std.proofs.Common.{◌≡◌, inl, inr, ◌∙◌, ℕ, ℤ, zero, suc, ◌+◌, ◌<◌, ◌≤◌, ◌^◌, ◌==◌, Bool, true, false, not, List, [], ◌∷◌, ◌++◌, Option, Some, None, length, map, take, drop, get_or, refl, sym, ap, subst, arith, if◌then◌else◌}
+use Rattle.std.specs.Prelude.{◌&&◌, ◌||◌, IfSome}
+use Rattle.std.specs.Int.{to_be_bytes, cast_unsigned, w64}
+use Rattle.std.specs.List.{AllByRecursion, fold, list_all}
+use Rattle.std.specs.Option.{unwrap_or, option_or}
+use Rattle.std.specs.Ordering.{ordering_reverse}
+use Rattle.std.specs.declared.cmp.Ordering.{Ordering}
+use Rattle.std.specs.declared.cmp.Ordering.TheVariants as order
+use Rattle.std.proofs.lemmas.Bool.{and_parts, not-true}
+use Rattle.std.proofs.Math.Seq.{take-suc}
+use Rattle.std.proofs.lemmas.List.{drop_more, drop-drop, map-append, take_all}
+use Rattle.std.proofs.lemmas.List.Sums.{fold-append}
+use Rattle.span_value.specs.declared.value.Value.{Value}
+use Rattle.span_value.specs.declared.value.Value.TheVariants.{Null, Int, Str, Bytes, Bool as Flag}
+use Rattle.span_value.specs.declared.value.Kind.{Kind}
+use Rattle.span_value.specs.declared.value.Kind.TheVariants as kind
+use Rattle.span_value.specs.declared.truth.Outcome.{Outcome}
+use Rattle.span_value.specs.declared.truth.Outcome.TheVariants.{Val, Fault}
+use Rattle.span_value.specs.declared.truth.Truth.TheVariants.{False, True, Unknown}
+use Rattle.span_value.specs.Orders.{value_order}
+use Rattle.span_value.proofs.Total.{value_order_total}
+use Rattle.span_schema.specs.declared.table.Table.{Table}
+use Rattle.span_schema.specs.Fitting.{Fits}
+use Rattle.span_schema.specs.Numbers.{key_places, other_places, other_kinds}
+use Rattle.span_rowcode.specs.Rows.{AreCells, IsCellSkip, cell_code, row_code}
+use Rattle.span_rowcode.specs.Limits.{longest_row}
+use Rattle.span_rowcode.specs.Cells.{IsNoBody, IsBody}
+use Rattle.span_rowcode.proofs.RowReads.{no_cell_nothing, one_cell}
+use Rattle.span_mutate.specs.declared.row.TableRow.{TableRow}
+use Rattle.span_mutate.specs.Typed.{IsTyped}
+use Rattle.span_expr.specs.declared.expr.Expr.{Expr}
+use Rattle.span_expr.specs.declared.expr.Expr.TheVariants.{And, Between, Column, Compare, Literal, rolls-And, rolls-Between, rolls-Column, rolls-Compare, rolls-Literal}
+use Rattle.span_expr.specs.declared.expr.Expr.TheFolds.{fold-roll-Expr}
+use Rattle.span_expr.specs.declared.expr.Expr.TheOpen.{Expr-F}
+use Rattle.span_expr.specs.declared.expr.Comparison.{Comparison}
+use Rattle.span_expr.specs.declared.expr.Comparison.TheVariants as comparison
+use Rattle.span_expr.specs.declared.condition.Condition.{Condition}
+use Rattle.span_expr.specs.declared.condition.Condition.TheVariants as condition
+use Rattle.span_expr.specs.Meaning.{all_of, and_also, at_operands, between, val}
+use Rattle.span_expr.specs.Operators as operators
+use Rattle.span_expr.specs.Outcomes.{both, condition_of, is_null, outcome_of, strict}
+use Rattle.span_query.specs.Rows.{Row}
+use Rattle.span_tablescan.specs.declared.number_test.NumberTest.{NumberTest}
+use Rattle.span_rowreader.specs.Meaning.{value_for, declared_row}
+use Rattle.span_tablescan.specs.NumberTests.{meets_value, meets, AddsNeeded, AddsTests, AreMoreTests, AreNeededFor, AreSomeTests, AreTestsOf, IsKnown, IsNumberAt, IsNumberCell, IsRestOf, IsTestOf, number_or_null, IsNumberFound, IsWhetherPass, and_all, between_at, comparison_at, condition_at, exchanged}
+use Rattle.span_rowreader.proofs.KeyPlaces.{ArePlacesApart}
+use Rattle.span_rowreader.proofs.DeclaredRows.{column_at}
+use Rattle.span_rowreader.proofs.PlacedRows.{others_placed, others_apart}
+
+-- ---- the cells that are left
+
+abbrev pub RestAt : List Kind → List ℕ → ℕ → ℕ → Type 0
+RestAt ks bs i at = (vs : List Value) → AreCells ks vs → bs ≡ row_code vs → AreCells (drop i ks) (drop i vs) × (drop at bs ≡ row_code (drop i vs))
+
+pub rest_first : (ks : List Kind) (bs : List ℕ) → RestAt ks bs 0 0
+rest_first ks bs vs are code = (are, code)
+
+one_past : (k : Kind) (ks : List Kind) (us : List Value) (rest : List ℕ) (w : ℕ) → IsCellSkip k rest w → AreCells (k ∷ ks) us → rest ≡ row_code us → AreCells ks (drop 1 us) × (drop w rest ≡ row_code (drop 1 us))
+one_past k ks [] rest w skip are code = absurd are
+one_past k ks (v ∷ us) rest w skip are code = (are.1, sym (skip.past v (row_code us) are.0 code))
+
+pub rest_more : (ks : List Kind) (bs : List ℕ) (i at w : ℕ) → i < length ks → IsCellSkip (get_or ks i kind.Int) (drop at bs) w → RestAt ks bs i at → RestAt ks bs (i + 1) (at + w)
+rest_more ks bs i at w less skip so vs are code =
+    let here = so vs are code in
+    let P : List Kind → Type 0 = λ ds. AreCells ds (drop i vs) in
+    let next = one_past (get_or ks i kind.Int) (drop (i + 1) ks) (drop i vs) (drop at bs) w skip (subst P (drop_more ks i kind.Int less) here.0) here.1 in
+    let place : drop 1 (drop i vs) ≡ drop (i + 1) vs = drop-drop 1 i vs in
+    let Q : List Value → Type 0 = λ us. AreCells (drop (i + 1) ks) us in
+    (subst Q place next.0, sym (drop-drop w at bs) ∙ next.1 ∙ ap row_code place)
+
+pub rest_of : (ks : List Kind) (bs rest : List ℕ) (i at : ℕ) → length rest ≤ length bs → rest ≡ drop at bs → RestAt ks bs i at → IsRestOf ks i bs rest
+rest_of ks bs rest i at within is so = record { within = within; of = λ vs are code. is ∙ (so vs are code).1 }
+
+-- ---- the number at the front
+
+one_not_zero : (bs more : List ℕ) (b : ℕ) → get_or bs 0 0 ≡ 0 → bs ≡ 1 ∷ more → ⊥
+one_not_zero bs more b z e = let one : get_or bs 0 0 ≡ 1 = ap (λ (l : List ℕ). get_or l 0 0) e in omega (arith, one, z)
+
+pub nothing_found : (bs : List ℕ) → length bs ≡ 0 → IsNumberFound bs None
+nothing_found [] none = record { of = λ v more f e. absurd ((no_cell_nothing kind.Int).none v more f e) }
+nothing_found (b ∷ bs) none = absurd (omega (arith, none))
+
+pub null_found : (bs : List ℕ) → get_or bs 0 0 ≡ 0 → IsNumberFound bs None
+null_found bs z = record { of = by_value }
+  where
+    by_value : (v : Value) (more : List ℕ) → Fits kind.Int v → bs ≡ cell_code v ++ more → v ≡ Null
+    by_value Null more f e = refl
+    by_value (Int i) more f e = absurd (one_not_zero bs (to_be_bytes w64 (cast_unsigned w64 i) ++ more) 0 z e)
+    by_value (Str cs) more f e = absurd f
+    by_value (Bytes cs) more f e = absurd f
+    by_value (Flag b) more f e = absurd f
+
+pub none_found : (bs : List ℕ) → (get_or bs 0 0 ≡ 0 → ⊥) → IsNoBody kind.Int (drop 1 bs) → IsNumberFound bs None
+none_found bs some against = record { of = by_value }
+  where
+    by_value : (v : Value) (more : List ℕ) → Fits kind.Int v → bs ≡ cell_code v ++ more → v ≡ Null
+    by_value Null more f e = refl
+    by_value (Int i) more f e = absurd (against.none (Int i) more f (ap (λ (l : List ℕ). 1 ∷ drop 1 l) e))
+    by_value (Str cs) more f e = absurd f
+    by_value (Bytes cs) more f e = absurd f
+    by_value (Flag b) more f e = absurd f
+
+pub number_found : (bs : List ℕ) (z : ℤ) → length bs < 2 ^ 32 → (get_or bs 0 0 ≡ 0 → ⊥) → IsBody kind.Int (drop 1 bs) (Int z) 8 → IsNumberFound bs (Some z)
+number_found bs z small some body = record { of = by_value }
+  where
+    by_value : (v : Value) (more : List ℕ) → Fits kind.Int v → bs ≡ cell_code v ++ more → v ≡ Int z
+    by_value Null more f e = absurd (some (ap (λ (l : List ℕ). get_or l 0 0) e))
+    by_value (Int i) more f e =
+        let short : length (cell_code (Int i) ++ more) < 2 ^ 32 = omega (arith, small, ap (length {A = ℕ}) e) in
+        let same : cell_code (Int i) ++ more ≡ cell_code (Int z) ++ drop 8 (drop 1 bs) = sym (ap (λ (l : List ℕ). 1 ∷ drop 1 l) e) ∙ body.code in
+        (one_cell kind.Int (Int i) (Int z) more (drop 8 (drop 1 bs)) f body.fits short same).0
+    by_value (Str cs) more f e = absurd f
+    by_value (Bytes cs) more f e = absurd f
+    by_value (Flag b) more f e = absurd f
+
+-- ---- whether a row passes
+
+first_cell : (ks : List Kind) (us : List Value) (rest : List ℕ) (found : Option ℤ) → AreCells (kind.Int ∷ ks) us → rest ≡ row_code us → IsNumberFound rest found → get_or us 0 Null ≡ number_or_null found
+first_cell ks [] rest found are code number = absurd are
+first_cell ks (v ∷ us) rest found are code number = number.of v (row_code us) are.0 code
+
+dropped_first : (vs : List Value) (i : ℕ) → get_or (drop i vs) 0 Null ≡ get_or vs i Null
+dropped_first [] zero = refl
+dropped_first [] (suc i) = refl
+dropped_first (v ∷ vs) zero = refl
+dropped_first (v ∷ vs) (suc i) = dropped_first vs i
+
+cells_dropped : (ks : List Kind) (vs : List Value) (i : ℕ) → AreCells ks vs → AreCells (drop i ks) (drop i vs)
+cells_dropped ks vs zero are = are
+cells_dropped [] [] (suc i) are = are
+cells_dropped [] (v ∷ vs) (suc i) are = absurd are
+cells_dropped (k ∷ ks) [] (suc i) are = absurd are
+cells_dropped (k ∷ ks) (v ∷ vs) (suc i) are = cells_dropped ks vs i are.1
+
+pub cell_met : (ks : List Kind) (bs rest : List ℕ) (test : NumberTest) (found : Option ℤ) (met : Bool) → IsNumberAt ks test.cell → IsRestOf ks test.cell bs rest → IsNumberFound rest found
+    → met ≡ meets_value test (number_or_null found) → IsWhetherPass ks bs (λ cells. meets cells test) met
+cell_met ks bs rest test found met at left number so = record {
+  of = λ vs row code.
+      let split : drop test.cell ks ≡ kind.Int ∷ drop (test.cell + 1) ks =
+      drop_more ks test.cell kind.Int at.within ∙ ap (λ (k : Kind). k ∷ drop (test.cell + 1) ks) at.kind in
+      let P : List Kind → Type 0 = λ ds. AreCells ds (drop test.cell vs) in
+      let first = first_cell (drop (test.cell + 1) ks) (drop test.cell vs) rest found (subst P split (cells_dropped ks vs test.cell row.0)) (left.of vs row.0 code) number in
+      so ∙ ap (meets_value test) (sym first ∙ dropped_first vs test.cell);
+}
+
+-- ---- several tests
+
+-- those before a place are met
+abbrev pub AreMetBefore : List Kind → List ℕ → List NumberTest → ℕ → Type 0
+AreMetBefore ks bs tests i = IsWhetherPass ks bs (λ cells. list_all (meets cells) (take i tests)) true
+
+pub none_before : (ks : List Kind) (bs : List ℕ) (tests : List NumberTest) → AreMetBefore ks bs tests 0
+none_before ks bs tests = record { of = λ vs row code. refl }
+
+all_more : {X : Type 0} (f : X → Bool) (xs : List X) (i : ℕ) (x : X) → i < length xs → x ≡ get_or xs i x → list_all f (take (suc i) xs) ≡ (list_all f (take i xs) && f x)
+all_more f [] i x less is = absurd (omega arith)
+all_more f (y ∷ xs) zero x less is = by_test (f y) ∙ ap f (sym is)
+  where
+    by_test : (b : Bool) → (b && true) ≡ b
+    by_test true = refl
+    by_test false = refl
+all_more f (y ∷ xs) (suc i) x less is = by_test (f y) (all_more f xs i x (omega arith) is)
+  where
+    by_test : (b : Bool) → list_all f (take (suc i) xs) ≡ (list_all f (take i xs) && f x) → (b && list_all f (take (suc i) xs)) ≡ ((b && list_all f (take i xs)) && f x)
+    by_test true so = so
+    by_test false so = refl
+
+pub one_more_met : (ks : List Kind) (bs : List ℕ) (tests : List NumberTest) (i : ℕ) (test : NumberTest) → i < length tests → test ≡ get_or tests i test → IsWhetherPass ks bs (λ cells. meets cells test) true
+    → AreMetBefore ks bs tests i → AreMetBefore ks bs tests (i + 1)
+one_more_met ks bs tests i test less is met so = record {
+  of = λ vs row code.
+      let place : suc i ≡ i + 1 = omega arith in
+      sym (ap (λ (k : ℕ). list_all (meets vs) (take k tests)) (sym place) ∙ all_more (meets vs) tests i test less is ∙ ap (λ (b : Bool). b && meets vs test) (sym (so.of vs row code)) ∙ sym (met.of vs row code));
+}
+
+one_not : {X : Type 0} (f : X → Bool) (xs : List X) (i : ℕ) (x : X) → i < length xs → x ≡ get_or xs i x → f x ≡ false → list_all f xs ≡ false
+one_not f [] i x less is not_so = absurd (omega arith)
+one_not f (y ∷ xs) zero x less is not_so = ap (λ (b : Bool). b && list_all f xs) (ap f (sym is) ∙ not_so)
+one_not f (y ∷ xs) (suc i) x less is not_so = by_test (f y) (one_not f xs i x (omega arith) is not_so)
+  where
+    by_test : (b : Bool) → list_all f xs ≡ false → (b && list_all f xs) ≡ false
+    by_test true so = so
+    by_test false so = refl
+
+pub one_not_met : (ks : List Kind) (bs : List ℕ) (tests : List NumberTest) (i : ℕ) (test : NumberTest) → i < length tests → test ≡ get_or tests i test → IsWhetherPass ks bs (λ cells. meets cells test) false
+    → IsWhetherPass ks bs (λ cells. list_all (meets cells) tests) false
+one_not_met ks bs tests i test less is met = record { of = λ vs row code. sym (one_not (meets vs) tests i test less is (sym (met.of vs row code))) }
+
+pub all_before : (ks : List Kind) (bs : List ℕ) (tests : List NumberTest) (i : ℕ) → length tests ≤ i → AreMetBefore ks bs tests i → IsWhetherPass ks bs (λ cells. list_all (meets cells) tests) true
+all_before ks bs tests i over so = record { of = λ vs row code. so.of vs row code ∙ ap (list_all (meets vs)) (take_all i tests over) }
+
+pub too_long : (ks : List Kind) (bs : List ℕ) (f : List Value → Bool) → longest_row < length bs → IsWhetherPass ks bs f false
+too_long ks bs f long = record { of = λ vs row code. absurd (omega (arith, row.1, long, ap (length {A = ℕ}) code)) }
+
+-- ---- what a comparison comes to
+
+all_at : {X : Type 0} (P : X → Type 0) (xs : List X) (i : ℕ) (d : X) → AllByRecursion P xs → i < length xs → P (get_or xs i d)
+all_at P [] i d all less = absurd (omega arith)
+all_at P (x ∷ xs) zero d all less = all.0
+all_at P (x ∷ xs) (suc i) d all less = all_at P xs i d all.1 (omega arith)
+
+none_of : (ps : List ℕ) (vs : List Value) (place : ℕ) → list_all (λ q. not (q == place)) ps ≡ true → value_for ps vs place ≡ None
+none_of [] vs place apart = refl
+none_of (p ∷ ps) [] place apart = refl
+none_of (p ∷ ps) (v ∷ vs) place apart =
+    let parts = and_parts (not (p == place)) (list_all (λ q. not (q == place)) ps) apart in
+    ap (λ (b : Bool). if b then Some v else value_for ps vs place) (not-true (p == place) parts.0) ∙ none_of ps vs place parts.1
+
+found_for : (ps : List ℕ) (vs : List Value) (i : ℕ) → ArePlacesApart ps → i < length ps → length ps ≡ length vs → value_for ps vs (get_or ps i 0) ≡ Some (get_or vs i Null)
+found_for [] vs i apart less long = absurd (omega arith)
+found_for (p ∷ ps) [] i apart less long = absurd (omega (arith, long))
+found_for (p ∷ ps) (v ∷ vs) zero apart less long = let itself : (p == p) ≡ true = grind arith in ap (λ (b : Bool). if b then Some v else value_for ps vs p) itself
+found_for (p ∷ ps) (v ∷ vs) (suc i) apart less long =
+    let other : (p == get_or ps i 0) ≡ false = all_at (λ (q : ℕ). (p == q) ≡ false) ps i 0 apart.0 (omega arith) in
+    ap (λ (b : Bool). if b then Some v else value_for ps vs (get_or ps i 0)) other ∙ found_for ps vs i apart.1 (omega arith) (omega (arith, long))
+
+cells_long : (ks : List Kind) (vs : List Value) → AreCells ks vs → length ks ≡ length vs
+cells_long [] [] are = refl
+cells_long [] (v ∷ vs) are = absurd are
+cells_long (k ∷ ks) [] are = absurd are
+cells_long (k ∷ ks) (v ∷ vs) are = ap suc (cells_long ks vs are.1)
+
+-- the value of such a column
+column_is : (schema : List Table) (n place cell : ℕ) → IsNumberCell schema n place cell → (t : TableRow) → IsTyped schema t → t.table ≡ n → operators.column_of (declared_row schema t) place ≡ get_or t.cells cell Null
+column_is schema n place cell is t typed own = by_own (subst (λ (m : ℕ). IsNumberCell schema m place cell) (sym own) is)
+  where
+    by_own : IsNumberCell schema t.table place cell → operators.column_of (declared_row schema t) place ≡ get_or t.cells cell Null
+    by_own here =
+        let ps : List ℕ = other_places schema t.table in
+        let long : length ps ≡ length t.cells = sym (others_placed schema t.table) ∙ cells_long (other_kinds schema t.table) t.cells typed.1.0 in
+        let own_value : value_for ps t.cells place ≡ Some (get_or t.cells cell Null) =
+        ap (value_for ps t.cells) (sym here.at) ∙ found_for ps t.cells cell (others_apart schema t.table) here.placed long in
+        column_at schema t place here.within
+        ∙ ap (λ (o : Option Value). unwrap_or (option_or o (value_for ps t.cells place)) Null) (none_of (key_places schema t.table) t.key place here.apart)
+        ∙ ap (λ (o : Option Value). unwrap_or o Null) own_value
+
+number_or_null_at : (ks : List Kind) (vs : List Value) (i : ℕ) → AreCells ks vs → IsNumberAt ks i → Fits kind.Int (get_or vs i Null)
+number_or_null_at [] vs i are at = absurd (omega (arith, at.within))
+number_or_null_at (k ∷ ks) [] i are at = absurd are
+number_or_null_at (k ∷ ks) (v ∷ vs) zero are at = let P : Kind → Type 0 = λ j. Fits j v in subst P at.kind are.0
+number_or_null_at (k ∷ ks) (v ∷ vs) (suc i) are at = number_or_null_at ks vs i are.1 (record { within = omega (arith, at.within); kind = at.kind })
+
+val_compare : (row : Row) (left right : Expr) (c : Comparison) → val row (Compare left c right) ≡ strict (operators.compare_values c) (val row left) (val row right)
+val_compare row left right c = ap (val row) (sym (rolls-Compare left c right)) ∙ fold-roll-Expr Outcome (at_operands row) (Expr-F.Compare left c right)
+
+val_column : (row : Row) (place : ℕ) → val row (Column place) ≡ Val (operators.column_of row place)
+val_column row place = ap (val row) (sym (rolls-Column place)) ∙ fold-roll-Expr Outcome (at_operands row) (Expr-F.Column place)
+
+val_literal : (row : Row) (w : Value) → val row (Literal w) ≡ Val w
+val_literal row w = ap (val row) (sym (rolls-Literal w)) ∙ fold-roll-Expr Outcome (at_operands row) (Expr-F.Literal w)
+
+value_known : (test : NumberTest) (v : Value) → Fits kind.Int v → IsKnown (condition_of (operators.compare_values test.comparison v (Int test.number))) (meets_value test v)
+value_known test Null f = inr (refl, refl)
+value_known test (Int i) f = inl refl
+value_known test (Str cs) f = absurd f
+value_known test (Bytes cs) f = absurd f
+value_known test (Flag b) f = absurd f
+
+pub comparison_test : (schema : List Table) (n place : ℕ) (left right : Expr) (test : NumberTest) → left ≡ Column place → right ≡ Literal (Int test.number) → IsNumberCell schema n place test.cell
+    → IsTestOf schema n (comparison_at schema left test.comparison right) test
+comparison_test schema n place left right test column literal cell = record {
+  number = cell.number;
+  judged = λ t typed own.
+      let row : Row = declared_row schema t in
+      let v : Value = get_or t.cells test.cell Null in
+      let first : val row left ≡ Val v = ap (val row) column ∙ val_column row place ∙ ap (λ (u : Value). Val u) (column_is schema n place test.cell cell t typed own) in
+      let second : val row right ≡ Val (Int test.number) = ap (val row) literal ∙ val_literal row (Int test.number) in
+      let all : comparison_at schema left test.comparison right t ≡ condition_of (operators.compare_values test.comparison v (Int test.number)) =
+      ap (λ (o : Outcome). condition_of (strict (operators.compare_values test.comparison) o (val row right))) first
+      ∙ ap (λ (o : Outcome). condition_of (strict (operators.compare_values test.comparison) (Val v) o)) second in
+      let P : List Kind → Type 0 = λ ks. AreCells ks t.cells in
+      let fits = number_or_null_at (other_kinds schema n) t.cells test.cell (subst P (ap (other_kinds schema) own) typed.1.0) cell.number in
+      subst (λ (c : Condition). IsKnown c (meets t.cells test)) (sym all) (value_known test v fits);
+}
+
+-- ---- a literal on the left
+
+holds_exchanged : (c : Comparison) (o : Ordering) → operators.holds c (ordering_reverse o) ≡ operators.holds (exchanged c) o
+holds_exchanged comparison.Equal order.Less = refl
+holds_exchanged comparison.Equal order.Equal = refl
+holds_exchanged comparison.Equal order.Greater = refl
+holds_exchanged comparison.NotEqual order.Less = refl
+holds_exchanged comparison.NotEqual order.Equal = refl
+holds_exchanged comparison.NotEqual order.Greater = refl
+holds_exchanged comparison.Less order.Less = refl
+holds_exchanged comparison.Less order.Equal = refl
+holds_exchanged comparison.Less order.Greater = refl
+holds_exchanged comparison.AtMost order.Less = refl
+holds_exchanged comparison.AtMost order.Equal = refl
+holds_exchanged comparison.AtMost order.Greater = refl
+holds_exchanged comparison.Greater order.Less = refl
+holds_exchanged comparison.Greater order.Equal = refl
+holds_exchanged comparison.Greater order.Greater = refl
+holds_exchanged comparison.AtLeast order.Less = refl
+holds_exchanged comparison.AtLeast order.Equal = refl
+holds_exchanged comparison.AtLeast order.Greater = refl
+
+compare_exchanged : (c : Comparison) (v w : Value) → operators.compare_values c v w ≡ operators.compare_values (exchanged c) w v
+compare_exchanged c v w = by_nulls (is_null v) (is_null w)
+  where
+    same : operators.holds c (value_order v w) ≡ operators.holds (exchanged c) (value_order w v)
+    same = ap (operators.holds c) (value_order_total.antisymm v w) ∙ holds_exchanged c (value_order w v)
+
+    by_nulls : (a b : Bool) → (if a || b then Val Null else Val (Flag (operators.holds c (value_order v w)))) ≡ (if b || a then Val Null else Val (Flag (operators.holds (exchanged c) (value_order w v))))
+    by_nulls true true = refl
+    by_nulls true false = refl
+    by_nulls false true = refl
+    by_nulls false false = ap (λ (b : Bool). Val (Flag b)) same
+
+strict_exchanged : (c : Comparison) (a b : Outcome) → strict (operators.compare_values c) a b ≡ strict (operators.compare_values (exchanged c)) b a
+strict_exchanged c (Val v) (Val w) = compare_exchanged c v w
+strict_exchanged c (Val v) Fault = refl
+strict_exchanged c Fault (Val w) = refl
+strict_exchanged c Fault Fault = refl
+
+-- the test of a comparison with its sides exchanged is that of the comparison
+exchanged_test : (schema : List Table) (n : ℕ) (left right : Expr) (c : Comparison) (test : NumberTest) → IsTestOf schema n (comparison_at schema right (exchanged c) left) test
+    → IsTestOf schema n (comparison_at schema left c right) test
+exchanged_test schema n left right c test is = record {
+  number = is.number;
+  judged = λ t typed own.
+      let row : Row = declared_row schema t in
+      let same : comparison_at schema left c right t ≡ comparison_at schema right (exchanged c) left t = ap condition_of (strict_exchanged c (val row left) (val row right)) in
+      subst (λ (d : Condition). IsKnown d (meets t.cells test)) (sym same) (is.judged t typed own);
+}
+
+pub exchanged_found : (schema : List Table) (n : ℕ) (left right : Expr) (c d : Comparison) (found : Option NumberTest) → d ≡ exchanged c → IfSome found (λ test. IsTestOf schema n (comparison_at schema right d left) test)
+    → IfSome found (λ test. IsTestOf schema n (comparison_at schema left c right) test)
+exchanged_found schema n left right c d None is none = none
+exchanged_found schema n left right c d (Some test) is so =
+    let P : Comparison → Type 0 = λ e. IsTestOf schema n (comparison_at schema right e left) test in
+    exchanged_test schema n left right c test (subst P is so)
+
+-- ---- what an AND comes to
+
+-- what is FALSE or NULL stays so beside any other condition
+not_met_first : (c d : Condition) → IsKnown c false → IsKnown (both c d) false
+not_met_first c d (inl is) = by_other d (ap (λ (x : Condition). both x d) is)
+  where
+    by_other : (d : Condition) → both c d ≡ both (condition.Known False) d → IsKnown (both c d) false
+    by_other (condition.Known False) so = inl so
+    by_other (condition.Known True) so = inl so
+    by_other (condition.Known Unknown) so = inl so
+    by_other condition.Faulted so = inl so
+not_met_first c d (inr null) = by_other d (ap (λ (x : Condition). both x d) null.0)
+  where
+    by_other : (d : Condition) → both c d ≡ both (condition.Known Unknown) d → IsKnown (both c d) false
+    by_other (condition.Known False) so = inl so
+    by_other (condition.Known True) so = inr (so, refl)
+    by_other (condition.Known Unknown) so = inr (so, refl)
+    by_other condition.Faulted so = inr (so, refl)
+
+not_met_second : (c d : Condition) → IsKnown d false → IsKnown (both c d) false
+not_met_second c d (inl is) = by_other c (ap (both c) is)
+  where
+    by_other : (c : Condition) → both c d ≡ both c (condition.Known False) → IsKnown (both c d) false
+    by_other (condition.Known False) so = inl so
+    by_other (condition.Known True) so = inl so
+    by_other (condition.Known Unknown) so = inl so
+    by_other condition.Faulted so = inl so
+not_met_second c d (inr null) = by_other c (ap (both c) null.0)
+  where
+    by_other : (c : Condition) → both c d ≡ both c (condition.Known Unknown) → IsKnown (both c d) false
+    by_other (condition.Known False) so = inl so
+    by_other (condition.Known True) so = inr (so, refl)
+    by_other (condition.Known Unknown) so = inr (so, refl)
+    by_other condition.Faulted so = inr (so, refl)
+
+-- TRUE leaves the other condition
+true_first : (d : Condition) → both (condition.Known True) d ≡ d
+true_first (condition.Known False) = refl
+true_first (condition.Known True) = refl
+true_first (condition.Known Unknown) = refl
+true_first condition.Faulted = refl
+
+true_second : (c : Condition) → both c (condition.Known True) ≡ c
+true_second (condition.Known False) = refl
+true_second (condition.Known True) = refl
+true_second (condition.Known Unknown) = refl
+true_second condition.Faulted = refl
+
+known_and : (c d : Condition) (a b : Bool) → IsKnown c a → IsKnown d b → IsKnown (both c d) (a && b)
+known_and c d false b first second = not_met_first c d first
+known_and c d true b (inl first) second = subst (λ (x : Condition). IsKnown x b) (sym (ap (λ (x : Condition). both x d) first ∙ true_first d)) second
+known_and c d true b (inr null) second = absurd (let bad : true ≡ false = null.1 in cc)
+
+both_again : (a b c : Condition) → both (both a b) c ≡ both a (both b c)
+both_again (condition.Known True) b c = ap (λ (x : Condition). both x c) (true_first b) ∙ sym (true_first (both b c))
+both_again a (condition.Known True) c = ap (λ (x : Condition). both x c) (true_second a) ∙ ap (both a) (sym (true_first c))
+both_again a b (condition.Known True) = true_second (both a b) ∙ ap (both a) (sym (true_second b))
+both_again (condition.Known False) (condition.Known False) (condition.Known False) = refl
+both_again (condition.Known False) (condition.Known False) (condition.Known Unknown) = refl
+both_again (condition.Known False) (condition.Known Unknown) (condition.Known False) = refl
+both_again (condition.Known False) (condition.Known Unknown) (condition.Known Unknown) = refl
+both_again (condition.Known Unknown) (condition.Known False) (condition.Known False) = refl
+both_again (condition.Known Unknown) (condition.Known False) (condition.Known Unknown) = refl
+both_again (condition.Known Unknown) (condition.Known Unknown) (condition.Known False) = refl
+both_again (condition.Known Unknown) (condition.Known Unknown) (condition.Known Unknown) = refl
+both_again (condition.Known False) (condition.Known False) condition.Faulted = refl
+both_again (condition.Known False) (condition.Known Unknown) condition.Faulted = refl
+both_again (condition.Known False) condition.Faulted (condition.Known False) = refl
+both_again (condition.Known False) condition.Faulted (condition.Known Unknown) = refl
+both_again (condition.Known False) condition.Faulted condition.Faulted = refl
+both_again (condition.Known Unknown) (condition.Known False) condition.Faulted = refl
+both_again (condition.Known Unknown) (condition.Known Unknown) condition.Faulted = refl
+both_again (condition.Known Unknown) condition.Faulted (condition.Known False) = refl
+both_again (condition.Known Unknown) condition.Faulted (condition.Known Unknown) = refl
+both_again (condition.Known Unknown) condition.Faulted condition.Faulted = refl
+both_again condition.Faulted (condition.Known False) (condition.Known False) = refl
+both_again condition.Faulted (condition.Known False) (condition.Known Unknown) = refl
+both_again condition.Faulted (condition.Known False) condition.Faulted = refl
+both_again condition.Faulted (condition.Known Unknown) (condition.Known False) = refl
+both_again condition.Faulted (condition.Known Unknown) (condition.Known Unknown) = refl
+both_again condition.Faulted (condition.Known Unknown) condition.Faulted = refl
+both_again condition.Faulted condition.Faulted (condition.Known False) = refl
+both_again condition.Faulted condition.Faulted (condition.Known Unknown) = refl
+both_again condition.Faulted condition.Faulted condition.Faulted = refl
+
+-- ---- the tests of one condition more
+
+all_and : {X : Type 0} (f : X → Bool) (xs : List X) (y : X) → list_all f (xs ++ y ∷ []) ≡ (list_all f xs && f y)
+all_and f [] y = by_test (f y)
+  where
+    by_test : (b : Bool) → (b && true) ≡ b
+    by_test true = refl
+    by_test false = refl
+all_and f (x ∷ xs) y = by_test (f x) (all_and f xs y)
+  where
+    by_test : (b : Bool) → list_all f (xs ++ y ∷ []) ≡ (list_all f xs && f y) → (b && list_all f (xs ++ y ∷ [])) ≡ ((b && list_all f xs) && f y)
+    by_test true so = so
+    by_test false so = refl
+
+all_added : {X : Type 0} (P : X → Type 0) (xs : List X) (y : X) → AllByRecursion P xs → P y → AllByRecursion P (xs ++ y ∷ [])
+all_added P [] y all one = (one, tt {0})
+all_added P (x ∷ xs) y all one = (all.0, all_added P xs y all.1 one)
+
+pub one_test_added : (schema : List Table) (n : ℕ) (of : TableRow → Condition) (test : NumberTest) (old new : List NumberTest) → new ≡ old ++ test ∷ [] → IsTestOf schema n of test → AddsTests schema n of old new
+one_test_added schema n of test old new added one = subst (AddsTests schema n of old) (sym added) (record {
+  judged = λ t typed own c known.
+      subst (IsKnown (both c (of t))) (sym (all_and (meets t.cells) old test)) (known_and c (of t) (list_all (meets t.cells) old) (meets t.cells test) known (one.judged t typed own));
+})
+
+pub one_test_needed : (schema : List Table) (n : ℕ) (of : TableRow → Condition) (test : NumberTest) (old new : List NumberTest) → new ≡ old ++ test ∷ [] → IsTestOf schema n of test → AddsNeeded schema n of old new
+one_test_needed schema n of test old new added one = subst (AddsNeeded schema n of old) (sym added) (record {
+  numbers = λ numbers. all_added (λ (x : NumberTest). IsNumberAt (other_kinds schema n) x.cell) old test numbers one.number;
+  unmet = λ t typed own c known not_met.
+      by_test c (of t) (list_all (meets t.cells) old) (meets t.cells test) (sym (all_and (meets t.cells) old test) ∙ not_met) known (one.judged t typed own);
+})
+  where
+    by_test : (c d : Condition) (a b : Bool) → (a && b) ≡ false → (a ≡ false → IsKnown c false) → IsKnown d b → IsKnown (both c d) false
+    by_test c d false b not_met first second = not_met_first c d (first refl)
+    by_test c d true b not_met first second = not_met_second c d (subst (λ (x : Bool). IsKnown d x) not_met second)
+
+-- a condition that is no test
+pub no_test_needed : (schema : List Table) (n : ℕ) (of : TableRow → Condition) (tests : List NumberTest) → AddsNeeded schema n of tests tests
+no_test_needed schema n of tests = record { numbers = λ numbers. numbers; unmet = λ t typed own c known not_met. not_met_first c (of t) (known not_met) }
+
+-- two conditions, of which the AND is a condition
+pub two_added : (schema : List Table) (n : ℕ) (f g : TableRow → Condition) (old now new : List NumberTest) → AddsTests schema n f old now → AddsTests schema n g now new → AddsTests schema n (λ t. both (f t) (g t)) old new
+two_added schema n f g old now new first second = record {
+  judged = λ t typed own c known.
+      subst (λ (x : Condition). IsKnown x (list_all (meets t.cells) new)) (both_again c (f t) (g t)) (second.judged t typed own (both c (f t)) (first.judged t typed own c known));
+}
+
+pub two_needed : (schema : List Table) (n : ℕ) (f g : TableRow → Condition) (old now new : List NumberTest) → AddsNeeded schema n f old now → AddsNeeded schema n g now new → AddsNeeded schema n (λ t. both (f t) (g t)) old new
+two_needed schema n f g old now new first second = record {
+  numbers = λ numbers. second.numbers (first.numbers numbers);
+  unmet = λ t typed own c known not_met.
+      subst (λ (x : Condition). IsKnown x false) (both_again c (f t) (g t)) (second.unmet t typed own (both c (f t)) (first.unmet t typed own c known) not_met);
+}
+
+-- a condition that comes to the same
+pub same_added : (schema : List Table) (n : ℕ) (f g : TableRow → Condition) (old new : List NumberTest) → ((t : TableRow) → f t ≡ g t) → AddsTests schema n f old new → AddsTests schema n g old new
+same_added schema n f g old new same so = record {
+  judged = λ t typed own c known. subst (λ (x : Condition). IsKnown (both c x) (list_all (meets t.cells) new)) (same t) (so.judged t typed own c known);
+}
+
+pub same_needed : (schema : List Table) (n : ℕ) (f g : TableRow → Condition) (old new : List NumberTest) → ((t : TableRow) → f t ≡ g t) → AddsNeeded schema n f old new → AddsNeeded schema n g old new
+same_needed schema n f g old new same so = record {
+  numbers = so.numbers;
+  unmet = λ t typed own c known not_met. subst (λ (x : Condition). IsKnown (both c x) false) (same t) (so.unmet t typed own c known not_met);
+}
+
+known_again : (c : Condition) → condition_of (outcome_of c) ≡ c
+known_again (condition.Known False) = refl
+known_again (condition.Known True) = refl
+known_again (condition.Known Unknown) = refl
+known_again condition.Faulted = refl
+
+pub at_comparison : (schema : List Table) (e left right : Expr) (c : Comparison) → e ≡ Compare left c right → (t : TableRow) → comparison_at schema left c right t ≡ condition_at schema e t
+at_comparison schema e left right c is t =
+    let row : Row = declared_row schema t in
+    ap condition_of (sym (ap (val row) is ∙ val_compare row left right c))
+
+val_between : (row : Row) (operand low high : Expr) → val row (Between operand low high) ≡ between (val row operand) (val row low) (val row high)
+val_between row operand low high = ap (val row) (sym (rolls-Between operand low high)) ∙ fold-roll-Expr Outcome (at_operands row) (Expr-F.Between operand low high)
+
+pub at_between : (schema : List Table) (e operand low high : Expr) → e ≡ Between operand low high → (t : TableRow) → between_at schema operand low high t ≡ condition_at schema e t
+at_between schema e operand low high is t =
+    let row : Row = declared_row schema t in
+    sym (known_again (between_at schema operand low high t)) ∙ ap condition_of (sym (ap (val row) is ∙ val_between row operand low high))
+
+val_and : (row : Row) (first : Expr) (more : List Expr) → val row (And first more) ≡ all_of (val row first) (map (val row) more)
+val_and row first more = ap (val row) (sym (rolls-And first more)) ∙ fold-roll-Expr Outcome (at_operands row) (Expr-F.And first more)
+
+at_and : (schema : List Table) (e first : Expr) (more : List Expr) → e ≡ And first more → (t : TableRow) → and_all schema (condition_at schema first t) more t ≡ condition_at schema e t
+at_and schema e first more is t =
+    let row : Row = declared_row schema t in
+    sym (known_again (and_all schema (condition_at schema first t) more t)) ∙ ap condition_of (sym (ap (val row) is ∙ val_and row first more))
+
+-- ---- the tests of several conditions
+
+-- the fold over one condition more
+fold_more : (row : Row) (c : Condition) (es : List Expr) (i : ℕ) (e : Expr) → i < length es → e ≡ get_or es i e
+    → fold and_also c (map (val row) (take (i + 1) es)) ≡ both (fold and_also c (map (val row) (take i es))) (condition_of (val row e))
+fold_more row c es i e less is =
+    let place : i + 1 ≡ suc i = omega arith in
+    let front : take (i + 1) es ≡ take i es ++ e ∷ [] = ap (λ (k : ℕ). take k es) place ∙ take-suc es i e less ∙ ap (λ (y : Expr). take i es ++ y ∷ []) (sym is) in
+    ap (λ (l : List Expr). fold and_also c (map (val row) l)) front
+    ∙ ap (fold and_also c) (map-append (val row) (take i es) (e ∷ []))
+    ∙ fold-append and_also c (map (val row) (take i es)) (val row e ∷ [])
+
+pub no_more_tests : (schema : List Table) (n : ℕ) (es : List Expr) (tests : List NumberTest) → AreMoreTests schema n (take 0 es) tests tests
+no_more_tests schema n es tests = record { judged = λ t typed own c known. known }
+
+pub none_of_more : (schema : List Table) (n : ℕ) (es : List Expr) (tests : List NumberTest) → AreSomeTests schema n (take 0 es) tests tests
+none_of_more schema n es tests = record { numbers = λ numbers. numbers; unmet = λ t typed own c known not_met. known not_met }
+
+pub one_more_added : (schema : List Table) (n : ℕ) (es : List Expr) (i : ℕ) (e : Expr) (old now new : List NumberTest) → i < length es → e ≡ get_or es i e
+    → AreMoreTests schema n (take i es) old now → AddsTests schema n (condition_at schema e) now new → AreMoreTests schema n (take (i + 1) es) old new
+one_more_added schema n es i e old now new less is so one = record {
+  judged = λ t typed own c known.
+      subst (λ (k : Condition). IsKnown k (list_all (meets t.cells) new)) (sym (fold_more (declared_row schema t) c es i e less is)) (one.judged t typed own (and_all schema c (take i es) t) (so.judged t typed own c known));
+}
+
+pub one_more_needed : (schema : List Table) (n : ℕ) (es : List Expr) (i : ℕ) (e : Expr) (old now new : List NumberTest) → i < length es → e ≡ get_or es i e
+    → AreSomeTests schema n (take i es) old now → AddsNeeded schema n (condition_at schema e) now new → AreSomeTests schema n (take (i + 1) es) old new
+one_more_needed schema n es i e old now new less is so one = record {
+  numbers = λ numbers. one.numbers (so.numbers numbers);
+  unmet = λ t typed own c known not_met.
+      subst (λ (k : Condition). IsKnown k false) (sym (fold_more (declared_row schema t) c es i e less is)) (one.unmet t typed own (and_all schema c (take i es) t) (so.unmet t typed own c known) not_met);
+}
+
+pub all_more_tests : (schema : List Table) (n : ℕ) (es : List Expr) (i : ℕ) (old new : List NumberTest) → length es ≤ i → AreMoreTests schema n (take i es) old new → AreMoreTests schema n es old new
+all_more_tests schema n es i old new over so = subst (λ (l : List Expr). AreMoreTests schema n l old new) (take_all i es over) so
+
+pub all_of_more : (schema : List Table) (n : ℕ) (es : List Expr) (i : ℕ) (old new : List NumberTest) → length es ≤ i → AreSomeTests schema n (take i es) old new → AreSomeTests schema n es old new
+all_of_more schema n es i old new over so = subst (λ (l : List Expr). AreSomeTests schema n l old new) (take_all i es over) so
+
+-- ---- the tests of a condition
+
+-- nothing is tested yet
+none_unmet : (c : Condition) → true ≡ false → IsKnown c false
+none_unmet c bad = absurd (let e : true ≡ false = bad in cc)
+
+pub tests_of_one : (schema : List Table) (n : ℕ) (e : Expr) (old new : List NumberTest) → old ≡ [] → AddsNeeded schema n (condition_at schema e) old new → AddsTests schema n (condition_at schema e) old new → AreTestsOf schema n e new
+tests_of_one schema n e old new none needed so =
+    let P : List NumberTest → Type 0 = λ tests. AddsTests schema n (condition_at schema e) tests new in
+    let Q : List NumberTest → Type 0 = λ tests. AddsNeeded schema n (condition_at schema e) tests new in
+    let first = subst P none so in
+    let numbered = subst Q none needed in
+    record {
+      numbers = numbered.numbers (tt {0});
+      judged = λ t typed own. subst (λ (c : Condition). IsKnown c (list_all (meets t.cells) new)) (true_first (condition_at schema e t)) (first.judged t typed own (condition.Known True) (inl refl));
+    }
+
+pub needed_for_one : (schema : List Table) (n : ℕ) (e : Expr) (old new : List NumberTest) → old ≡ [] → AddsNeeded schema n (condition_at schema e) old new → AreNeededFor schema n e new
+needed_for_one schema n e old new none so =
+    let P : List NumberTest → Type 0 = λ tests. AddsNeeded schema n (condition_at schema e) tests new in
+    let first = subst P none so in
+    record {
+      numbers = first.numbers (tt {0});
+      unmet = λ t typed own not_met.
+          subst (λ (c : Condition). IsKnown c false) (true_first (condition_at schema e t)) (first.unmet t typed own (condition.Known True) (none_unmet (condition.Known True)) not_met);
+    }
+
+pub tests_of_and : (schema : List Table) (n : ℕ) (e first : Expr) (more : List Expr) (old now new : List NumberTest) → e ≡ And first more → old ≡ [] → AddsNeeded schema n (condition_at schema first) old now
+    → AddsTests schema n (condition_at schema first) old now → AreSomeTests schema n more now new → AreMoreTests schema n more now new → AreTestsOf schema n e new
+tests_of_and schema n e first more old now new is none needed one some so =
+    let begin = tests_of_one schema n first old now none needed one in
+    record {
+      numbers = some.numbers begin.numbers;
+      judged = λ t typed own.
+          subst (λ (c : Condition). IsKnown c (list_all (meets t.cells) new)) (at_and schema e first more is t) (so.judged t typed own (condition_at schema first t) (begin.judged t typed own));
+    }
+
+pub needed_for_and : (schema : List Table) (n : ℕ) (e first : Expr) (more : List Expr) (old now new : List NumberTest) → e ≡ And first more → old ≡ [] → AddsNeeded schema n (condition_at schema first) old now
+    → AreSomeTests schema n more now new → AreNeededFor schema n e new
+needed_for_and schema n e first more old now new is none needed some =
+    let begin = needed_for_one schema n first old now none needed in
+    record {
+      numbers = some.numbers begin.numbers;
+      unmet = λ t typed own not_met.
+          subst (λ (c : Condition). IsKnown c false) (at_and schema e first more is t) (some.unmet t typed own (condition_at schema first t) (begin.unmet t typed own) not_met);
+    }

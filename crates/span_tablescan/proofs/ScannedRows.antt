@@ -1,0 +1,361 @@
+-- A leaf of one table gives the rows that pass its condition, one after another.
+use Rattle.std.proofs.Common.{◌≡◌, ◌⊎◌, inl, inr, ◌∙◌, ℕ, zero, suc, ◌+◌, ◌==◌, Bool, true, false, cond, List, [], ◌∷◌, ◌++◌, length, map, Option, Some, None, Result, Ok, Err, refl, sym, ap, subst, arith, if◌then◌else◌}
+use Rattle.std.specs.Prelude.{filter}
+use Rattle.std.specs.List.{range_with_len, list_all}
+use Rattle.std.proofs.lemmas.Bool.{eqb-true, eq-eqb, and_parts}
+use Rattle.std.proofs.lemmas.List.{append-nil}
+use Rattle.std.proofs.lemmas.List.FromFn.{length-map-range_with_len}
+use Rattle.span_value.specs.declared.value.Value.TheVariants.{Null, Int, Str, Bytes, Bool as Flag}
+use Rattle.span_value.specs.declared.truth.Truth.TheVariants.{False, True, Unknown}
+use Rattle.span_value.specs.declared.truth.Outcome.{Outcome}
+use Rattle.span_value.specs.declared.truth.Outcome.TheVariants as outcome
+use Rattle.span_schema.specs.declared.table.Table.{Table}
+use Rattle.span_schema.specs.Numbers.{other_kinds}
+use Rattle.span_rowcode.specs.Rows.{IsRow, row_code}
+use Rattle.span_mutate.specs.declared.row.TableRow.{TableRow}
+use Rattle.span_mutate.specs.Database.{rows_of}
+use Rattle.span_mutate.specs.Typed.{IsTyped, AreTyped}
+use Rattle.span_shard.specs.Rows.{code_of}
+use Rattle.span_shard.specs.Shard.{KeyRow}
+use Rattle.span_shard.specs.Reading.{has_short_key, IsNoTableRow}
+use Rattle.span_expr.specs.declared.cell.Failure.{Failure}
+use Rattle.span_expr.specs.declared.cell.Failure.TheVariants.{Fault, OutOfMemory}
+use Rattle.span_expr.specs.declared.expr.Expr.{Expr}
+use Rattle.span_expr.specs.declared.condition.Condition.TheVariants as condition
+use Rattle.span_expr.specs.Meaning.{val}
+use Rattle.span_expr.specs.Outcomes.{condition_of, truth_of}
+use Rattle.span_expr.specs.Places.{is_in, reads_only, moved, rank}
+use Rattle.span_expr.proofs.Places.{reads_only-wider}
+use Rattle.span_query.specs.Rows.{Row, OrFault, Rows, ◌>>=◌, value_of, is_true, append_results, keep_if, holds, filter_rows, filter_where}
+use Rattle.span_query.proofs.Results.{append_results-nil}
+use Rattle.span_rows.specs.Answers.{Gives, Adds}
+use Rattle.span_rows.proofs.Gathering.{nil-append_results, one_adds, one_fails, adding-fails}
+use Rattle.span_columns.specs.declared.leaf.Leaf.{Leaf}
+use Rattle.span_columns.specs.declared.leaf.LeafJoin.{LeafJoin}
+use Rattle.span_planner.specs.Leaves.{width_of}
+use Rattle.span_planner.specs.Maskable.{IsMaskable}
+use Rattle.span_columns.specs.Picks.{picked, pick_rows}
+use Rattle.span_columns.specs.Reads.{has_place, reads_within, condition_reads, leaf_widths, leaf_on_reads, leaf_reads}
+use Rattle.span_planner.specs.Results.{join_tables, leaf_rows}
+use Rattle.span_planner.proofs.Picked.{Agrees, agrees, val-picked, pick_rows-append}
+use Rattle.span_rowreader.specs.Meaning.{declared_row, whole_table}
+use Rattle.span_rowreader.specs.Entries.{key_row, AreNoRows, IsWhetherOf}
+use Rattle.span_tablescan.specs.Given.{picked_given, IsGivenOn}
+use Rattle.span_rowreader.specs.Longest.{IsLongest, AreLongest, HaveShortKeys}
+use Rattle.span_tablescan.specs.declared.number_test.NumberTest.{NumberTest}
+use Rattle.span_tablescan.specs.NumberTests.{meets, AreNeededFor, AreTestsOf, IsKnown, IsWhetherPass}
+use Rattle.span_rowreader.specs.Readers.{ArePickedOf}
+use Rattle.span_tablescan.specs.Scans.{passes, kept_row, AreNeeded, AreTestsWhere, IsMaskOf, IsConditionAt, IsAdded, IsAddedWhere, IsTaken}
+use Rattle.span_rowreader.proofs.DeclaredRows.{row_width}
+use Rattle.span_tablescan.proofs.ShortKeys.{given_on_all, refused_of_all}
+
+-- ---- the mask of a condition
+
+has_in_range : (f : ℕ → Bool) (a n k : ℕ) → f (a + k) ≡ true → has_place (map f (range_with_len a n)) k ≡ true
+has_in_range f a zero k is = refl
+has_in_range f a (suc n) zero is = let same : a + 0 ≡ a = omega arith in ap f (sym same) ∙ is
+has_in_range f a (suc n) (suc k) is = let same : a + 1 + k ≡ a + suc k = omega arith in has_in_range f (a + 1) n k (ap f same ∙ is)
+
+pub mask_between : (low high width : ℕ) (e : Expr) (ms : List Bool) → reads_only (is_in low high) e ≡ true → ms ≡ map (is_in low high) (range_with_len 0 width) → IsMaskOf width e ms
+mask_between low high width e ms reads is = record {
+  long = ap (length {A = Bool}) is ∙ length-map-range_with_len (is_in low high) 0 width;
+  reads = ap (λ (l : List Bool). reads_within l e) is ∙ reads_only-wider (is_in low high) (has_place (map (is_in low high) (range_with_len 0 width))) e (λ k in_it. let same : 0 + k ≡ k = omega arith in has_in_range (is_in low high) 0 width k (ap (is_in low high) same ∙ in_it)) reads;
+}
+
+-- the mask of a leaf of one table
+pub whole_mask : (schema : List Table) (leaf : Leaf) (n : ℕ) (e : Expr) → IsMaskable schema leaf → leaf.tables ≡ n ∷ [] → leaf.joins ≡ [] → leaf.filter ≡ Some e → IsMaskOf (width_of schema n) e leaf.reads
+whole_mask schema leaf n e is tables joins filter = record {
+  long = is.reads_len ∙ ap (λ (js : List LeafJoin). width_of schema is.first + leaf_widths js) joins ∙ ap (λ (k : ℕ). k + 0) (ap (width_of schema) (heads is.first n (sym is.tables ∙ tables))) ∙ plus_none (width_of schema n);
+  reads = (and_parts (list_all (leaf_on_reads (has_place leaf.reads)) leaf.joins) (condition_reads (has_place leaf.reads) (Some e)) (ap (λ (f : Option Expr). leaf_reads (has_place leaf.reads) leaf.joins f) (sym filter) ∙ is.own)).1;
+}
+  where
+    heads : (a b : ℕ) {xs ys : List ℕ} → a ∷ xs ≡ b ∷ ys → a ≡ b
+    heads a b same = cc
+
+    plus_none : (k : ℕ) → k + 0 ≡ k
+    plus_none k = omega arith
+
+-- ---- one entry
+
+module _ (schema : List Table) (n : ℕ) (ms : List Bool) (w : Option Expr) where
+  kept_own : (t : TableRow) (b : Bool) → (t.table == n) ≡ b → kept_row schema n ms w t
+      ≡ ((if b then passes w (declared_row schema t) else Some false) >>= (λ b. Some (keep_if (picked ms (declared_row schema t)) b)))
+  kept_own t b test = ap (λ (b : Bool). (if b then passes w (declared_row schema t) else Some false) >>= (λ b. Some (keep_if (picked ms (declared_row schema t)) b))) test
+
+  own_test : (t : TableRow) → t.table ≡ n → (t.table == n) ≡ true
+  own_test t own = eq-eqb t.table n own
+
+  -- an entry of another table
+  pub other_taken : (key row : List ℕ) (rows : List Row) → IsWhetherOf schema n key false → IsTaken schema n ms w key row (Ok tt) rows rows
+  other_taken key row rows whether = record {
+    of = λ t typed is cells. subst (λ (o : Rows). Adds (Ok tt) o rows rows) (sym (kept_own t false (sym (whether.of t typed is)))) (adds_none rows);
+  }
+    where
+      adds_none : (rows : List Row) → Adds (Ok tt) (Some []) rows rows
+      adds_none rows = ap (λ (l : List Row). Some l) (append-nil rows)
+
+  -- an entry of the table, which is added where it passes
+  pub own_taken : (key row : List ℕ) (found : Result (Unit {0}) Failure) (old new : List Row) → IsWhetherOf schema n key true → IsAddedWhere schema n ms w key row found old new → IsTaken schema n ms w key row found old new
+  own_taken key row found old new whether added = record { of = λ t typed is cells. added.of t typed (eqb-true t.table n (sym (whether.of t typed is))) is cells }
+
+  -- an entry that was added where its row passes
+  adds_one : (p : Row) (old new : List Row) → new ≡ old ++ p ∷ [] → Adds (Ok tt) (Some (p ∷ [])) old new
+  adds_one p old new pushed = ap (λ (l : List Row). Some l) (sym pushed)
+
+  pub passed : (key row : List ℕ) (old new : List Row) → ((t : TableRow) → IsTyped schema t → t.table ≡ n → key ≡ code_of schema t → row ≡ row_code t.cells → passes w (declared_row schema t) ≡ Some true)
+      → IsAdded schema n ms key row old new → IsAddedWhere schema n ms w key row (Ok tt) old new
+  passed key row old new does added = record {
+    of = λ t typed own is cells.
+        let p : Row = picked ms (declared_row schema t) in
+        let one : kept_row schema n ms w t ≡ Some (p ∷ []) = kept_own t true (own_test t own) ∙ ap (λ (o : OrFault Bool). o >>= (λ b. Some (keep_if p b))) (does t typed own is cells) in
+        subst (λ (o : Rows). Adds (Ok tt) o old new) (sym one) (adds_one p old new (added.of t typed own is cells));
+  }
+
+  pub not_passed : (key row : List ℕ) (rows : List Row) → ((t : TableRow) → IsTyped schema t → t.table ≡ n → key ≡ code_of schema t → row ≡ row_code t.cells → passes w (declared_row schema t) ≡ Some false)
+      → IsAddedWhere schema n ms w key row (Ok tt) rows rows
+  not_passed key row rows does_not = record {
+    of = λ t typed own is cells.
+        let p : Row = picked ms (declared_row schema t) in
+        let none : kept_row schema n ms w t ≡ Some [] = kept_own t true (own_test t own) ∙ ap (λ (o : OrFault Bool). o >>= (λ b. Some (keep_if p b))) (does_not t typed own is cells) in
+        subst (λ (o : Rows). Adds (Ok tt) o rows rows) (sym none) (ap (λ (l : List Row). Some l) (append-nil rows));
+  }
+
+  pub failed : (key row : List ℕ) (why : Failure) (old new : List Row) → ((t : TableRow) → IsTyped schema t → t.table ≡ n → key ≡ code_of schema t → row ≡ row_code t.cells → Gives (Err why) (passes w (declared_row schema t)))
+      → IsAddedWhere schema n ms w key row (Err why) old new
+  failed key row why old new fails = record {
+    of = λ t typed own is cells.
+        subst (λ (o : Rows). Adds (Err why) o old new) (sym (kept_own t true (own_test t own))) (fails_on why (passes w (declared_row schema t)) (picked ms (declared_row schema t)) (fails t typed own is cells));
+  }
+    where
+      fails_on : (why : Failure) (o : OrFault Bool) (p : Row) → Gives (Err why) o → Adds (Err why) (o >>= (λ b. Some (keep_if p b))) old new
+      fails_on Fault o p gives = ap (λ (x : OrFault Bool). x >>= (λ b. Some (keep_if p b))) gives
+      fails_on OutOfMemory o p gives = tt {0}
+
+-- ---- the condition at the columns that are read
+
+agrees_own : (ms : List Bool) → Agrees ms ms
+agrees_own ms = subst (λ (all : List Bool). Agrees all ms) (append-nil ms) (agrees ms [])
+
+-- what the condition comes to at the columns that were read is whether the row passes
+pub condition_gives : (schema : List Table) (n : ℕ) (ms : List Bool) (w : Option Expr) (at : Expr) (key row : List ℕ) (values : Row) (found : Result Bool Failure) → IsConditionAt schema n ms w at
+    → ArePickedOf schema n ms key row values → Gives found (holds at values) → (t : TableRow) → IsTyped schema t → t.table ≡ n → key ≡ code_of schema t → row ≡ row_code t.cells
+    → Gives found (passes w (declared_row schema t))
+condition_gives schema n ms w at key row values found of read gives t typed own is cells =
+    let whole : Row = declared_row schema t in
+    let wide : length whole ≡ length ms = row_width schema t ∙ ap (width_of schema) own ∙ sym of.mask.long in
+    let same : holds at values ≡ passes w whole =
+    ap (λ (e : Expr). holds e values) of.moved
+    ∙ ap (holds (moved (rank ms) of.condition)) (read.are t typed own is cells)
+    ∙ ap (λ (o : Outcome). value_of o >>= (λ v. Some (is_true v))) (val-picked ms ms (agrees_own ms) whole of.condition wide of.mask.reads)
+    ∙ ap (λ (o : Option Expr). passes o whole) (sym of.is) in
+    subst (λ (o : OrFault Bool). Gives found o) same gives
+
+-- whether a row passes, by its cells
+unknown_passes : (b : Bool) → IsKnown (condition.Known Unknown) b → Some false ≡ Some b
+unknown_passes true (inl is) = absurd (let bad : condition.Known Unknown ≡ condition.Known True = is in cc)
+unknown_passes true (inr null) = absurd (let bad : true ≡ false = null.1 in cc)
+unknown_passes false known = refl
+
+known_passes : (o : Outcome) (b : Bool) → IsKnown (condition_of o) b → (value_of o >>= (λ v. Some (is_true v))) ≡ Some b
+known_passes outcome.Fault b (inl is) = absurd (let bad : condition.Faulted ≡ condition.Known (truth_of (Flag b)) = is in cc)
+known_passes outcome.Fault b (inr null) = absurd (let bad : condition.Faulted ≡ condition.Known Unknown = null.0 in cc)
+known_passes (outcome.Val (Flag true)) true known = refl
+known_passes (outcome.Val (Flag true)) false (inl is) = absurd (let bad : condition.Known True ≡ condition.Known False = is in cc)
+known_passes (outcome.Val (Flag true)) false (inr null) = absurd (let bad : condition.Known True ≡ condition.Known Unknown = null.0 in cc)
+known_passes (outcome.Val (Flag false)) true (inl is) = absurd (let bad : condition.Known False ≡ condition.Known True = is in cc)
+known_passes (outcome.Val (Flag false)) true (inr null) = absurd (let bad : true ≡ false = null.1 in cc)
+known_passes (outcome.Val (Flag false)) false known = refl
+known_passes (outcome.Val Null) b known = unknown_passes b known
+known_passes (outcome.Val (Int i)) b known = unknown_passes b known
+known_passes (outcome.Val (Str cs)) b known = unknown_passes b known
+known_passes (outcome.Val (Bytes cs)) b known = unknown_passes b known
+
+-- the tests that a condition is tell whether a row passes it
+pub tests_where : (schema : List Table) (n : ℕ) (w : Option Expr) (e : Expr) (tests : List NumberTest) → w ≡ Some e → AreTestsOf schema n e tests → AreTestsWhere schema n w tests
+tests_where schema n w e tests is of = record {
+  numbers = of.numbers;
+  judged = λ t typed own.
+      ap (λ (o : Option Expr). passes o (declared_row schema t)) is ∙ known_passes (val (declared_row schema t) e) (list_all (meets t.cells) tests) (of.judged t typed own);
+}
+
+-- each row passes where there is no condition
+pub no_condition : (schema : List Table) (n : ℕ) (w : Option Expr) → w ≡ None → AreTestsWhere schema n w []
+no_condition schema n w none = record { numbers = tt {0}; judged = λ t typed own. ap (λ (o : Option Expr). passes o (declared_row schema t)) none }
+
+-- where it is FALSE or NULL at rows that do not meet the tests, these are needed
+pub needed_where : (schema : List Table) (n : ℕ) (w : Option Expr) (e : Expr) (tests : List NumberTest) → w ≡ Some e → AreNeededFor schema n e tests → AreNeeded schema n w tests
+needed_where schema n w e tests is of = record {
+  numbers = of.numbers;
+  unmet = λ t typed own not_met.
+      ap (λ (o : Option Expr). passes o (declared_row schema t)) is ∙ known_passes (val (declared_row schema t) e) false (of.unmet t typed own not_met);
+}
+
+pub none_needed : (schema : List Table) (n : ℕ) (w : Option Expr) (tests : List NumberTest) → tests ≡ [] → AreNeeded schema n w tests
+none_needed schema n w tests is = subst (AreNeeded schema n w) (sym is) (record { numbers = tt {0}; unmet = λ t typed own not_met. absurd (let bad : true ≡ false = not_met in cc) })
+
+cells_fit : (schema : List Table) (n : ℕ) (t : TableRow) → IsTyped schema t → t.table ≡ n → IsRow (other_kinds schema n) t.cells
+cells_fit schema n t typed own = let P : ℕ → Type 0 = λ m. IsRow (other_kinds schema m) t.cells in subst P own typed.1
+
+-- a row that does not meet them is not kept, whatever table it is of
+pub unmet_taken : (schema : List Table) (n : ℕ) (ms : List Bool) (w : Option Expr) (key row : List ℕ) (tests : List NumberTest) (rows : List Row) → AreNeeded schema n w tests
+    → IsWhetherPass (other_kinds schema n) row (λ cells. list_all (meets cells) tests) false → IsTaken schema n ms w key row (Ok tt) rows rows
+unmet_taken schema n ms w key row tests rows needed whether = record { of = λ t typed is cells. by_test t typed is cells (t.table == n) refl }
+  where
+    by_test : (t : TableRow) → IsTyped schema t → key ≡ code_of schema t → row ≡ row_code t.cells → (b : Bool) → (t.table == n) ≡ b → Adds (Ok tt) (kept_row schema n ms w t) rows rows
+    by_test t typed is cells true test =
+        let own : t.table ≡ n = eqb-true t.table n test in
+        let none : passes w (declared_row schema t) ≡ Some false = needed.unmet t typed own (sym (whether.of t.cells (cells_fit schema n t typed own) cells)) in
+        let kept : kept_row schema n ms w t ≡ Some [] = kept_own schema n ms w t true test ∙ ap (λ (o : OrFault Bool). o >>= (λ b. Some (keep_if (picked ms (declared_row schema t)) b))) none in
+        subst (λ (o : Rows). Adds (Ok tt) o rows rows) (sym kept) (ap (λ (l : List Row). Some l) (append-nil rows))
+    by_test t typed is cells false test =
+        subst (λ (o : Rows). Adds (Ok tt) o rows rows) (sym (kept_own schema n ms w t false test)) (ap (λ (l : List Row). Some l) (append-nil rows))
+
+-- a row of the table that meets them is kept, where they tell whether it passes
+pub met_added : (schema : List Table) (n : ℕ) (ms : List Bool) (w : Option Expr) (key row : List ℕ) (tests : List NumberTest) (old new : List Row) → AreTestsWhere schema n w tests
+    → IsWhetherPass (other_kinds schema n) row (λ cells. list_all (meets cells) tests) true → IsAdded schema n ms key row old new → IsAddedWhere schema n ms w key row (Ok tt) old new
+met_added schema n ms w key row tests old new of whether added =
+    passed schema n ms w key row old new (λ t typed own is cells. of.judged t typed own ∙ ap (λ (b : Bool). Some b) (sym (whether.of t.cells (cells_fit schema n t typed own) cells))) added
+
+-- ---- the entries one after another
+
+module _ (schema : List Table) (n : ℕ) (ms : List Bool) (w : Option Expr) where
+  -- what is kept of rows
+  abbrev pub kept_rows : List TableRow → Rows
+  kept_rows rows = pick_rows ms (filter_where w (whole_table schema rows n))
+
+  kept_cons : (t : TableRow) (rows : List TableRow) → kept_rows (t ∷ rows) ≡ append_results (kept_row schema n ms w t) (kept_rows rows)
+  kept_cons t rows = by_test w (t.table == n)
+    where
+      x : Row
+      x = declared_row schema t
+
+      whole : List Row
+      whole = whole_table schema rows n
+
+      picked_keep : (o : OrFault Bool) → pick_rows ms (o >>= (λ b. Some (keep_if x b))) ≡ (o >>= (λ b. Some (keep_if (picked ms x) b)))
+      picked_keep None = refl
+      picked_keep (Some true) = refl
+      picked_keep (Some false) = refl
+
+      by_test : (v : Option Expr) (b : Bool) → pick_rows ms (filter_where v (map (declared_row schema) (cond b (t ∷ rows_of n rows) (rows_of n rows))))
+          ≡ append_results ((if b then passes v x else Some false) >>= (λ b. Some (keep_if (picked ms x) b))) (pick_rows ms (filter_where v whole))
+      by_test None true = refl
+      by_test None false = refl
+      by_test (Some e) true =
+          pick_rows-append ms (holds e x >>= (λ b. Some (keep_if x b))) (filter_rows e whole)
+          ∙ ap (λ (o : Rows). append_results o (pick_rows ms (filter_rows e whole))) (picked_keep (holds e x))
+      by_test (Some e) false = sym (nil-append_results (pick_rows ms (filter_rows e whole)))
+
+  -- the rows that are left, where these values are kept of the others
+  pub record LeftRows (rows : List TableRow) (rest : List KeyRow) (values : List Row) : Type 0 where
+    pub left : List TableRow
+    pub typed : AreTyped schema left
+    pub are : rest ≡ map (key_row schema) left
+    pub kept : kept_rows rows ≡ append_results (Some values) (kept_rows left)
+
+  -- of whatever rows the entries are, these values are kept of those before the rest
+  abbrev pub KeptBefore : List KeyRow → List KeyRow → List Row → Type 0
+  KeptBefore entries rest values = (rows : List TableRow) → AreTyped schema rows → entries ≡ map (key_row schema) rows → LeftRows rows rest values
+
+  pub kept_first : (entries : List KeyRow) → KeptBefore entries entries []
+  kept_first entries rows typed is = record { left = rows; typed = typed; are = is; kept = sym (nil-append_results (kept_rows rows)) }
+
+  -- the first of the rows that are left
+  record FirstLeft (x : KeyRow) (rest : List KeyRow) (left : List TableRow) : Type 0 where
+    pub row : TableRow
+    pub later : List TableRow
+    pub is : left ≡ row ∷ later
+    pub key : x.key ≡ code_of schema row
+    pub cells : x.row ≡ row_code row.cells
+    pub rest_is : rest ≡ map (key_row schema) later
+    pub typed : IsTyped schema row × AreTyped schema later
+
+  first_left : (x : KeyRow) (rest : List KeyRow) (left : List TableRow) → AreTyped schema left → x ∷ rest ≡ map (key_row schema) left → FirstLeft x rest left
+  first_left x rest [] typed is = absurd cc
+  first_left x rest (t ∷ ts) typed is =
+      let heads : (x ≡ key_row schema t) × (rest ≡ map (key_row schema) ts) = both x (key_row schema t) rest (map (key_row schema) ts) is in
+      record {
+        row = t;
+        later = ts;
+        is = refl;
+        key = ap (λ (y : KeyRow). y.key) heads.0;
+        cells = ap (λ (y : KeyRow). y.row) heads.0;
+        rest_is = heads.1;
+        typed = (typed.0, typed.1);
+      }
+    where
+      both : (x y : KeyRow) (xs ys : List KeyRow) → x ∷ xs ≡ y ∷ ys → (x ≡ y) × (xs ≡ ys)
+      both x y xs ys e = (cc, cc)
+
+  module _ (entries rest later : List KeyRow) (x : KeyRow) (old new : List Row) (is : rest ≡ x ∷ later) (so : KeptBefore entries rest old) where
+    pub kept_more : IsTaken schema n ms w x.key x.row (Ok tt) old new → KeptBefore entries later new
+    kept_more taken rows typed whole =
+        let before = so rows typed whole in
+        let first = first_left x later before.left before.typed (sym is ∙ before.are) in
+        let next : kept_rows before.left ≡ append_results (kept_row schema n ms w first.row) (kept_rows first.later) = ap kept_rows first.is ∙ kept_cons first.row first.later in
+        record {
+          left = first.later;
+          typed = first.typed.1;
+          are = first.rest_is;
+          kept = one_adds (kept_rows rows) (kept_rows before.left) (kept_row schema n ms w first.row) (kept_rows first.later) old new before.kept next (taken.of first.row first.typed.0 first.key first.cells);
+        }
+
+    pub kept_fails : (why : Failure) → IsTaken schema n ms w x.key x.row (Err why) old new → (rows : List TableRow) → AreTyped schema rows → entries ≡ map (key_row schema) rows → Gives (Err why) (kept_rows rows)
+    kept_fails why taken rows typed whole =
+        let before = so rows typed whole in
+        let first = first_left x later before.left before.typed (sym is ∙ before.are) in
+        let next : kept_rows before.left ≡ append_results (kept_row schema n ms w first.row) (kept_rows first.later) = ap kept_rows first.is ∙ kept_cons first.row first.later in
+        one_fails why (kept_rows rows) (kept_rows before.left) (kept_row schema n ms w first.row) (kept_rows first.later) old before.kept next
+        (adding-fails why (kept_row schema n ms w first.row) old new (taken.of first.row first.typed.0 first.key first.cells))
+
+    pub not_rows_left : IsNoTableRow schema x.key x.row → AreNoRows schema entries
+    not_rows_left none rows typed whole =
+        let before = so rows typed whole in
+        let first = first_left x later before.left before.typed (sym is ∙ before.are) in
+        none.none first.row first.typed.0 first.key first.cells
+
+  pub kept_end : (entries rest : List KeyRow) (values : List Row) → rest ≡ [] → KeptBefore entries rest values → (rows : List TableRow) → AreTyped schema rows → entries ≡ map (key_row schema) rows → kept_rows rows ≡ Some values
+  kept_end entries rest values end so rows typed whole =
+      let before = so rows typed whole in
+      before.kept ∙ ap (λ (l : List TableRow). append_results (Some values) (kept_rows l)) (none_left before.left (sym end ∙ before.are)) ∙ ap (append_results (Some values)) (of_no_rows w) ∙ append_results-nil (Some values)
+    where
+      of_no_rows : (v : Option Expr) → pick_rows ms (filter_where v []) ≡ Some []
+      of_no_rows None = refl
+      of_no_rows (Some e) = refl
+
+      none_left : (left : List TableRow) → [] ≡ map (key_row schema) left → left ≡ []
+      none_left [] e = refl
+      none_left (t ∷ ts) e = absurd cc
+
+-- ---- the leaf
+
+-- a leaf of one table
+leaf_kept : (schema : List Table) (leaf : Leaf) (n : ℕ) → leaf.tables ≡ n ∷ [] → leaf.joins ≡ [] → (rows : List TableRow) → picked_given schema leaf rows ≡ kept_rows schema n leaf.reads leaf.filter rows
+leaf_kept schema leaf n tables joins rows =
+    let W : List Row = whole_table schema rows n in
+    ap (λ (ts : List ℕ). pick_rows leaf.reads (leaf_rows leaf (map (whole_table schema rows) ts))) tables
+    ∙ ap (λ (js : List LeafJoin). pick_rows leaf.reads (join_tables js [] W >>= filter_where leaf.filter)) joins
+
+module _ (schema : List Table) (leaf : Leaf) (n most : ℕ) (tables : leaf.tables ≡ n ∷ []) (joins : leaf.joins ≡ []) (longest : IsLongest schema n most) (entries : List KeyRow) where
+  abbrev short : List KeyRow
+  short = filter (has_short_key most) entries
+
+  have_short : HaveShortKeys schema leaf.tables entries short
+  have_short = record { most = most; longest = subst (λ (ts : List ℕ). AreLongest schema ts most) (sym tables) (longest, tt {0}); are = refl }
+
+  pub scan_given : (rest : List KeyRow) (values : List Row) → rest ≡ [] → KeptBefore schema n leaf.reads leaf.filter (filter (has_short_key most) entries) rest values → IsGivenOn schema leaf entries (Ok values)
+  scan_given rest values end so = given_on_all schema leaf entries short (Ok values) have_short (record {
+    of = λ rows typed is. leaf_kept schema leaf n tables joins rows ∙ kept_end schema n leaf.reads leaf.filter short rest values end so rows typed is;
+  })
+
+  pub scan_fails : (rest later : List KeyRow) (x : KeyRow) (old new : List Row) (why : Failure) → rest ≡ x ∷ later → KeptBefore schema n leaf.reads leaf.filter (filter (has_short_key most) entries) rest old
+      → IsTaken schema n leaf.reads leaf.filter x.key x.row (Err why) old new → IsGivenOn schema leaf entries (Err why)
+  scan_fails rest later x old new why is so taken = given_on_all schema leaf entries short (Err why) have_short (record {
+    of = λ rows typed whole.
+        subst (λ (o : Rows). Gives (Err why) o) (sym (leaf_kept schema leaf n tables joins rows)) (kept_fails schema n leaf.reads leaf.filter short rest later x old new is so why taken rows typed whole);
+  })
+
+  pub scan_refused : {A : Type 0} (rest later : List KeyRow) (x : KeyRow) (old : List Row) → rest ≡ x ∷ later → KeptBefore schema n leaf.reads leaf.filter (filter (has_short_key most) entries) rest old
+      → A ⊎ IsNoTableRow schema x.key x.row → A ⊎ AreNoRows schema entries
+  scan_refused rest later x old is so (inl why) = inl why
+  scan_refused rest later x old is so (inr none) = refused_of_all schema leaf.tables entries short have_short (inr (not_rows_left schema n leaf.reads leaf.filter short rest later x old old is so none))

@@ -1,0 +1,3 @@
+pub mod NumberTests
+pub mod Given
+pub mod Scans

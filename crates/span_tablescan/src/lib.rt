@@ -1,0 +1,6 @@
+//! Leaves of one table: their rows are read as a shard lends them, and comparisons of numbers judged where a row is packed.
+#![tactic(auto)]
+
+mod narrow;
+mod number_test;
+pub mod scan;
