@@ -13,8 +13,8 @@ use Rattle.span_machine.specs.declared.query.ScanLeaf.{ScanLeaf}
 use Rattle.span_machine.specs.declared.transaction.OpenTransaction.{OpenTransaction}
 use Rattle.span_machine.specs.Machine.{is_safe, with_risen_floor}
 use Rattle.span_machine.specs.Pieces.{Pieced, Journaled, machine_of, covered_by}
-use Rattle.span_journal.specs.Counts.{is_uncovered}
-use Rattle.span_journal.specs.Scans.{IsTarget, target_refusal, is_inside, is_free}
+use Rattle.span_openqueries.specs.Counts.{is_uncovered}
+use Rattle.span_openqueries.specs.Targets.{IsTarget, target_refusal, is_inside, is_free}
 
 -- ---- equal lists
 

@@ -12,7 +12,7 @@ use Rattle.span_machine.specs.declared.slot.SlotState.{SlotState}
 use Rattle.span_machine.specs.declared.transaction.Prepared.{Prepared}
 use Rattle.span_machine.specs.declared.transaction.OpenTransaction.{OpenTransaction}
 use Rattle.span_machine.specs.Machine.{Machine, if_some, is_undecided, is_all_prepared, greatest, coordinator_slot, commit_timestamp, commit_refusal}
-use Rattle.span_journal.specs.Places.{slot_has}
+use Rattle.span_transactions.specs.Places.{slot_has}
 
 -- the transaction is prepared, and for each of its mutations where the slots have its directory
 abbrev pub ready_in : List Table → List SlotState → OpenTransaction → Bool

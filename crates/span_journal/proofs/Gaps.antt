@@ -10,8 +10,8 @@ use Rattle.span_keycode.proofs.PartLaws.{gap_part, gap_apart}
 use Rattle.span_machine.specs.declared.slot.SlotState.{SlotState}
 use Rattle.span_machine.specs.declared.query.ScanLeaf.{ScanLeaf}
 use Rattle.span_machine.specs.Machine.{gap_in}
-use Rattle.span_journal.specs.Counts.{is_uncovered}
-use Rattle.span_journal.specs.Scans.{ends_by, is_inside, is_free}
+use Rattle.span_openqueries.specs.Counts.{is_uncovered}
+use Rattle.span_openqueries.specs.Targets.{ends_by, is_inside, is_free}
 
 from_parts : (lo : Option (List ℕ)) (low k : List ℕ) → IsUpto (later_of lo low) k → (is_from lo k ≡ true) × (is_from (Some low) k ≡ true)
 from_parts None low k p = (refl, not_from_false (is_lt (byte_order k low)) p)

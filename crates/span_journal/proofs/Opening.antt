@@ -1,5 +1,5 @@
 -- A query that is opened: the machine's answer.
-use Rattle.std.proofs.Common.{◌≡◌, ◌∙◌, ℕ, ◌+◌, List, [], ◌∷◌, ◌++◌, length, map, Option, None, Ok, ap, sym, subst, inl}
+use Rattle.std.proofs.Common.{◌≡◌, ◌∙◌, ℕ, ◌+◌, List, [], ◌∷◌, ◌++◌, length, Option, None, Ok, ap, sym, subst, inl}
 use Rattle.std.proofs.lemmas.List.{map-append, length-map}
 use Rattle.span_value.specs.declared.refusal.Refusal.{Refusal}
 use Rattle.span_schema.specs.declared.table.Table.{Table}

@@ -8,24 +8,13 @@ use Rattle.span_schema.specs.declared.table.Table.{Table}
 use Rattle.span_mutate.specs.declared.mutation.CheckedMutation.{CheckedMutation}
 use Rattle.span_truetime.specs.Limits.{timestamp_end}
 use Rattle.span_machine.specs.declared.slot.SlotState.{SlotState}
-use Rattle.span_machine.specs.declared.transaction.Prepared.{Prepared}
 use Rattle.span_machine.specs.declared.transaction.OpenTransaction.{OpenTransaction}
 use Rattle.span_value.specs.Results.{first_cause}
 use Rattle.span_machine.specs.Machine.{Machine, refused, unless_refused, if_some, is_transaction, is_undecided, is_prepared_at, has_conflict, have_common_root, mutations_in, mutations_refusal, prepare, prepare_transaction, prepare_refusal, prepare_timestamp, prepared, for_slot, capacity_refusal}
 use Rattle.span_machine.specs.Slots.{holds, root_at, is_at}
-use Rattle.span_journal.specs.Places.{share_directory_in}
-use Rattle.span_journal.specs.Judged.{MayPrepare, has_wrong_state, note_cause, note_refusal}
-
--- a list has an element that passes, or none is left of it
-pub any_left : (slot : ℕ) (ps : List Prepared) → list_any (λ p. not (p.slot == slot)) ps ≡ not (length (filter (λ p. not (p.slot == slot)) ps) == 0)
-any_left slot [] = refl
-any_left slot (p ∷ ps) = elim (not (p.slot == slot)) as (λ b. (b || list_any (λ p. not (p.slot == slot)) ps) ≡ not (length (cond b (p ∷ filter (λ p. not (p.slot == slot)) ps) (filter (λ p. not (p.slot == slot)) ps)) == 0)) [
-  | true ↦ some_length (filter (λ p. not (p.slot == slot)) ps)
-  | false ↦ any_left slot ps
-]
-  where
-    some_length : (xs : List Prepared) → true ≡ not (length (p ∷ xs) == 0)
-    some_length xs = grind (arith, nat_tests)
+use Rattle.span_transactions.specs.Places.{share_directory_in}
+use Rattle.span_transactions.specs.States.{has_wrong_state}
+use Rattle.span_journal.specs.Judged.{MayPrepare, note_cause, note_refusal}
 
 -- the refusal `TimestampRange`, if there is no prepare timestamp left
 abbrev pub timestamp_refusal : SlotState → Option Refusal

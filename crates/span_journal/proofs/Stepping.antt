@@ -11,8 +11,10 @@ use Rattle.span_value.specs.declared.refusal.Refusal.{Refusal}
 use Rattle.span_value.specs.Results.{first_cause}
 use Rattle.span_keycode.specs.declared.range.KeyRange.{KeyRange}
 use Rattle.span_fragment.specs.declared.piece.Piece.{Piece}
-use Rattle.span_journal.specs.Judged.{leaf_of, has_wrong_state, IsNoted, IsApplied, MayScan, IsRegistered, decision_of}
-use Rattle.span_journal.specs.Scans.{IsTarget, target_refusal, is_free, piece_refusal, register_refusal, IsRisen}
+use Rattle.span_transactions.specs.States.{has_wrong_state, decision_of}
+use Rattle.span_openqueries.specs.Targets.{IsTarget, target_refusal, is_free}
+use Rattle.span_journal.specs.Judged.{leaf_of, IsNoted, IsApplied, MayScan, IsRegistered}
+use Rattle.span_journal.specs.Scans.{piece_refusal, register_refusal, IsRisen}
 use Rattle.span_journal.proofs.Gaps.{gap_free}
 use Rattle.span_journal.proofs.Preparing.{may_note}
 use Rattle.span_value.specs.declared.refusal.Refusal.TheVariants as refusal

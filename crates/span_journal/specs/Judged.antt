@@ -1,5 +1,5 @@
 use Rattle.std.specs.List.{list_all}
-use Rattle.std.specs.Prelude.{◌≡◌, ◌<◌, ℕ, Bool, false, true, not, ◌||◌, nat_le, nat_lt, List, [], ◌∷◌, length, find, option_map, slice_get, slice_set, Option, Some, None, Result, Ok, Err, ◌⊎◌}
+use Rattle.std.specs.Prelude.{◌≡◌, ◌<◌, ℕ, false, true, nat_le, nat_lt, List, [], ◌∷◌, length, find, option_map, slice_get, slice_set, Option, Some, None, Result, Ok, Err, ◌⊎◌}
 use Rattle.span_columns.specs.declared.leaf.Leaf.{Leaf}
 use Rattle.span_fragment.specs.declared.piece.Piece.{Piece}
 use Rattle.span_query.specs.declared.query.BoundQuery.{BoundQuery}
@@ -16,16 +16,16 @@ use Rattle.span_machine.specs.declared.slot.SlotState.{SlotState}
 use Rattle.span_machine.specs.declared.query.ScanLeaf.{ScanLeaf}
 use Rattle.span_machine.specs.declared.query.OpenQuery.{OpenQuery}
 use Rattle.span_machine.specs.declared.transaction.OpenTransaction.{OpenTransaction}
-use Rattle.span_machine.specs.declared.transaction.Decision.{Decision}
-use Rattle.span_machine.specs.declared.transaction.Decision.TheVariants as decision
 use Rattle.span_value.specs.Results.{first_cause}
 use Rattle.span_machine.specs.Limits.{most_slots}
-use Rattle.span_machine.specs.Machine.{trim_refusal, Machine, if_some, is_transaction, is_undecided, is_prepared_at, is_query, mutations_in, prepare, prepare_refusal, prepare_timestamp, prepared, apply_refusal, applied_at, changed_first, without_first, is_covered, is_safe, with_risen_floor, scan, with_slot_state, gap_in, refused, slot_of, split_refusal}
+use Rattle.span_machine.specs.Machine.{trim_refusal, Machine, if_some, is_transaction, is_query, mutations_in, prepare, prepare_refusal, prepare_timestamp, prepared, apply_refusal, applied_at, changed_first, without_first, is_covered, is_safe, with_risen_floor, scan, with_slot_state, gap_in, refused, slot_of, split_refusal}
 use Rattle.span_machine.specs.Pieces.{Pieced, Journaled, covered_by, machine_of}
-use Rattle.span_journal.specs.Scans.{is_free, register_refusal, IsRisen, taken_of}
+use Rattle.span_transactions.specs.States.{decision_of, has_wrong_state}
+use Rattle.span_openqueries.specs.Targets.{is_free, taken_of}
+use Rattle.span_journal.specs.Scans.{register_refusal, IsRisen}
 use Rattle.span_journal.specs.declared.journal.Gap.{Gap}
 use Rattle.span_journal.specs.declared.journal.Cut.{Cut}
-use Rattle.span_journal.specs.declared.taken.Taken.{Taken}
+use Rattle.span_openqueries.specs.declared.taken.Taken.{Taken}
 
 -- the reply of a call's result
 abbrev pub as_reply : {A : Type 0} → (A → Reply) → Result A Refusal → Reply
@@ -37,11 +37,6 @@ abbrev pub decision_reply : Option ℕ → Reply
 decision_reply None = reply.Aborted
 decision_reply (Some ts) = reply.Decided ts
 
--- the decision of a commit timestamp, or of none
-abbrev pub decision_of : Option ℕ → Decision
-decision_of None = decision.Aborted
-decision_of (Some ts) = decision.Committed ts
-
 -- nothing but its mutations keeps the transaction from being prepared at the slot
 pub record MayPrepare (schema : List Table) (m : Machine) (owner txn slot : ℕ) (ms : List CheckedMutation) : Type 0
   where
@@ -51,10 +46,6 @@ pub record MayPrepare (schema : List Table) (m : Machine) (owner txn slot : ℕ)
     pub here : slice_get m.slots slot ≡ Some slot_state
     pub accepted : prepare_refusal schema m slot transaction slot_state ≡ None
     pub mutations : ms ≡ mutations_in schema slot_state transaction.mutations
-
--- the transaction may not be prepared at the slot: it is decided, or prepared there
-abbrev pub has_wrong_state : ℕ → OpenTransaction → Bool
-has_wrong_state slot t = not (is_undecided t) || is_prepared_at slot t
 
 -- why the transaction is not noted as prepared at the slot: its state, or no prepare timestamp left
 abbrev pub note_cause : ℕ → OpenTransaction → SlotState → Option Refusal

@@ -1,7 +1,8 @@
 //! The journal and its calls.
 ghost use Rattle.std.specs.Prelude.{◌≡◌, ℕ, List, ◌<◌, ◌≤◌, ◌+◌, ◌^◌, [], ◌∷◌, ◌++◌, length, count_by, find, slice_get, IfOk, IfErr, IfSome, IfNone, MatchOption, OnOk, OnErr, Some, None, Ok, true};
 ghost use Rattle.span_machine.specs.Machine.{Answers, IsAnswer, start, is_transaction, is_undecided, is_query, commit_refusal, commit_timestamp, begin, begun, decide, apply_step, advance, trim, trim_refusal, open_query, open_refusal, finish, close, refused, without_first, is_prepared_at, split_at, split_in_two};
-ghost use Rattle.span_journal.specs.declared.journal.TheConstants.{MOST_TRANSACTIONS, MOST_COMMITS, MOST_QUERIES, MOST_SLOTS, NUMBER_END};
+ghost use Rattle.span_journal.specs.declared.journal.TheConstants.{MOST_TRANSACTIONS, MOST_COMMITS, MOST_QUERIES, NUMBER_END};
+ghost use Rattle.span_transactions.specs.declared.slots.TheConstants.{MOST_SLOTS};
 ghost use Rattle.span_machine.specs.Limits.{most_transactions, most_commits, most_queries, most_slots, number_end};
 ghost use Rattle.span_truetime.specs.Time.{timestamp_of};
 ghost use Rattle.span_schema.specs.declared.table.Table.{Table};
@@ -10,27 +11,10 @@ ghost use Rattle.span_planner.specs.Plannable.{IsPlannable};
 ghost use Rattle.span_machine.specs.Pieces.{machine_of, unread};
 ghost use Rattle.span_machine.specs.declared.transaction.OpenTransaction.{OpenTransaction};
 ghost use Rattle.span_machine.specs.declared.step.Reply.TheVariants as reply_of;
-ghost use Rattle.span_journal.specs.Choices.{chosen_mutations};
+ghost use Rattle.span_transactions.specs.Choices.{chosen_mutations};
 ghost use Rattle.span_journal.specs.Judged.{as_reply, decision_reply, MayPrepare, IsUnprepared, IsNoted, IsUnnoted, IsApplied, IsGap, IsUnclaimed, IsRaised, leaf_of, IsRegistered, IsUnregistered, IsUnchanged, IsCovered, IsTaken, MaySplit, IsCutOf};
 
-use super::choice::{Chosen, has_any, mutations_in};
-use super::commit::KeptCommit;
-use super::conflict::has_conflict;
 use super::owned::{append, drop_at};
-use super::queries::{cover_at, find_query, find_target, take_at};
-use super::query::KeptQuery;
-use super::ranges::is_free;
-use super::slots::{
-    begins_at, commit_timestamp, coordinator_slot, cut_at, gap_in, is_ready, is_safe_at,
-    prepare_timestamp, raise_last, risen_floor, set_floor, set_horizon, set_last, slot_at, slot_of,
-    upper_part,
-};
-use super::taken::Taken;
-use super::transaction::KeptTransaction;
-use super::transactions::{
-    abort_at, add_prepared_at, check_apply, commit_at, count_prepared, count_undecided,
-    end_prepared_at, find_transaction, is_any_prepared, may_prepare, remove_at,
-};
 use span_columns::leaf::Leaf;
 use span_fragment::piece::Piece;
 use span_keycode::key::Key;
@@ -41,9 +25,26 @@ use span_machine::step::Verdict;
 use span_machine::transaction::Prepared;
 use span_mutate::mutation::CheckedMutation;
 use span_mutate::transaction::Transaction;
+use span_openqueries::queries::{cover_at, find_query, find_target, slot_at, take_at};
+use span_openqueries::query::KeptQuery;
+use span_openqueries::ranges::{gap_in, is_free};
+use span_openqueries::taken::Taken;
 use span_params::params::Params;
 use span_query::query::{BoundQuery, Statement};
 use span_schema::schema::Schema;
+use span_transactions::choice::{Chosen, has_any, mutations_in};
+use span_transactions::commit::KeptCommit;
+use span_transactions::conflict::has_conflict;
+use span_transactions::slots::{
+    MOST_SLOTS, begins_at, commit_timestamp, coordinator_slot, cut_at, is_ready, is_safe_at,
+    prepare_timestamp, raise_last, risen_floor, set_floor, set_horizon, set_last, slot_of,
+    upper_part,
+};
+use span_transactions::transaction::KeptTransaction;
+use span_transactions::transactions::{
+    abort_at, add_prepared_at, check_apply, commit_at, count_prepared, count_undecided,
+    end_prepared_at, find_transaction, is_any_prepared, may_prepare, remove_at,
+};
 use span_truetime::bound::{Bound, choose};
 use span_truetime::interval::Interval;
 use span_value::owned::keep_with;
@@ -61,9 +62,6 @@ pub const MOST_COMMITS: usize = 65536;
 
 /// How many queries may be open at once.
 pub const MOST_QUERIES: usize = 64;
-
-/// How many slots there may be.
-pub const MOST_SLOTS: usize = 16;
 
 /// Numbers of transactions and of queries are below this.
 pub const NUMBER_END: u64 = 1 << 63;

@@ -4,15 +4,5 @@
 //! together.
 #![tactic(auto)]
 
-pub mod choice;
-pub mod commit;
-mod conflict;
 pub mod journal;
 mod owned;
-mod queries;
-mod query;
-mod ranges;
-mod slots;
-pub mod taken;
-mod transaction;
-mod transactions;

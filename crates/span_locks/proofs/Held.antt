@@ -31,7 +31,7 @@ use Rattle.span_machine.specs.Pieces.{Pieced, Journaled, machine_of, queries_of}
 use Rattle.span_machine_laws.proofs.Lists.{all_found, found_passes}
 use Rattle.span_machine_laws.proofs.Tests.{first_true, second_true, number_same}
 use Rattle.span_version_laws.specs.Kept.{IsPieced}
-use Rattle.span_journal.specs.declared.taken.Taken.{Taken}
+use Rattle.span_openqueries.specs.declared.taken.Taken.{Taken}
 use Rattle.span_journal.specs.Judged.{leaf_of}
 use Rattle.span_parts.specs.Asked.{AreAsked, IsQuestionOf}
 use Rattle.span_parts.specs.Whole.{Shards, IsWhole, BelongsAt, GoesWith, GoesAt, StaysAt, IsCutAt, IsCommitted, AreMeant, IsFaulty}

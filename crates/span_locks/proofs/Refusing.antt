@@ -19,7 +19,7 @@ use Rattle.span_machine.specs.declared.step.Reply.TheVariants as reply
 use Rattle.span_machine.specs.Machine.{Machine, Answer, Answers, refused, open_query, scan, finish}
 use Rattle.span_machine.specs.Pieces.{Journaled, machine_of}
 use Rattle.span_journal.specs.declared.journal.Opened.{Opened}
-use Rattle.span_journal.specs.declared.taken.Taken.{Taken}
+use Rattle.span_openqueries.specs.declared.taken.Taken.{Taken}
 use Rattle.span_parts.specs.Replies.{as_reply, opened_reply}
 use Rattle.span_locks.specs.declared.board.Role.{Role}
 use Rattle.span_locks.specs.Held.{IsKeeper}

@@ -16,7 +16,7 @@ use Rattle.span_machine.specs.declared.step.Reply.TheVariants.{Refused}
 use Rattle.span_machine.specs.Machine.{open_query, scan, finish}
 use Rattle.span_machine.specs.Meaning.{means}
 use Rattle.span_machine.specs.Tables.{tables}
-use Rattle.span_journal.specs.declared.taken.Taken.{Taken}
+use Rattle.span_openqueries.specs.declared.taken.Taken.{Taken}
 use Rattle.span_locks.specs.Replies.{RepliesOnce, IsAmong}
 
 -- the query text is understood, and the machine refuses to open it by this reading of the clock

@@ -6,11 +6,12 @@ ghost use Rattle.span_machine.specs.Machine.{holds, root_at};
 ghost use Rattle.span_machine.specs.Pieces.{machine_of};
 ghost use Rattle.span_locks.specs.Replies.{IsNext};
 
-use span_journal::journal::{Journal, MOST_SLOTS};
+use span_journal::journal::Journal;
 use span_machine::slot::SlotState;
 use span_mutate::mutation::CheckedMutation;
 use span_mutate::root_key::is_in_range;
 use span_schema::schema::Schema;
+use span_transactions::slots::MOST_SLOTS;
 
 /// How many slots there may be.
 pub const SLOTS: usize = MOST_SLOTS;

@@ -26,7 +26,8 @@ use Rattle.span_version_laws.proofs.AllKept.{slots_stay, all_kept_set}
 use Rattle.span_version_laws.proofs.Steps.{kept_apply_elsewhere, kept_trim_elsewhere}
 use Rattle.span_version_laws.proofs.Applying.{kept_committed, kept_aborted}
 use Rattle.span_version_laws.proofs.Later.{later_committed}
-use Rattle.span_journal.specs.Judged.{IsApplied, IsRaised, decision_of}
+use Rattle.span_transactions.specs.States.{decision_of}
+use Rattle.span_journal.specs.Judged.{IsApplied, IsRaised}
 use Rattle.span_parts.specs.Whole.{Shards, IsWhole}
 use Rattle.span_parts.proofs.Changes.{set_there}
 use Rattle.span_parts.proofs.Wholes.{no_text, goes_to, pieces_same}

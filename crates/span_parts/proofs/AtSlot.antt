@@ -19,7 +19,8 @@ use Rattle.span_machine.specs.Machine.{Machine, Answer, Answers, IsAnswer, if_so
 use Rattle.span_machine.specs.Pieces.{Journaled, machine_of}
 use Rattle.span_journal.specs.declared.journal.Gap.{Gap}
 use Rattle.span_journal.specs.Judged.{leaf_of, IsUnclaimed, MayScan, IsRegistered, IsUnregistered, IsUnchanged}
-use Rattle.span_journal.specs.Scans.{is_free, piece_refusal, register_refusal}
+use Rattle.span_journal.specs.Scans.{piece_refusal, register_refusal}
+use Rattle.span_openqueries.specs.Targets.{is_free}
 use Rattle.span_parts.specs.Whole.{Shards, IsWhole, GoesWith, StaysAt, IsRead}
 use Rattle.span_parts.proofs.Changes.{of_some, some_same}
 use Rattle.span_parts.proofs.Scanning.{scanned_leaf, scanned_answer, scanned_whole}

@@ -31,7 +31,8 @@ use Rattle.span_version_laws.specs.Kept.{AreKept}
 use Rattle.span_version_laws.proofs.AllKept.{slots_stay, all_kept_set}
 use Rattle.span_version_laws.proofs.Steps.{kept_prepare_elsewhere}
 use Rattle.span_version_laws.proofs.Preparing.{its_typed, prepare_free, prepare_new, prepare_fault, prepare_well, kept_prepared, live_prepared}
-use Rattle.span_journal.specs.Judged.{MayPrepare, IsNoted, IsUnnoted, has_wrong_state, note_cause}
+use Rattle.span_transactions.specs.States.{has_wrong_state}
+use Rattle.span_journal.specs.Judged.{MayPrepare, IsNoted, IsUnnoted, note_cause}
 use Rattle.span_journal.proofs.Preparing.{timestamp_refusal, note_stamp}
 use Rattle.span_parts.specs.Whole.{Shards, IsWhole}
 use Rattle.span_parts.proofs.Changes.{some_same}

@@ -17,8 +17,8 @@ use Rattle.span_machine.specs.Pieces.{Pieced, Journaled, machine_of, queries_of}
 use Rattle.span_machine_laws.proofs.Reached.{reached_tables, finish_meant}
 use Rattle.span_version_laws.specs.Kept.{ArePieced}
 use Rattle.span_version_laws.proofs.Covers.{found_query, pieced_finish, pieced_without}
-use Rattle.span_journal.specs.declared.taken.Taken.{Taken}
-use Rattle.span_journal.specs.Scans.{taken_of}
+use Rattle.span_openqueries.specs.declared.taken.Taken.{Taken}
+use Rattle.span_openqueries.specs.Targets.{taken_of}
 use Rattle.span_journal.specs.Judged.{IsTaken}
 use Rattle.span_journal.proofs.Stepping.{close_some}
 use Rattle.span_parts.specs.Asked.{IsQuestionOf}

@@ -5,7 +5,7 @@ use Rattle.span_params.specs.declared.params.Parameter.{Parameter}
 use Rattle.span_query.specs.declared.query.Statement.{Statement}
 use Rattle.span_machine.specs.declared.query.OpenQuery.{OpenQuery}
 use Rattle.span_machine.specs.Machine.{Machine, is_query}
-use Rattle.span_journal.specs.declared.taken.Taken.{Taken}
+use Rattle.span_openqueries.specs.declared.taken.Taken.{Taken}
 
 -- a relation of query texts, with their parameters, and statements
 abbrev pub Asks : Type 1

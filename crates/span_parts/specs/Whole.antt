@@ -29,7 +29,7 @@ use Rattle.span_machine.specs.Tables.{tables}
 use Rattle.span_machine.specs.Pieces.{Journaled, machine_of}
 use Rattle.span_machine_laws.proofs.Reached.{IsReached}
 use Rattle.span_journal.specs.Judged.{MayPrepare}
-use Rattle.span_journal.specs.declared.taken.Taken.{Taken}
+use Rattle.span_openqueries.specs.declared.taken.Taken.{Taken}
 pub use Rattle.span_version_laws.specs.Kept.{AreKept, AreAllKept, ArePieced}
 
 -- the shards of all slots in use, by number

@@ -12,8 +12,8 @@ ghost use Rattle.span_parts.specs.Whole.{Shards, IsWhole, GoesWith, IsCommitted,
 
 use super::steps::decide;
 use span_journal::journal::Journal;
-use span_journal::taken::Taken;
 use span_machine::step::Verdict;
+use span_openqueries::taken::Taken;
 use span_schema::schema::Schema;
 use span_truetime::interval::Interval;
 use span_value::refusal::Refusal;

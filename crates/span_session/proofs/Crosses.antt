@@ -21,9 +21,9 @@ use Rattle.span_machine.specs.contracts.query.OpenQuery as OpenQuery
 use Rattle.span_machine.specs.contracts.query.ScanLeaf as ScanLeaf
 use Rattle.span_machine.proofs.slot.SlotState.TheSendSync as of_slot
 use Rattle.span_fragment.proofs.piece.Piece.TheSendSync as of_piece
-use Rattle.span_journal.proofs.transaction.KeptTransaction.TheSendSync as of_transaction
-use Rattle.span_journal.specs.contracts.commit.KeptCommit as KeptCommit
-use Rattle.span_journal.specs.contracts.query.KeptQuery as KeptQuery
+use Rattle.span_transactions.proofs.transaction.KeptTransaction.TheSendSync as of_transaction
+use Rattle.span_transactions.specs.contracts.commit.KeptCommit as KeptCommit
+use Rattle.span_openqueries.specs.contracts.query.KeptQuery as KeptQuery
 use Rattle.span_journal.specs.contracts.journal.Journal as Journal
 use Rattle.atomic_table.proofs.badge.Badge.TheSendSync as of_badge
 use Rattle.span_locks.specs.declared.board.Naming.{Ghosts}

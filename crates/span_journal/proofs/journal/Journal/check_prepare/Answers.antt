@@ -7,8 +7,8 @@ use Rattle.span_machine.specs.Machine.{is_transaction, is_prepared_at, holds, ro
 use Rattle.span_machine.specs.Pieces.{Journaled, machine_of}
 use Rattle.span_schema.specs.declared.table.Table.{Table}
 use Rattle.span_mutate.specs.declared.mutation.CheckedMutation.{CheckedMutation}
-use Rattle.span_journal.specs.Choices.{chosen_mutations}
-use Rattle.span_journal.specs.Places.{share_directory_in}
+use Rattle.span_transactions.specs.Choices.{chosen_mutations}
+use Rattle.span_transactions.specs.Places.{share_directory_in}
 use Rattle.span_journal.proofs.Preparing.{refused_wrong, refused_none, refused_conflict, may_prepare, refused_unknown, refused_slot}
 use Rattle.span_journal.proofs.journal.Journal.check_prepare.Goals as goal
 

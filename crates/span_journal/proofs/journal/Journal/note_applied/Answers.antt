@@ -5,7 +5,8 @@ use Rattle.span_machine.specs.declared.slot.SlotState.{SlotState}
 use Rattle.span_machine.specs.Machine.{is_transaction, without_prepared}
 use Rattle.span_machine.specs.Place.{IsPlace}
 use Rattle.span_machine.specs.Pieces.{Journaled, machine_of}
-use Rattle.span_journal.specs.Judged.{IsApplied, decision_of}
+use Rattle.span_transactions.specs.States.{decision_of}
+use Rattle.span_journal.specs.Judged.{IsApplied}
 use Rattle.span_journal.proofs.Stepping.{applied_noted}
 use Rattle.span_journal.proofs.journal.Journal.note_applied.Goals as goal
 

@@ -6,9 +6,10 @@ use Rattle.span_machine.specs.declared.slot.SlotState.{SlotState}
 use Rattle.span_machine.specs.Machine.{is_transaction, is_undecided, is_prepared_at, add_prepared}
 use Rattle.span_machine.specs.Place.{IsPlace}
 use Rattle.span_machine.specs.Pieces.{Journaled, machine_of}
-use Rattle.span_journal.specs.Judged.{IsNoted, has_wrong_state}
+use Rattle.span_transactions.specs.States.{has_wrong_state}
+use Rattle.span_journal.specs.Judged.{IsNoted}
 use Rattle.span_journal.proofs.Preparing.{not_true, not_false, unnoted_transaction, unnoted_slot, unnoted_state, unnoted_late}
-use Rattle.span_journal.proofs.PreparedOnce.{or_right}
+use Rattle.span_transactions.proofs.PreparedOnce.{or_right}
 use Rattle.span_journal.proofs.Stepping.{noted}
 use Rattle.span_journal.proofs.journal.Journal.note_prepared.Goals as goal
 

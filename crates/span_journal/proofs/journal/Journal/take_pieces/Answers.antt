@@ -6,7 +6,7 @@ use Rattle.span_machine.specs.Place.{IsPlace}
 use Rattle.span_machine.specs.Pieces.{Pieced, Journaled, machine_of}
 use Rattle.span_value.specs.declared.refusal.Refusal.TheVariants as refusal
 use Rattle.span_journal.specs.Judged.{IsTaken}
-use Rattle.span_journal.specs.Scans.{taken_of}
+use Rattle.span_openqueries.specs.Targets.{taken_of}
 use Rattle.span_journal.proofs.Stepping.{finish_none, finish_uncovered}
 use Rattle.span_journal.proofs.journal.Journal.take_pieces.Goals as goal
 

@@ -1,0 +1,3 @@
+pub mod PreparedOnce
+pub mod Choosing
+pub mod Conflicts

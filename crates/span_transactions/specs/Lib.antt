@@ -1,0 +1,4 @@
+pub mod States
+pub mod Places
+pub mod Choices
+pub mod Conflicts
