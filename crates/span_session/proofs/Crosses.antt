@@ -14,9 +14,9 @@ use Rattle.span_query.specs.contracts.query.Block as Block
 use Rattle.span_query.specs.contracts.query.BoundQuery as BoundQuery
 use Rattle.span_query.specs.contracts.query.Statement as Statement
 use Rattle.span_query.proofs.query.BoundQuery.TheLaws.TheKnot as of_query
-use Rattle.span_planner.specs.contracts.leaf.LeafJoin as LeafJoin
-use Rattle.span_planner.specs.contracts.leaf.Leaf as Leaf
-use Rattle.span_planner.specs.contracts.leaf.Plan as Plan
+use Rattle.span_columns.specs.contracts.leaf.LeafJoin as LeafJoin
+use Rattle.span_columns.specs.contracts.leaf.Leaf as Leaf
+use Rattle.span_columns.specs.contracts.leaf.Plan as Plan
 use Rattle.span_machine.specs.contracts.query.OpenQuery as OpenQuery
 use Rattle.span_machine.specs.contracts.query.ScanLeaf as ScanLeaf
 use Rattle.span_machine.proofs.slot.SlotState.TheSendSync as of_slot
