@@ -148,7 +148,7 @@ def build_libraries(crates):
     """Builds what these crates use, lowest first, where it was not built."""
     needed = {low.name: low for crate in crates for low in crate.below()}
     for low in sorted(needed.values(), key=lambda it: len(it.below())):
-        subprocess.run(["rt", "lib"], cwd=low.folder, check=True, stdout=subprocess.DEVNULL)
+        subprocess.run([os.path.join(TOP, "tools", "rt"), "lib"], cwd=low.folder, check=True, stdout=subprocess.DEVNULL)
 
 
 class Function:

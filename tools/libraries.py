@@ -20,16 +20,23 @@ import sys
 TOP = os.path.dirname(os.path.dirname(os.path.abspath(__file__)))
 
 
-def toolchain():
-    """The program `rt`, as a module."""
+def program():
+    """The program `rt`, as a module, which computes the sum of each crate, and which crates are below it, once."""
     file = os.path.realpath(shutil.which("rt") or sys.exit("libraries: rt is not on the PATH"))
     sys.path.insert(0, os.path.dirname(file))
     loader = importlib.machinery.SourceFileLoader("rt_program", file)
     module = importlib.util.module_from_spec(importlib.util.spec_from_loader("rt_program", loader))
     loader.exec_module(module)
-    # (the sum of a crate and all below it is asked for again and again)
-    module.rtlib.Crate = module.Crate
+    below = functools.cache(module.rtlib.Crate.below)
+    module.rtlib.Crate.below = lambda crate: list(below(crate))
     module.rtlib.Crate.stamp = functools.cache(module.rtlib.Crate.stamp)
+    return module
+
+
+def toolchain():
+    """The program `rt`, whose crates are those of `rt ci`."""
+    module = program()
+    module.rtlib.Crate = module.Crate
     return module
 
 
@@ -114,6 +121,8 @@ def main():
     if len(sys.argv) > 2 or any(word.startswith("-") for word in sys.argv[1:]):
         sys.exit(f"libraries: takes the folder of a clone, or no word, and was given {' '.join(sys.argv[1:])}")
     clone = os.path.abspath(sys.argv[1]) if len(sys.argv) > 1 else None
+    if clone == TOP:
+        sys.exit("libraries: CLONE is another clone than this one")
     rt = toolchain()
     crates = [crate for crate in crates_of(rt, TOP) if not crate.is_program]
     source = OfAClone(rt, clone) if clone else KeptByTheKit(rt, crates)

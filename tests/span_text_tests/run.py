@@ -195,7 +195,7 @@ def arguments():
 def build():
     """Proves and builds the program, where that was not done."""
     if not os.path.exists(PROGRAM):
-        subprocess.run(["rt", "run"], cwd=CRATE, stdout=subprocess.DEVNULL, stderr=subprocess.DEVNULL, check=False)
+        subprocess.run([os.path.join(TOP, "tools", "rt"), "run"], cwd=CRATE, stdout=subprocess.DEVNULL, stderr=subprocess.DEVNULL, check=False)
     if not os.path.exists(PROGRAM):
         sys.exit("texts: spansql can't be built: run `rt check` in " + CRATE)
 
