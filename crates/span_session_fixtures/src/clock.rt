@@ -1,5 +1,5 @@
 //! Clocks and gates for tests.
-use span_session::queries::Gate;
+use span_scans::workers::Gate;
 use span_truetime::clock::Clock;
 use span_truetime::interval::Interval;
 use std::sync::atomic::{AtomicU64, Ordering};

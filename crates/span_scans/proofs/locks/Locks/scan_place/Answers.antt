@@ -1,6 +1,6 @@
 use Rattle.std.proofs.Common.{sym}
 use Rattle.span_locks.proofs.Held.{plan_leaf}
-use Rattle.span_session.proofs.db.Db.scan_place.Goals as goal
+use Rattle.span_scans.proofs.locks.Locks.scan_place.Goals as goal
 
 pub scan_slot-requires : goal.scan_slot-requires
 scan_slot-requires g c =

@@ -6,7 +6,7 @@ use Rattle.span_locks.specs.Answers.{IsAnswered}
 use Rattle.span_locks.specs.Refusing.{IsUnfinished}
 use Rattle.span_locks.proofs.Held.{rows_answer}
 use Rattle.span_locks.proofs.Refusing.{result_unfinished}
-use Rattle.span_session.proofs.db.Db.finish.Goals as goal
+use Rattle.span_scans.proofs.locks.Locks.finish.Goals as goal
 
 pub returns-in-Ok-clause-rows : goal.returns-in-Ok-clause-rows
 returns-in-Ok-clause-rows g c =

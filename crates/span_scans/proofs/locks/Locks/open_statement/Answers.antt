@@ -2,7 +2,7 @@ use Rattle.std.proofs.Common.{Ok, sym, subst}
 use Rattle.span_query.specs.declared.query.Statement.{Statement}
 use Rattle.span_binder.specs.Understands.{Understands}
 use Rattle.span_locks.proofs.Refusing.{copies_same, result_unopened}
-use Rattle.span_session.proofs.db.Db.open_statement.Goals as goal
+use Rattle.span_scans.proofs.locks.Locks.open_statement.Goals as goal
 
 pub returns-clause-refused : goal.returns-clause-refused
 returns-clause-refused g c =

@@ -3,8 +3,7 @@ ghost use Rattle.std.specs.Prelude.{◌≡◌, ◌<◌, IfErr};
 ghost use Rattle.span_locks.specs.Answers.{IsPlanOf, IsLeafOf};
 ghost use Rattle.span_locks.specs.Refusing.{IsUnscanned};
 
-use crate::db::Db;
-use crate::queries::Gate;
+use crate::locks::Locks;
 use crate::question::leaf_at;
 use crate::scan_queue::ScanQueue;
 use span_columns::leaf::{Leaf, Plan};
@@ -21,14 +20,29 @@ use std::sync::{Mutex, Wait};
 use std::thread;
 use std::thread::Threads;
 
+/// What is called around a scan. The workers of a query share it.
+pub trait Gate {
+    /// With no lock held, before the scan.
+    fn before_scan(&self, leaf: usize, slot: usize);
+
+    /// Between the read and the registering, with the slot's lock alone held.
+    fn in_scan(&self, leaf: usize, slot: usize);
+
+    /// With no lock held, after the scan.
+    fn after_scan(&self, leaf: usize, slot: usize);
+}
+
 /// A query that is open, with its plan.
 #[derive(Drop)]
-pub(crate) struct PlannedQuery<'a> {
-    pub(crate) text: &'a str,
-    pub(crate) params: &'a Params,
-    pub(crate) plan: &'a Plan,
+pub struct PlannedQuery<'a> {
+    /// Its text.
+    pub text: &'a str,
+    /// Its parameters.
+    pub params: &'a Params,
+    /// Its plan.
+    pub plan: &'a Plan,
     /// Its number in the journal.
-    pub(crate) number: u64,
+    pub number: u64,
 }
 
 /// A leaf of a query in one slot.
@@ -43,10 +57,10 @@ struct SlotLeaf<'a> {
     slot: usize,
 }
 
-impl<J: Naming + Send + Sync> Db<J> {
+impl<J: Naming + Send + Sync> Locks<J> {
     /// Scans all leaves of a query in the slots in use, and then in those that cuts have added meanwhile: a cut moves keys to a slot that
     /// was not in use. The first refusal of a scan.
-    pub(crate) fn scan_leaves<R: Threads + Wait + Sync, C: Clock + Sync, G: Gate + Sync>(
+    pub fn scan_leaves<R: Threads + Wait + Sync, C: Clock + Sync, G: Gate + Sync>(
         &self,
         rt: &R,
         clock: &C,
@@ -118,7 +132,7 @@ impl<J: Naming + Send + Sync> Db<J> {
     }
 }
 
-impl<J: Naming> Db<J> {
+impl<J: Naming> Locks<J> {
     /// How many slots are in use: the first ones.
     fn count_slots<R: Wait>(&self, rt: &R) -> usize {
         self.journal.lock(rt).count_slots()
