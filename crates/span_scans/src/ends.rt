@@ -11,13 +11,13 @@ ghost use Rattle.span_locks.specs.Rule.{Sees};
 
 use crate::locks::Locks;
 use crate::question::{copy_question, rows_of, understand_and_plan};
+use span_columns::leaf::Plan;
 use span_gather::rows::Rows;
 use span_journal::journal::Opened;
 use span_locks::board::Naming;
 use span_locks::session::Session;
 use span_openqueries::taken::Taken;
 use span_params::params::Params;
-use span_columns::leaf::Plan;
 use span_query::query::Statement;
 use span_truetime::bound::Bound;
 use span_truetime::interval::Interval;
