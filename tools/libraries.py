@@ -16,12 +16,32 @@ import json
 import os
 import shutil
 import sys
+import threading
 
 TOP = os.path.dirname(os.path.dirname(os.path.abspath(__file__)))
 
 
+def with_each_once(work_out):
+    """A sum of a crate and all below it that is worked out from the files at each call, and in one call once for each crate."""
+    of_thread = threading.local()
+
+    def sum_of_crate(crate):
+        found = getattr(of_thread, "found", None)
+        if found is None:
+            of_thread.found = {}
+            try:
+                return work_out(crate)
+            finally:
+                of_thread.found = None
+        if crate not in found:
+            found[crate] = work_out(crate)
+        return found[crate]
+
+    return sum_of_crate
+
+
 def program():
-    """The program `rt`, as a module, which computes the sum of each crate, and which crates are below it, once."""
+    """The program `rt`, as a module, in which a crate's sum takes each crate below it once, not once for each path that leads to it."""
     file = os.path.realpath(shutil.which("rt") or sys.exit("libraries: rt is not on the PATH"))
     sys.path.insert(0, os.path.dirname(file))
     loader = importlib.machinery.SourceFileLoader("rt_program", file)
@@ -29,14 +49,15 @@ def program():
     loader.exec_module(module)
     below = functools.cache(module.rtlib.Crate.below)
     module.rtlib.Crate.below = lambda crate: list(below(crate))
-    module.rtlib.Crate.stamp = functools.cache(module.rtlib.Crate.stamp)
+    module.rtlib.Crate.stamp = with_each_once(module.rtlib.Crate.stamp)
     return module
 
 
 def toolchain():
-    """The program `rt`, whose crates are those of `rt ci`."""
+    """The program `rt`, whose crates are those of `rt ci`; no file of a crate changes here, so each sum is worked out once."""
     module = program()
     module.rtlib.Crate = module.Crate
+    module.rtlib.Crate.stamp = functools.cache(module.rtlib.Crate.stamp)
     return module
 
 
