@@ -38,7 +38,7 @@ impl<J: Naming> Db<J> {
         ensures refused { IfErr result (IsAmong split_refusals) }
     {
         let _ = me;
-        match root_key(self.board.alloc, &self.board.schema, table, key) {
+        match root_key(self.locks.board.alloc, &self.locks.board.schema, table, key) {
             Ok(code) => self.split_at(rt, &code),
             Err(why) => Err(why),
         }
@@ -71,10 +71,10 @@ impl<J: Naming> Db<J> {
             (λ why. MayReplyOnce J.schema (λ m. split_at m key.now) (reply_of.Refused why)) }
     {
         let (from, to) = self.place_of_split(rt, key)?;
-        let mut slot = self.slot(from)?.lock(rt);
-        let mut next = self.slot(to)?.lock(rt);
-        let mut journal = self.journal.lock(rt);
-        slot.split(&self.board, &mut next, &mut journal, key)
+        let mut slot = self.locks.slot(from)?.lock(rt);
+        let mut next = self.locks.slot(to)?.lock(rt);
+        let mut journal = self.locks.journal.lock(rt);
+        slot.split(&self.locks.board, &mut next, &mut journal, key)
     }
 
     #[tactic(auto, using(span_locks::proofs::Replying::places_within))]
@@ -83,7 +83,7 @@ impl<J: Naming> Db<J> {
         ensures refused { IfErr result
             (λ why. RepliesOnce J.schema (λ m. split_at m key.now) (reply_of.Refused why)) }
     {
-        self.journal.lock(rt).place_of_split(key)
+        self.locks.journal.lock(rt).place_of_split(key)
     }
 
     /// Trims a slot to the horizon h, and returns how many versions it keeps: nothing is read there below h from now on.
@@ -102,12 +102,12 @@ impl<J: Naming> Db<J> {
         ensures refused { IfErr result (IsAmong trim_refusals) }
     {
         let _ = me;
-        let mut slot = self.slot(number)?.lock(rt);
-        let mut journal = self.journal.lock(rt);
+        let mut slot = self.locks.slot(number)?.lock(rt);
+        let mut journal = self.locks.journal.lock(rt);
         if !slot.has_number(number) {
             return Err(Refusal::NoSlot);
         }
-        slot.trim(&self.board, &mut journal, h)
+        slot.trim(&self.locks.board, &mut journal, h)
     }
 
     /// Raises the floor of a slot to the clock's latest time, and returns it: what is prepared there from now on is later.
@@ -126,6 +126,9 @@ impl<J: Naming> Db<J> {
     {
         let _ = me;
         let interval = clock.now();
-        self.journal.lock(rt).advance(&self.board, number, interval)
+        self.locks
+            .journal
+            .lock(rt)
+            .advance(&self.locks.board, number, interval)
     }
 }

@@ -13,6 +13,7 @@ use span_locks::journal::LockedJournal;
 use span_locks::places::SLOTS;
 use span_locks::session::Session;
 use span_locks::slot::LockedSlot;
+use span_scans::locks::Locks;
 use span_schema::schema::Schema;
 use span_shard::shard::Shard;
 use std::alloc::{AllocError, Global};
@@ -88,9 +89,7 @@ impl Opened {
         let (slots, first) = slots_of(&board, first, count)?;
         let sessions = sessions_of(&board, first, count)?;
         let db = Db {
-            board,
-            journal: Mutex::new(journal),
-            slots,
+            locks: Locks::new(board, journal, slots),
         };
         Ok((db, sessions))
     }

@@ -1,48 +1,28 @@
 //! Queries of a session: opened, scanned by one worker or several, and ended.
-ghost use Rattle.std.specs.Prelude.{◌≡◌, ◌⊎◌, ◌≤◌, List, Ok, Some, None, IfOk, IfErr};
-ghost use Rattle.span_gather.specs.Gathered.{gathered};
-ghost use Rattle.span_query.specs.Rows.{Row};
+ghost use Rattle.std.specs.Prelude.{◌≡◌, ◌⊎◌, ◌≤◌, IfOk, IfErr};
 ghost use Rattle.span_truetime.specs.Time.{timestamp_of};
 ghost use Rattle.span_truetime.specs.declared.interval.Interval.{Interval};
-ghost use Rattle.span_planner.specs.Plannable.{IsPlannable};
-ghost use Rattle.span_binder.specs.Understands.{Understands};
-ghost use Rattle.span_locks.specs.Answers.{IsAnswered, IsPlanOf};
-ghost use Rattle.span_locks.specs.Refusing.{IsQueryRefusal, IsRefusedAtFirst, IsUnopened, IsUnscanned, IsUnfinished, IsFault, IsEndRefused};
+ghost use Rattle.span_locks.specs.Answers.{IsAnswered};
+ghost use Rattle.span_locks.specs.Refusing.{IsQueryRefusal, IsUnscanned, IsUnfinished};
 ghost use Rattle.span_locks.specs.Rule.{Sees};
 
 use crate::db::Db;
-use crate::question::{copy_question, rows_of, understand_and_plan};
-use crate::workers::PlannedQuery;
-use span_columns::leaf::Plan;
 use span_gather::rows::Rows;
 use span_journal::journal::Opened;
 use span_locks::board::Naming;
 use span_locks::session::Session;
-use span_openqueries::taken::Taken;
 use span_params::params::Params;
-use span_query::query::Statement;
+use span_scans::workers::{Gate, PlannedQuery};
 use span_truetime::bound::Bound;
 use span_truetime::clock::Clock;
 use span_truetime::interval::Interval;
-use span_value::owned::{give_after, keep_with};
+use span_value::owned::give_after;
 use span_value::refusal::Refusal;
 use std::sync::Wait;
 use std::thread::Threads;
 
 /// The greatest number of workers of one query.
 pub const MOST_WORKERS: usize = 64;
-
-/// What is called around a scan. The workers of a query share it.
-pub trait Gate {
-    /// With no lock held, before the scan.
-    fn before_scan(&self, leaf: usize, slot: usize);
-
-    /// Between the read and the registering, with the slot's lock alone held.
-    fn in_scan(&self, leaf: usize, slot: usize);
-
-    /// With no lock held, after the scan.
-    fn after_scan(&self, leaf: usize, slot: usize);
-}
 
 /// What a query is answered.
 #[derive(Debug, Drop)]
@@ -82,7 +62,7 @@ impl<J: Naming + Send + Sync> Db<J> {
             × IsQueryRefusal J.schema text.now params.now bound read me.new.seen why) }
     {
         let read = clock.now();
-        match self.open(rt, text, params, bound, read) {
+        match self.locks.open(rt, text, params, bound, read) {
             Ok((plan, opened)) => {
                 let query = PlannedQuery {
                     text,
@@ -90,7 +70,7 @@ impl<J: Naming + Send + Sync> Db<J> {
                     plan: &plan,
                     number: opened.query,
                 };
-                let scanned = self.scan_leaves(rt, clock, gate, &query, workers);
+                let scanned = self.locks.scan_leaves(rt, clock, gate, &query, workers);
                 let scanned = give_after(plan, scanned);
                 self.end_query(rt, me, text, params, read, opened, scanned)
             }
@@ -119,128 +99,19 @@ impl<J: Naming> Db<J> {
         ensures refused { IfErr result
             (λ why. IsUnscanned J.schema why ⊎ IsUnfinished J.schema text.now params.now me.new.seen opened.s why) }
     {
-        match self.finish_scanned(rt, me, text, params, opened, scanned) {
+        match self
+            .locks
+            .finish_scanned(rt, me, text, params, opened, scanned)
+        {
             Ok(rows) => Ok(Answer {
                 read,
                 s: opened.s,
                 rows,
             }),
             Err(why) => {
-                self.close(rt, opened.query);
+                self.locks.close(rt, opened.query);
                 Err(why)
             }
         }
-    }
-
-    /// Understands a query text, plans it and opens it.
-    fn open<R: Wait>(
-        &self,
-        rt: &R,
-        text: &str,
-        params: &Params,
-        bound: Bound,
-        interval: Interval,
-    ) -> Result<(Plan, Opened), Refusal>
-        ensures plan { IfOk result (λ r. IsPlanOf J.schema text.now params.now r.0) }
-        ensures s { IfOk result (λ r. r.1.s ≡ timestamp_of bound interval) }
-        ensures refused { IfErr result (IsRefusedAtFirst J.schema text.now params.now bound interval) }
-    {
-        match understand_and_plan(self.board.alloc, &self.board.schema, text, params) {
-            Ok((statement, plan)) => {
-                let opened = self.open_statement(rt, text, params, statement, bound, interval);
-                keep_with(plan, opened)
-            }
-            Err(why) => Err(why),
-        }
-    }
-
-    /// Opens a query whose text is understood as this statement.
-    fn open_statement<R: Wait>(
-        &self,
-        rt: &R,
-        text: &str,
-        params: &Params,
-        statement: Statement,
-        bound: Bound,
-        interval: Interval,
-    ) -> Result<Opened, Refusal>
-        requires understood { Understands J.schema text.now params.now (Ok statement) }
-        requires plannable { IsPlannable J.schema statement }
-        ensures s { IfOk result (λ opened. opened.s ≡ timestamp_of bound interval) }
-        ensures refused { IfErr result
-            (λ why. (why ≡ Refusal.OutOfMemory) ⊎ IsUnopened J.schema text.now params.now bound interval why) }
-    {
-        let copies = copy_question(self.board.alloc, text, params);
-        let (statement, (text, params)) = keep_with(statement, copies)?;
-        self.journal
-            .lock(rt)
-            .open(&self.board, text, params, statement, bound, interval)
-    }
-
-    /// Closes a query, in case it is open.
-    fn close<R: Wait>(&self, rt: &R, query: u64) {
-        let _ = self.journal.lock(rt).close(&self.board, query);
-    }
-
-    /// The rows of a query, if its leaves were scanned.
-    fn finish_scanned<R: Wait>(
-        &self,
-        rt: &R,
-        me: &mut Session<J>,
-        text: &str,
-        params: &Params,
-        opened: Opened,
-        scanned: Result<(), Refusal>,
-    ) -> Result<Rows, Refusal>
-        requires { IfErr scanned (IsUnscanned J.schema) }
-        ensures seen { Sees me.old me.new }
-        ensures begun { me.new.begun ≡ me.old.begun }
-        ensures rows { IfOk result (λ rows. IsAnswered J.schema text.now params.now me.new.seen opened.s rows.rows) }
-        ensures refused { IfErr result
-            (λ why. IsUnscanned J.schema why ⊎ IsUnfinished J.schema text.now params.now me.new.seen opened.s why) }
-    {
-        match scanned {
-            Ok(()) => self.finish(rt, me, text, params, opened),
-            Err(why) => Err(why),
-        }
-    }
-
-    /// Takes the pieces that cover a query, and makes its rows from them. No lock is held while they are made.
-    fn finish<R: Wait>(
-        &self,
-        rt: &R,
-        me: &mut Session<J>,
-        text: &str,
-        params: &Params,
-        opened: Opened,
-    ) -> Result<Rows, Refusal>
-        ensures seen { Sees me.old me.new }
-        ensures begun { me.new.begun ≡ me.old.begun }
-        ensures rows { IfOk result (λ rows. IsAnswered J.schema text.now params.now me.new.seen opened.s rows.rows) }
-        ensures refused { IfErr result (IsUnfinished J.schema text.now params.now me.new.seen opened.s) }
-    {
-        match self.take(rt, me, opened.query) {
-            Ok(taken) => {
-                let rows = rows_of(self.board.alloc, &taken, text, params, opened.s);
-                give_after(taken, rows)
-            }
-            Err(why) => Err(why),
-        }
-    }
-
-    /// Takes the pieces that cover a query.
-    fn take<R: Wait>(&self, rt: &R, me: &mut Session<J>, query: u64) -> Result<Taken, Refusal>
-        ensures seen { Sees me.old me.new }
-        ensures begun { me.new.begun ≡ me.old.begun }
-        ensures meant { IfOk result
-            (λ taken. (rows : List Row)
-            → gathered taken.pieces taken.top ≡ Some rows
-            → IsAnswered J.schema taken.text taken.params me.new.seen taken.s rows) }
-        ensures fault { IfOk result
-            (λ taken. gathered taken.pieces taken.top ≡ None
-            → IsFault J.schema taken.text taken.params me.new.seen taken.s) }
-        ensures refused { IfErr result (IsEndRefused J.schema) }
-    {
-        self.journal.lock(rt).take(&self.board, me, query)
     }
 }

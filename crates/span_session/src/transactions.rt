@@ -37,11 +37,12 @@ impl<J: Naming> Db<J> {
             (as_reply reply_of.Began result) }
         ensures refused { IfErr result (IsAmong begin_refusals) }
     {
-        match transaction.copy(self.board.alloc) {
+        match transaction.copy(self.locks.board.alloc) {
             Ok(copy) => self
+                .locks
                 .journal
                 .lock(rt)
-                .begin_of(&self.board, me, transaction, copy),
+                .begin_of(&self.locks.board, me, transaction, copy),
             Err(why) => Err(why),
         }
     }
@@ -80,12 +81,12 @@ impl<J: Naming> Db<J> {
             (λ m. prepare J.schema m owner number slot)
             (as_reply reply_of.Prepared result) }
     {
-        let mut locked = self.slot(slot)?.lock(rt);
-        let mut journal = self.journal.lock(rt);
+        let mut locked = self.locks.slot(slot)?.lock(rt);
+        let mut journal = self.locks.journal.lock(rt);
         if !locked.has_number(slot) {
             return Err(Refusal::NoSlot);
         }
-        locked.prepare(&self.board, &mut journal, owner, number)
+        locked.prepare(&self.locks.board, &mut journal, owner, number)
     }
 
     /// Decides a transaction that the session began: returns its commit timestamp, or None for an abort. What is committed is what the
@@ -155,9 +156,10 @@ impl<J: Naming> Db<J> {
         ensures decided { MatchResult result (λ ts. Decides me.old number ts me.new) (λ why. me.new ≡ me.old) }
         ensures reply { RepliesToBegun J.schema me.old number interval (as_reply reply_of.Decided result) }
     {
-        self.journal
+        self.locks
+            .journal
             .lock(rt)
-            .publish_begun(&self.board, me, place, interval)
+            .publish_begun(&self.locks.board, me, place, interval)
     }
 
     fn abort_begun<R: Wait>(

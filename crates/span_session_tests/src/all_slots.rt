@@ -1,22 +1,21 @@
 //! Commits over all sixteen slots, and commits that are refused at their second slot.
-ghost use Rattle.std.specs.Prelude.{◌≡◌, IfOk};
-ghost use Rattle.span_mutate.specs.Typed.{AreTypedMutations};
+ghost use Rattle.std.specs.Prelude.{◌≡◌};
 
-use crate::clock::{OpenGate, SharedClock};
-use crate::steps::{TABLES, both, insert_into, split};
-use crate::threads::{ask, two_of, two_schemas};
-use crate::two_sessions::{UIDS, are_uids, insert};
 use span_locks::board::Naming;
 use span_locks::session::Session;
 use span_machine::step::Verdict;
 use span_mutate::mutation::{Mutation, MutationKind};
-use span_mutate::transaction::Transaction;
 use span_schema::schema::Schema;
 use span_session::db::Db;
 use span_session::open::Opened;
+use span_session_fixtures::calls::{ask, split, two_of};
+use span_session_fixtures::clock::{OpenGate, SharedClock};
+use span_session_fixtures::users::{
+    TABLES, UIDS, are_uids, both, change, insert, insert_all, insert_into, two_schemas,
+};
 use span_value::owned::give_after;
 use span_value::refusal::Refusal;
-use std::alloc::{AllocError, Global};
+use std::alloc::Global;
 use std::marker::Brand;
 use std::process::Abort;
 use std::sync::Wait;
@@ -32,24 +31,6 @@ const CUTS: [i64; 15] = [
 const ALL: [i64; 16] = [
     1, 101, 201, 301, 401, 501, 601, 701, 801, 901, 1001, 1101, 1201, 1301, 1401, 1501,
 ];
-
-// A transaction that inserts users.
-fn insert_all(alloc: Global, schema: &Schema, uids: &[i64]) -> Result<Transaction, Refusal>
-    ensures { IfOk result (λ t. AreTypedMutations schema.now t) }
-{
-    let mut mutations = Vec::new(alloc);
-    for uid in uids {
-        mutations.push(insert_into(alloc, "Users", &[*uid])?)?;
-    }
-    Transaction::new(alloc, schema, mutations)
-}
-
-// A change of the user of a number.
-fn change(alloc: Global, kind: MutationKind, uid: i64) -> Result<Mutation, AllocError> {
-    let mut change = insert_into(alloc, "Users", &[uid])?;
-    change.kind = kind;
-    Ok(change)
-}
 
 /// One commit of a user in each of the sixteen slots; commits that are refused at their second slot, by each of the causes that rows and other
 /// transactions give, leave nothing prepared at their first.

@@ -1,69 +1,27 @@
 //! Transactions of one session step by step, and over two slots.
-ghost use Rattle.std.specs.Prelude.{◌≡◌, IfOk};
+ghost use Rattle.std.specs.Prelude.{◌≡◌};
 ghost use Rattle.span_mutate.specs.Typed.{AreTypedMutations};
 
-use crate::clock::{OpenGate, SharedClock, Still};
-use crate::two_sessions::{are_uids, insert};
-use span_gather::rows::Rows;
-use span_keycode::laws::are_values;
 use span_locks::board::Naming;
 use span_locks::session::Session;
 use span_machine::step::Verdict;
-use span_mutate::mutation::{Mutation, MutationKind};
 use span_mutate::transaction::Transaction;
-use span_params::params::Params;
-use span_schema::schema::Schema;
 use span_schematext::text::parse_schema;
 use span_session::db::Db;
 use span_session::open::Opened;
+use span_session_fixtures::calls::{split, users};
+use span_session_fixtures::clock::{SharedClock, Still};
+use span_session_fixtures::users::{TABLES, are_uids, both, insert, insert_into};
 use span_truetime::bound::Bound;
 use span_truetime::interval::Interval;
 use span_value::owned::give_after;
 use span_value::refusal::Refusal;
-use span_value::seq::Seq;
-use span_value::text::Text;
-use span_value::value::Value;
-use std::alloc::{AllocError, Global};
+use std::alloc::Global;
 use std::marker::Brand;
 use std::process::Abort;
 use std::sync::Wait;
 use std::test::Fail;
 use std::thread::Threads;
-
-pub(crate) const TABLES: &str =
-    "CREATE TABLE Users (uid INT64 NOT NULL, email STRING(MAX)) PRIMARY KEY (uid); \
-CREATE TABLE Albums (uid INT64 NOT NULL, aid INT64 NOT NULL) PRIMARY KEY (uid, aid), INTERLEAVE IN PARENT Users";
-
-const UIDS: &str = "SELECT uid FROM Users";
-
-// An Insert of a row that has key columns alone.
-pub(crate) fn insert_into(alloc: Global, table: &str, key: &[i64]) -> Result<Mutation, AllocError> {
-    let mut values = Seq::new(alloc);
-    for value in key {
-        values.push(Value::Int(*value))?;
-    }
-    Ok(Mutation {
-        kind: MutationKind::Insert,
-        table: Text::from_str(alloc, table)?,
-        key: values,
-        cells: Seq::new(alloc),
-    })
-}
-
-// A transaction of two Inserts.
-pub(crate) fn both(
-    alloc: Global,
-    schema: &Schema,
-    first: Mutation,
-    second: Mutation,
-) -> Result<Transaction, Refusal>
-    ensures { IfOk result (λ t. AreTypedMutations schema.now t) }
-{
-    let mut mutations = Vec::new(alloc);
-    mutations.push(first)?;
-    mutations.push(second)?;
-    Transaction::new(alloc, schema, mutations)
-}
 
 /// Begin, Prepare, Decide and Apply of one transaction, each by a call of its own.
 #[test]
@@ -242,30 +200,4 @@ fn check_trim<J: Naming + Send + Sync, R: Threads + Wait + Abort + Sync>(
     let old = users(rt, alloc, db, &late, me, Bound::At(400));
     assert_eq!(rt; old.err(), Some(Refusal::Trimmed));
     Ok(())
-}
-
-// The users, by one worker.
-fn users<J: Naming + Send + Sync, R: Threads + Wait + Sync>(
-    rt: &R,
-    alloc: Global,
-    db: &Db<J>,
-    clock: &Still,
-    me: &mut Session<J>,
-    bound: Bound,
-) -> Result<Rows, Refusal> {
-    let params = Params::new(alloc);
-    let answer = db.query(rt, clock, &OpenGate, me, UIDS, &params, bound, 1)?;
-    Ok(answer.rows)
-}
-
-// Cuts at a user.
-pub(crate) fn split<J: Naming, R: Wait>(
-    rt: &R,
-    db: &Db<J>,
-    me: &Session<J>,
-    uid: i64,
-) -> Result<usize, Refusal> {
-    let key = [Value::Int(uid)];
-    are_values(&key);
-    db.split(rt, me, "Users", &key)
 }

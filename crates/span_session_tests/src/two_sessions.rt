@@ -1,65 +1,24 @@
 //! Two sessions of one database, in slot 0, with one worker.
-ghost use Rattle.std.specs.Prelude.{◌≡◌, IfOk};
+ghost use Rattle.std.specs.Prelude.{◌≡◌};
 ghost use Rattle.span_mutate.specs.Typed.{AreTypedMutations};
 
-use crate::clock::{OpenGate, SharedClock};
-use span_gather::rows::Rows;
 use span_locks::board::Naming;
 use span_locks::session::Session;
-use span_mutate::mutation::{Mutation, MutationKind};
 use span_mutate::transaction::Transaction;
 use span_params::params::Params;
-use span_schema::schema::Schema;
 use span_schematext::text::parse_schema;
 use span_session::db::Db;
 use span_session::open::Opened;
+use span_session_fixtures::clock::{OpenGate, SharedClock};
+use span_session_fixtures::users::{UIDS, USERS, are_uids, insert};
 use span_truetime::bound::Bound;
 use span_value::owned::give_after;
-use span_value::refusal::Refusal;
-use span_value::seq::Seq;
-use span_value::text::Text;
-use span_value::value::Value;
-use std::alloc::{AllocError, Global};
+use std::alloc::Global;
 use std::marker::Brand;
 use std::process::Abort;
 use std::sync::Wait;
 use std::test::Fail;
 use std::thread::Threads;
-
-pub(crate) const USERS: &str =
-    "CREATE TABLE Users (uid INT64 NOT NULL, email STRING(MAX)) PRIMARY KEY (uid)";
-
-pub(crate) const UIDS: &str = "SELECT uid FROM Users";
-
-// A transaction that inserts a user.
-pub(crate) fn insert(alloc: Global, schema: &Schema, uid: i64) -> Result<Transaction, Refusal>
-    ensures { IfOk result (λ t. AreTypedMutations schema.now t) }
-{
-    let mut key = Seq::new(alloc);
-    key.push(Value::Int(uid))?;
-    let mut mutations = Vec::new(alloc);
-    mutations.push(Mutation {
-        kind: MutationKind::Insert,
-        table: Text::from_str(alloc, "Users")?,
-        key,
-        cells: Seq::new(alloc),
-    })?;
-    Transaction::new(alloc, schema, mutations)
-}
-
-// Whether the rows are these, of one column.
-pub(crate) fn are_uids(rows: &Rows, wanted: &[i64]) -> bool {
-    if rows.len() != wanted.len() {
-        return false;
-    }
-    for (at, uid) in wanted.iter().enumerate() {
-        match rows.row(at) {
-            [Value::Int(found)] if *found == *uid => (),
-            _ => return false,
-        }
-    }
-    true
-}
 
 /// Each commit is answered the timestamp after the clock's latest; a strong query of either session sees both.
 #[test]

@@ -12,18 +12,18 @@ use Rattle.span_session.proofs.db.Db.split.Goals as goal
 pub split_at-requires : goal.split_at-requires
 split_at-requires g c =
     let a = c.args in
-    record { coded = (a.table.now, a.key.now, c.requires.values, ap (λ s. root_key s a.table.now a.key.now) (sym a.self.now.board.schema_is) ∙ c.in-Ok.ensures) }
+    record { coded = (a.table.now, a.key.now, c.requires.values, ap (λ s. root_key s a.table.now a.key.now) (sym a.self.now.locks.board.schema_is) ∙ c.in-Ok.ensures) }
 
 pub returns-in-Ok-clause-reply : goal.returns-in-Ok-clause-reply
 returns-in-Ok-clause-reply g c =
     let a = c.args in
-    key_replies g.J.Naming.schema _ c.in-Ok.code c.split_at.result (ap (λ s. root_key s a.table.now a.key.now) (sym a.self.now.board.schema_is) ∙ c.in-Ok.ensures) c.split_at.ensures.reply
+    key_replies g.J.Naming.schema _ c.in-Ok.code c.split_at.result (ap (λ s. root_key s a.table.now a.key.now) (sym a.self.now.locks.board.schema_is) ∙ c.in-Ok.ensures) c.split_at.ensures.reply
 
 pub returns-in-Err-clause-reply : goal.returns-in-Err-clause-reply
 returns-in-Err-clause-reply g c =
     let a = c.args in
     let schema = g.J.Naming.schema in
-    subst (λ (s : List Table). MatchOption (root_key s a.table.now a.key.now) (IsAmong (BadSplit ∷ OutOfMemory ∷ []) c.in-Err.why) (λ key. MayReplyOnce schema (λ m. split_at m key) (Refused c.in-Err.why))) a.self.now.board.schema_is
+    subst (λ (s : List Table). MatchOption (root_key s a.table.now a.key.now) (IsAmong (BadSplit ∷ OutOfMemory ∷ []) c.in-Err.why) (λ key. MayReplyOnce schema (λ m. split_at m key) (Refused c.in-Err.why))) a.self.now.locks.board.schema_is
     (key_refused schema _ c.in-Err.why c.in-Err.ensures)
 
 pub returns-in-Err-clause-refused : goal.returns-in-Err-clause-refused

@@ -1,6 +1,0 @@
-use Rattle.std.proofs.Common.{refl}
-use Rattle.span_locks.proofs.Owners.{prefix_self}
-use Rattle.span_session.proofs.db.Db.finish_scanned.Goals as goal
-
-pub returns-in-Err-clause-seen : goal.returns-in-Err-clause-seen
-returns-in-Err-clause-seen g c = (refl, refl, prefix_self c.args.me.now.seen)

@@ -1,0 +1,103 @@
+//! Scans of two sessions, on a thread each.
+ghost use Rattle.std.specs.Prelude.{◌≡◌};
+
+use span_gather::rows::Rows;
+use span_locks::board::Naming;
+use span_locks::session::Session;
+use span_schema::schema::Schema;
+use span_session::db::Db;
+use span_session::open::Opened;
+use span_session_fixtures::calls::{ask, commit_users, split, two_of};
+use span_session_fixtures::clock::{Meeting, SharedClock};
+use span_session_fixtures::users::{USERS, are_uids, two_schemas};
+use span_value::owned::give_after;
+use span_value::refusal::Refusal;
+use std::alloc::Global;
+use std::marker::Brand;
+use std::process::Abort;
+use std::sync::Wait;
+use std::test::Fail;
+use std::thread::{Threads, join};
+
+const LOW_UIDS: &str = "SELECT uid FROM Users WHERE uid < 100";
+
+const HIGH_UIDS: &str = "SELECT uid FROM Users WHERE uid >= 100";
+
+/// Two scans are under way at once, each with the lock of its own slot held: each waits until the other has been called.
+#[test]
+fn two_scans_at_once(rt: HostRuntime) -> Result<(), Fail> {
+    let alloc = rt.alloc();
+    let (schema, kept) = two_schemas(alloc, USERS)?;
+    let opened = Opened::new(alloc, schema, 2)?;
+    by_scans::<Brand, _>(&rt, alloc, opened, &kept)
+}
+
+fn by_scans<J: Naming + Send + Sync, R: Threads + Wait + Abort + Sync>(
+    rt: &R,
+    alloc: Global,
+    opened: Opened,
+    schema: &Schema,
+) -> Result<(), Fail>
+    requires table { opened.table ≡ J.table }
+    requires schema { opened.schema ≡ J.schema }
+    requires kept { schema.now ≡ J.schema }
+{
+    let (db, sessions) = opened.into_database::<J>()?;
+    let (a, b) = two_of(sessions)?;
+    let checked = check_scans(rt, alloc, &db, schema, a, b);
+    give_after(db, checked)
+}
+
+fn check_scans<J: Naming + Send + Sync, R: Threads + Wait + Abort + Sync>(
+    rt: &R,
+    alloc: Global,
+    db: &Db<J>,
+    schema: &Schema,
+    a: Session<J>,
+    b: Session<J>,
+) -> Result<(), Fail>
+    requires { schema.now ≡ J.schema }
+{
+    let (mut a, mut b) = (a, b);
+    let clock = SharedClock::new();
+    assert_eq!(rt; split(rt, db, &a, 100), Ok(1));
+    commit_users(rt, alloc, db, &clock, schema, &mut a, 1..2)?;
+    commit_users(rt, alloc, db, &clock, schema, &mut b, 200..201)?;
+    let gate = Meeting::new();
+    let (low, high) = scan_both(rt, alloc, db, &clock, &gate, a, b);
+    assert!(rt; are_uids(&low?, &[1]));
+    assert!(rt; are_uids(&high?, &[200]));
+    assert_eq!(rt; gate.met(), 2);
+    Ok(())
+}
+
+// Each session reads a slot of its own, on a thread of its own.
+fn scan_both<J: Naming + Send + Sync, R: Threads + Wait + Sync>(
+    rt: &R,
+    alloc: Global,
+    db: &Db<J>,
+    clock: &SharedClock,
+    gate: &Meeting,
+    a: Session<J>,
+    b: Session<J>,
+) -> (Result<Rows, Refusal>, Result<Rows, Refusal>) {
+    join(
+        rt,
+        || scan_as(rt, alloc, db, clock, gate, a, LOW_UIDS),
+        || scan_as(rt, alloc, db, clock, gate, b, HIGH_UIDS),
+    )
+}
+
+// Asks as a session, which is dropped.
+fn scan_as<J: Naming + Send + Sync, R: Threads + Wait + Sync>(
+    rt: &R,
+    alloc: Global,
+    db: &Db<J>,
+    clock: &SharedClock,
+    gate: &Meeting,
+    me: Session<J>,
+    text: &str,
+) -> Result<Rows, Refusal> {
+    let mut me = me;
+    ask(rt, alloc, db, clock, gate, &mut me, text, 1)
+}
