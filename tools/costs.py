@@ -19,7 +19,7 @@ import time
 TOP = os.path.dirname(os.path.dirname(os.path.abspath(__file__)))
 PAGE = os.path.join(TOP, "docs", "PERFORMANCE.md")
 BEGIN, END = "<!-- costs: written by tools/costs.py -->", "<!-- costs: end -->"
-PARTS = ("proofs", "tests", "edits")
+PARTS = ("proofs", "builds", "tests", "edits")
 TICKS = os.sysconf("SC_CLK_TCK")
 
 
@@ -27,6 +27,9 @@ def part_of(words, folder):
     """Which part of the gate a process of the prover works for."""
     if "/rt-edit-" in folder:
         return "edits"
+    # (a program is compiled from what its check has saved)
+    if "--crate-checked" in words:
+        return "builds"
     return "tests" if "--test" in words else "proofs"
 
 
@@ -82,7 +85,7 @@ def watch(process):
 
 def table(costs):
     """The lines of the table: a row for each crate, in seconds, the dearest first."""
-    lines = ["| Crate | Proofs | Tests | Edits | Together |", "|---|---:|---:|---:|---:|"]
+    lines = ["| Crate | Proofs | Builds | Tests | Edits | Together |", "|---|---:|---:|---:|---:|---:|"]
     for crate, parts in sorted(costs.items(), key=lambda it: -sum(it[1].values())):
         cells = [f"{parts[part]:.0f}" if parts[part] else "" for part in PARTS]
         lines.append(f"| `{crate}` | " + " | ".join(cells) + f" | {sum(parts.values()):.0f} |")

@@ -1,14 +1,12 @@
-//! Typed expressions and what they come to at a row.
+//! Typed expressions: what they mean at a row, and what a planner asks of them. `span_eval` evaluates them.
 #![tactic(auto)]
 
 pub mod cell;
 pub mod condition;
 pub mod conjunct;
 pub mod copy;
-pub mod eval;
 pub mod expr;
 pub mod form;
-mod operator;
 pub mod pattern;
 pub mod rank;
 pub mod reads;

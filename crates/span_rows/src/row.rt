@@ -10,8 +10,8 @@ ghost use Rattle.span_expr.specs.Operators as operators;
 ghost use Rattle.span_expr.specs.Outcomes.{is_null};
 ghost use Rattle.span_rows.specs.Answers.{Gives};
 
+use span_eval::eval::evaluate;
 use span_expr::cell::{Failure, LentValue, column_of};
-use span_expr::eval::evaluate;
 use span_expr::expr::{Comparison, Expr};
 use span_value::order::compare;
 use span_value::seq::Seq;

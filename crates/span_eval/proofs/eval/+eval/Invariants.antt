@@ -7,7 +7,7 @@ use Rattle.span_expr.specs.declared.condition.Condition.TheVariants.{Known}
 use Rattle.span_expr.specs.Cells.{owned_value, Gives}
 use Rattle.span_expr.specs.Outcomes.{condition_of, first_non_null}
 use Rattle.span_expr.specs.Meaning.{val, link_val, arm_val, apply_link, and_also, or_else, or_equal, case_value, match_value}
-use Rattle.span_expr.proofs.eval.+eval.Given as goal
+use Rattle.span_eval.proofs.eval.+eval.Given as goal
 
 abbrev pub invariant-all_of-loop-operand : goal.invariant-all_of-loop-operand
 invariant-all_of-loop-operand l = (o : Outcome) → Gives l.fn.first o →

@@ -16,11 +16,11 @@ ghost use Rattle.span_value.specs.declared.truth.Outcome.{Outcome};
 ghost use Rattle.span_value.specs.declared.truth.Outcome.TheVariants as outcome;
 ghost use Rattle.span_value.specs.declared.value.Value.TheVariants as value;
 
-use super::cell::{Failure, LentValue, column_of, lend};
-use super::condition::{Condition, both, either, either_strict};
-use super::expr::{Arm, Comparison, Expr, Link, Operator, PatternPart};
 use super::operator::{apply, arithmetic_negation, compare, has_prefix, length_of};
-use super::pattern::fits;
+use span_expr::cell::{Failure, LentValue, column_of, lend};
+use span_expr::condition::{Condition, both, either, either_strict};
+use span_expr::expr::{Arm, Comparison, Expr, Link, Operator, PatternPart};
+use span_expr::pattern::fits;
 use span_value::refusal::Refusal;
 use span_value::truth::{Outcome, Truth, not};
 use span_value::value::Value;

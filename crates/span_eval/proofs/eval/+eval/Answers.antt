@@ -6,7 +6,7 @@ use Rattle.span_value.specs.declared.truth.Outcome.TheVariants.{Val}
 use Rattle.span_expr.specs.declared.expr.Link.{Link}
 use Rattle.span_expr.specs.Cells.{owned_value, Gives}
 use Rattle.span_expr.specs.Meaning.{val, link_val, apply_link, arm_val, case_value, match_value, or_null_outcome}
-use Rattle.span_expr.proofs.Loops.{chain_step, err_stays, chosen_step, matched_step, tells_first, tells_second, tells_err, case_is, match_is}
+use Rattle.span_eval.proofs.Loops.{chain_step, err_stays, chosen_step, matched_step, tells_first, tells_second, tells_err, case_is, match_is}
 use Rattle.std.specs.Option.{option_map}
 use Rattle.span_expr.specs.Outcomes.{strict, if_true}
 use Rattle.span_expr.specs.Operators.{compare_values}
@@ -16,9 +16,9 @@ use Rattle.span_expr.specs.declared.condition.Condition.{Condition}
 use Rattle.span_expr.specs.Outcomes.{both, either, condition_of}
 use Rattle.span_expr.specs.Meaning.{and_also, or_else, or_equal}
 use Rattle.span_expr.specs.Memory.{is_memory, is_out_of_memory, is_concatenation, has_concatenation, any_concatenation, any_link_concatenation, any_arm_concatenation}
-use Rattle.span_expr.proofs.Concatenations.{by_two, by_three, operand_has, link_has, condition_has, value_has, chain_has, compare_has, prefix_has, between_has, in_has, and_has, or_has, else_has, case_has, match_has, folded_step}
+use Rattle.span_eval.proofs.Concatenations.{by_two, by_three, operand_has, link_has, condition_has, value_has, chain_has, compare_has, prefix_has, between_has, in_has, and_has, or_has, else_has, case_has, match_has, folded_step}
 use Rattle.std.proofs.lemmas.Bool.{or_right, or_left}
-use Rattle.span_expr.proofs.eval.+eval.Goals as goal
+use Rattle.span_eval.proofs.eval.+eval.Goals as goal
 
 pub apply_links-loop-link-preserved : goal.apply_links-loop-link-preserved
 apply_links-loop-link-preserved t c o given =

@@ -1,0 +1,5 @@
+//! What typed expressions come to at a row.
+#![tactic(auto)]
+
+pub mod eval;
+mod operator;
