@@ -9,10 +9,11 @@
     --together N                            no more than N edits are tried by one check (12 where no number is given)
     --seconds N                             a check ends after N seconds of processor time, and then gives no verdict
     --minutes N                             no check begins after N minutes
+    --left                                  those alone that were not refused yet on the files as they are
 
 Without --gate and --built it works on a copy of the repository and builds the libraries that the crates need. Each edit is tried over what `rt check`
-kept of its crate: so prove the crates first (`rt all check`), or every check begins with the proof of all that a function calls. Where all
-edits of a crate are refused, its line in tests/edits/README.md gets the date and the commit.
+kept of its crate: so prove the crates first (`rt all check`), or every check begins with the proof of all that a function calls. What is found of
+each edit is written to tests/edits/verdicts.txt as soon as it is known, and counted in the table of tests/edits/README.md (verdicts.py).
 
 Edits that change the bodies of different functions are tried together, by a check of these functions alone: a function is proved by the
 contracts of those that it calls, so that the body of one is nothing to another. An edit of a private constant counts as one of the first
@@ -28,7 +29,6 @@ import argparse
 import concurrent.futures
 import contextlib
 import copy
-import datetime
 import functools
 import importlib.machinery
 import importlib.util
@@ -41,9 +41,11 @@ import sys
 import tempfile
 import time
 
+sys.dont_write_bytecode = True
+import verdicts  # noqa: E402 (after the line above, which keeps it from leaving a folder)
+
 TOP = os.path.dirname(os.path.dirname(os.path.abspath(__file__)))
 EDITS = os.path.join(TOP, "tests", "edits")
-README = os.path.join(EDITS, "README.md")
 GATE = os.path.join(EDITS, "gate.txt")
 BY_NAMES = "only because a proof file names"
 FLAGS = ["--jobs", "1"]
@@ -61,6 +63,8 @@ NAMES_GONE = re.compile(r"has no field|is not in scope|has no `|was not admitted
 PLACE = re.compile(r"(note: )?\S+:\d+:\d+:")
 # How many edits are tried together at most, where no number is given.
 TOGETHER = 12
+# Said of an edit whose check did not begin.
+TOO_LATE = "not tried, for --minutes"
 # What is found of an edit: it is refused, or not, or its check gave no verdict.
 REFUSED, NOT_REFUSED, NO_VERDICT = "refused", "not refused", "without a verdict"
 
@@ -73,11 +77,12 @@ def arguments():
     reader.add_argument("--together", type=int, default=TOGETHER, metavar="N", help="how many edits are tried by one check at most")
     reader.add_argument("--seconds", type=int, metavar="N", help="the processor time after which a check ends without a verdict")
     reader.add_argument("--minutes", type=int, metavar="N", help="the time after which no check begins")
+    reader.add_argument("--left", action="store_true", help="those that were not refused yet on the files as they are")
     reader.add_argument("crates", nargs="*", metavar="CRATE")
     found = reader.parse_args()
     found.ends = time.monotonic() + 60 * found.minutes if found.minutes else None
-    if found.gate and (found.crates or found.built):
-        reader.error("--gate takes no crates, and no --built")
+    if found.gate and (found.crates or found.built or found.left):
+        reader.error("--gate takes no crates, no --built and no --left")
     for crate in found.crates:
         if crate not in crates_with_edits():
             reader.error(f"tests/edits has no edits of {crate}")
@@ -425,13 +430,17 @@ def commit_here():
     return subprocess.run(words, cwd=TOP, check=True, capture_output=True, text=True).stdout.strip()
 
 
-def write_line(crate, tried, commit):
-    """Writes into the README that the crate's edits were refused today, and at which commit."""
-    by_names = sum(BY_NAMES in text for _, text in tried)
-    line = f"| `{crate}` | {len(tried)} | {by_names or 'none'} | {datetime.date.today()} | {commit} |"
-    text = re.sub(rf"^\| `{crate}` \|.*$", line, read(README), flags=re.M)
-    with open(README, "w", encoding="utf-8") as file:
-        file.write(text)
+def verdict_of(found, text):
+    """The verdict that is recorded, of what was found of an edit and said of it."""
+    if found == REFUSED:
+        return verdicts.BY_NAMES if BY_NAMES in text else verdicts.REFUSED
+    return verdicts.NO_VERDICT if found == NO_VERDICT else verdicts.NOT_REFUSED
+
+
+def write_verdicts(edits, tried, commit):
+    """Records what was found of some edits, where they were tried."""
+    verdicts.record([(edit, verdict_of(*one)) for edit, one in zip(edits, tried) if TOO_LATE not in one[1]], commit)
+    verdicts.write_table({crate: edits_of(crate) for crate in crates_with_edits()})
 
 
 def calls_of(rt, crate, edits, words):
@@ -439,7 +448,7 @@ def calls_of(rt, crate, edits, words):
     batches, others = batches_of(crate, edits, words.together)
     calls = [(it.edits, lambda kept, it=it: try_batch(rt, it, kept)) for it in batches]
     calls += [([it], lambda kept, it=it: [try_alone(rt, crate, it, kept)]) for it in others]
-    return [lambda kept, edits=edits, call=call: call(kept) if is_time(words) else too_late(crate, edits) for edits, call in calls]
+    return [(edits, lambda kept, edits=edits, call=call: call(kept) if is_time(words) else too_late(crate, edits)) for edits, call in calls]
 
 
 def is_time(words):
@@ -447,23 +456,23 @@ def is_time(words):
 
 
 def too_late(crate, edits):
-    return [no_verdict(crate, edit, "not tried, for --minutes") for edit in edits]
+    return [no_verdict(crate, edit, TOO_LATE) for edit in edits]
 
 
 def try_all(rt, crates, edits, words, is_kept, commit):
-    """Tries the edits of these crates, and returns what was found of each crate's. A crate whose edits are all refused gets its line, where a
-    commit is given. is_kept: over what checks of the crates kept, and not over their libraries alone."""
+    """Tries the edits of these crates, and returns what was found of each crate's. It is recorded where a commit is given. is_kept: over what
+    checks of the crates kept, and not over their libraries alone."""
     tried = {it.name: [] for it in crates}
     with concurrent.futures.ThreadPoolExecutor(words.jobs) as pool:
         running = {}
         for crate in crates:
             calls = calls_of(rt, crate, edits[crate.name], words)
-            running.update({pool.submit(try_over, rt, crate, call, is_kept): crate.name for call in calls})
+            running.update({pool.submit(try_over, rt, crate, call, is_kept): (crate.name, its) for its, call in calls})
         for future in concurrent.futures.as_completed(running):
-            name = running[future]
+            name, its = running[future]
             tried[name] += future.result()
-            if commit and len(tried[name]) == len(edits[name]) and all(found == REFUSED for found, _ in tried[name]):
-                write_line(name, tried[name], commit)
+            if commit:
+                write_verdicts(its, future.result(), commit)
     return tried
 
 
@@ -486,6 +495,9 @@ def main():
     words, rt = arguments(), toolchain()
     rt.rtlib.guarded()
     edits = edits_of_gate() if words.gate else {it: edits_of(it) for it in words.crates or crates_with_edits()}
+    if words.left:
+        known = verdicts.recorded()
+        edits = {crate: [it for it in its if not verdicts.is_current(it, known)] for crate, its in edits.items()}
     if not any(edits.values()):
         sys.exit("edits: there are none to try")
     if words.seconds:
