@@ -16,6 +16,7 @@ pub mod near;
 mod next;
 mod part;
 mod put;
+mod reach;
 mod remove;
 mod split;
 mod tree;
