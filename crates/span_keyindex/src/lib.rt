@@ -19,5 +19,6 @@ mod put;
 mod reach;
 mod remove;
 mod split;
+mod stop;
 mod tree;
 pub mod walk;
