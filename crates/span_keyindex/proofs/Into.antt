@@ -65,7 +65,7 @@ module _ (a : Content) (index : TreeRoot) (key : List ℕ) (p : ℕ) (l : Tree) 
   low : height (Fork l p k b r) ≤ index.levels
   low = omega (arith, height_part (Fork l p k b r) (tree_of a.cells index) there, own.tall)
 
-  part_is : tree_at a.cells index.levels (Some p) ≡ Fork l p k b r
+  pub part_is : tree_at a.cells index.levels (Some p) ≡ Fork l p k b r
   part_is = shape_is (cell_at a.cells) (Fork l p k b r) index.levels (in_cells_part (cell_at a.cells) (Fork l p k b r) (tree_of a.cells index) there own.tree.in_cells) low
 
   tree_part : IsTree a.cells (Some p) (tree_at a.cells index.levels (Some p))

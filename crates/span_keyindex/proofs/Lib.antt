@@ -19,6 +19,7 @@ pub mod Owning
 pub mod Parts
 pub mod Placing
 pub mod Puts
+pub mod Rightmost
 pub mod Rising
 pub mod Searching
 pub mod Sizes

@@ -1,6 +1,6 @@
 -- The part of a tree that a new cell at its right end changes.
 use Rattle.std.proofs.Common.{◌≡◌, ◌≢◌, ℕ, zero, suc, ◌-◌, ◌<◌, ◌≤◌, List, refl, sym, ◌∙◌, ap, arith, length, true, false, Option, Some, None, subst, inl, inr}
-use Rattle.std.specs.Prelude.{Bool, ◌⊎◌}
+use Rattle.std.specs.Prelude.{Bool, ◌⊎◌, IfSome}
 use Rattle.std.specs.declared.cmp.Ordering.{Ordering}
 use Rattle.std.proofs.Math.Nat.{le-max_right, max-le}
 use Rattle.std.proofs.lemmas.List.{set-get_or}
@@ -13,7 +13,7 @@ use Rattle.span_arena.specs.Counts.{Count}
 use Rattle.span_keyindex.specs.declared.join.Part.{Part}
 use Rattle.span_keyindex.specs.Effects.{links_of, links_with}
 use Rattle.span_keyindex.specs.Joins.{joined_right_cells, joined_right_root, most_by, IsJoinCost}
-use Rattle.span_keyindex.specs.Lasts.{IsAboveRight, turns_by, IsHangCost, stop_by, stop_in, with_root}
+use Rattle.span_keyindex.specs.Lasts.{IsAboveRight, turns_by, IsHangCost, stop_by, stop_in, with_root, IsRight, IsUnevenBy, IsUneven, IsStop}
 use Rattle.span_keyindex.specs.Puts.{tree_at, IsTree, IsAdded}
 use Rattle.span_keyindex.specs.Trees.{Tree, Leaf, Fork, root_of, cell_of, IsInCells, count, height, shape, joined_right, placed, inserted}
 use Rattle.span_keyindex.proofs.Costs.{IsReady, ready_part}
@@ -21,11 +21,6 @@ use Rattle.span_keyindex.proofs.Counting.{one_here, one_same}
 use Rattle.span_keyindex.proofs.Exits.{fork_some}
 use Rattle.span_keyindex.proofs.Puts.{places_more, put_right_at}
 use Rattle.span_keyindex.proofs.Whole.{shape_is}
-
--- a tree is another, or on its right side
-abbrev pub IsRight : Tree → Tree → Type 0
-IsRight s Leaf = Leaf ≡ s
-IsRight s (Fork l n k b r) = (Fork l n k b r ≡ s) ⊎ IsRight s r
 
 pub in_cells_right : (f : ℕ → Cell) (s t : Tree) → IsRight s t → IsInCells f t → IsInCells f s
 in_cells_right f s Leaf right in_cells = subst (λ (u : Tree). IsInCells f u) {x = Leaf} {y = s} right in_cells
@@ -57,24 +52,6 @@ above_part key s (Fork l n k b r) right above = elim right [
 
 -- ---- the cell above the last one whose parts differ in height
 
-abbrev pub IsUnevenBy : Balance → Type 0
-IsUnevenBy LeftHigh = Unit {0}
-IsUnevenBy Even = ⊥
-IsUnevenBy RightHigh = Unit {0}
-
-abbrev pub IsUneven : Tree → Type 0
-IsUneven Leaf = ⊥
-IsUneven (Fork l n k b r) = IsUnevenBy b
-
--- the cell is on the right side of the tree, and above a part that takes up one level more
-pub record IsStop (p : ℕ) (t : Tree) : Type 0 where
-  pub left : Tree
-  pub key : List ℕ
-  pub balance : Balance
-  pub right : Tree
-  pub there : IsRight (Fork left p key balance right) t
-  pub uneven : IsUneven right
-
 stop_balance : (b : Balance) (stop above : Option ℕ) (p : ℕ) (t : Tree) → stop_by b stop above ≡ Some p → (stop ≡ Some p) ⊎ (((above ≡ Some p) × IsUnevenBy b) ⊎ IsStop p t)
 stop_balance LeftHigh stop above p t is = inr (inl (is, tt))
 stop_balance Even stop above p t is = inl is
@@ -99,6 +76,15 @@ stop_there t p is = elim (stop_found t None None p is) [
     | inr stop ↦ stop
   ]
 ]
+
+-- each cell that is given is such a stop
+pub stops : (t : Tree) (o : Option ℕ) → o ≡ stop_in None None t → IfSome o (λ (p : ℕ). IsStop p t)
+stops t None is = tt
+stops t (Some p) is = stop_there t p (sym is)
+
+pub stop_of : (t : Tree) (o : Option ℕ) (p : ℕ) → o ≡ Some p → IfSome o (λ (q : ℕ). IsStop q t) → IsStop p t
+stop_of t None p is stop = absurd (let q : None ≡ Some p = is in cc)
+stop_of t (Some q) p is stop = (let e : q ≡ p = (let f : Some q ≡ Some p = is in cc) in subst (λ (x : ℕ). IsStop x t) {x = q} {y = p} e stop)
 
 -- one link further
 pub stop_more : (cs : List Cell) (levels : ℕ) (at : Option ℕ) (i : ℕ) (ls : Links) → at ≡ Some i → ls ≡ links_of cs i → IsTree cs at (tree_at cs levels at) → (stop above next : Option ℕ) → next ≡ stop_by ls.balance stop above

@@ -1,5 +1,5 @@
 -- A key after all those of a tree.
-use Rattle.std.specs.Prelude.{◌≡◌, ℕ, ◌+◌, ◌<◌, ◌≤◌, List, length, Option, Some, None, Bool, true, false}
+use Rattle.std.specs.Prelude.{◌≡◌, ◌⊎◌, ℕ, ◌+◌, ◌<◌, ◌≤◌, List, length, Option, Some, None, Bool, true, false}
 use Rattle.std.specs.Ordering.{is_gt}
 use Rattle.std.specs.declared.cmp.Ordering.TheVariants.{Greater}
 use Rattle.span_keycode.specs.Order.{byte_order}
@@ -39,6 +39,30 @@ stop_by RightHigh stop above = above
 abbrev pub stop_in : Option ℕ → Option ℕ → Tree → Option ℕ
 stop_in stop above Leaf = stop
 stop_in stop above (Fork l n k b r) = stop_in (stop_by b stop above) (Some n) r
+
+-- a tree is another, or on its right side
+abbrev pub IsRight : Tree → Tree → Type 0
+IsRight s Leaf = Leaf ≡ s
+IsRight s (Fork l n k b r) = (Fork l n k b r ≡ s) ⊎ IsRight s r
+
+abbrev pub IsUnevenBy : Balance → Type 0
+IsUnevenBy LeftHigh = Unit {0}
+IsUnevenBy Even = ⊥
+IsUnevenBy RightHigh = Unit {0}
+
+-- the parts of the first cell differ in height
+abbrev pub IsUneven : Tree → Type 0
+IsUneven Leaf = ⊥
+IsUneven (Fork l n k b r) = IsUnevenBy b
+
+-- the cell is on the right side of the tree, and above a part that takes up one level more
+pub record IsStop (p : ℕ) (t : Tree) : Type 0 where
+  pub left : Tree
+  pub key : List ℕ
+  pub balance : Balance
+  pub right : Tree
+  pub there : IsRight (Fork left p key balance right) t
+  pub uneven : IsUneven right
 
 -- a part that begins with this cell, if one is given
 abbrev pub with_root : Option ℕ → Part → Part

@@ -12,6 +12,7 @@ use crate::chains::{Chains, chains_from, chains_of};
 use crate::find::find;
 use crate::near::{Near, SEARCH_LANES, near_key, near_keys};
 use crate::next::NextLinks;
+use crate::reach::look_above;
 use crate::remove::remove_unused;
 use crate::split::copy_keys;
 use crate::tree::{TreeRoot, slot_for, slot_near};
@@ -279,6 +280,12 @@ impl KeyIndex {
             steps,
         )?;
         Ok(Chain { number })
+    }
+
+    /// Looks at the cells that `slot_near` comes to from these chains, so that they come from memory at once: nothing is promised of it. How
+    /// many of the chains have such cells is returned. It takes no memory.
+    pub fn look_above(&self, arena: &Arena, near: &[u32; SEARCH_LANES]) -> usize {
+        look_above(arena, &self.nexts, near)
     }
 
     /// Removes the keys whose chains have no version and for which nothing is prepared, and frees these chains. It takes no memory.

@@ -1,20 +1,22 @@
 //! The last key of a tree, and a key after all those of an index.
-ghost use Rattle.std.specs.Prelude.{◌≡◌, ◌+◌, ◌<◌, ◌^◌, true, length, IfOk, IfErr, OnErr};
+ghost use Rattle.std.specs.Prelude.{◌≡◌, ◌+◌, ◌<◌, ◌^◌, true, length, IfOk, IfErr, IfSome, OnErr};
 ghost use Rattle.span_arena.specs.Cells.{cell_at};
 ghost use Rattle.span_arena.specs.Content.{with_cells};
+ghost use Rattle.span_keyindex.specs.Arenas.{IsArenaOf};
 ghost use Rattle.span_keyindex.specs.Avl.{grown_height};
 ghost use Rattle.span_keyindex.specs.Effects.{IsInside};
 ghost use Rattle.span_keyindex.specs.Entries.{IsAbsent};
 ghost use Rattle.span_keyindex.specs.Indexes.{IsIndex, IsSlot, entries_at, tree_of};
 ghost use Rattle.span_keyindex.specs.Items.{items};
-ghost use Rattle.span_keyindex.specs.Lasts.{is_after, IsAboveRight, IsAfterCost, IsHangCost, IsNewPart, IsTreeCost, stop_by, stop_in, with_root};
+ghost use Rattle.span_keyindex.specs.Lasts.{is_after, IsAboveRight, IsAfterCost, IsHangCost, IsNewPart, IsStop, IsTreeCost, stop_by, stop_in, with_root};
 ghost use Rattle.span_keyindex.specs.Nexts.{last_cell};
-ghost use Rattle.span_keyindex.specs.Puts.{tree_at, AreChains, IsAdded, IsTree};
+ghost use Rattle.span_keyindex.specs.Puts.{tree_at, IsAdded, IsTree};
 ghost use Rattle.span_keyindex.specs.Trees.{count};
 
 use crate::join::{Part, join_right};
 use crate::next::NextLinks;
 use crate::put::add_key;
+use crate::stop::last_stop;
 use crate::tree::TreeRoot;
 use span_arena::arena::Arena;
 use span_arena::cell::Balance;
@@ -66,7 +68,7 @@ pub(crate) fn put_last<C: Ledger, W: Ledger>(
     steps: &mut Steps<C, W>,
 ) -> Result<u32, Refusal>
     requires own { IsIndex arena.old.cells nexts.old index.old }
-    requires chains { AreChains arena.old (tree_of arena.old.cells index.old) }
+    requires chains { IsArenaOf (entries_at arena.old.cells index.old) arena.old }
     requires after { is_after arena.old.cells index.old.last key.old ≡ true }
     ensures ok { IfOk result (IsSlot arena.old arena.new nexts.old nexts.new index.old index.new key.old) }
     ensures arena { OnErr result (arena.new ≡ arena.old) }
@@ -79,6 +81,7 @@ pub(crate) fn put_last<C: Ledger, W: Ledger>(
 {
     // The count of numbers fits, and with it that of the levels.
     let _count = arena.numbers();
+    let stop = last_stop(arena, index);
     let mut part = Part {
         cell: 0,
         root: 0,
@@ -86,7 +89,7 @@ pub(crate) fn put_last<C: Ledger, W: Ledger>(
     };
     // First a tree of the key alone.
     let _is_added = add_key(arena, nexts, None, index.last, 0, key, &mut part, steps)?;
-    hang_last(arena, index.root, index.levels, &mut part, steps);
+    hang_last(arena, index.root, index.levels, stop, &mut part, steps);
     *index = TreeRoot {
         root: Some(part.root),
         levels: height_after(index.levels, part.grew),
@@ -102,16 +105,17 @@ fn height_after(levels: usize, grew: bool) -> usize
     if grew { levels + 1 } else { levels }
 }
 
-// As `hang`, of a whole tree. What is above the last cell on its right side whose parts differ in height stays as it was,
-// since that cell takes up one level more below it: so most of the right side is only gone along.
+// As `hang`, of a whole tree. What is above `stop` stays as it was, since a cell below it takes up one level more.
 fn hang_last<C: Ledger, W: Ledger>(
     arena: &mut Arena,
     root: Option<u32>,
     levels: usize,
+    stop: Option<u32>,
     part: &mut Part,
     steps: &mut Steps<C, W>,
 )
     requires tree { IsTree arena.old.cells root (tree_at arena.old.cells levels root) }
+    requires stop { IfSome stop (λ p. IsStop p (tree_at arena.old.cells levels root)) }
     requires part { IsNewPart arena.old.cells part.old }
     requires free { count part.old.cell (tree_at arena.old.cells levels root) ≡ 0 }
     requires above { IsAboveRight (cell_at arena.old.cells part.old.cell).key (tree_at arena.old.cells levels root) }
@@ -121,7 +125,7 @@ fn hang_last<C: Ledger, W: Ledger>(
     ensures cell { part.new.cell ≡ part.old.cell }
     ensures steps { IsHangCost (tree_at arena.old.cells levels root) part.new steps.old steps.new }
 {
-    let Some(above) = stop_below(arena, root, None, levels, None) else {
+    let Some(above) = stop else {
         hang(arena, root, levels, part, steps);
         return;
     };
@@ -132,7 +136,7 @@ fn hang_last<C: Ledger, W: Ledger>(
 }
 
 // Along the right links, the cell above the last one whose parts differ in height.
-fn stop_below(
+pub(crate) fn stop_below(
     arena: &Arena,
     at: Option<u32>,
     above: Option<u32>,

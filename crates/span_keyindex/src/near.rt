@@ -3,13 +3,14 @@
 //! A search waits for memory at each level of a large tree. Searches of several keys that go down the tree together wait for
 //! each other's cells at once: so a transaction's keys are searched ahead, a few at a time, and a look-up then begins at the
 //! chain where the search ended.
-ghost use Rattle.std.specs.Prelude.{◌≡◌, ℕ, ◌*◌, ◌<◌, ◌^◌, IsTrue, length};
+ghost use Rattle.std.specs.Prelude.{◌≡◌, ℕ, ◌*◌, ◌+◌, ◌<◌, ◌≤◌, ◌^◌, IsTrue, length};
 ghost use Rattle.span_keyindex.specs.Indexes.{IsIndexOf, IsSearchCost, entries_of};
 ghost use Rattle.span_keyindex.specs.Limits.{search_lanes};
 ghost use Rattle.span_keyindex.specs.Nears.{IsBefore, IsLookCost, IsNear};
 ghost use Rattle.span_keyindex.specs.declared.near.TheConstants.{SEARCH_LANES};
 
 use crate::index::KeyIndex;
+use crate::next::NextLinks;
 use span_arena::arena::Arena;
 use span_arena::steps::Steps;
 use span_arena::token::NO_CHAIN;
@@ -25,12 +26,44 @@ pub fn lanes_are_stated()
     ensures { SEARCH_LANES ≡ search_lanes }
 {}
 
+/// How many bytes of a key its head has.
+const HEAD_BYTES: usize = 16;
+
+/// The first bytes of a key as two numbers, so that most keys are compared without a branch that waits for memory. After a key's end are
+/// zeros. A key of less than eight bytes has zeros alone.
+#[derive(Clone, Copy, Debug, PartialEq, Eq)]
+struct KeyHead {
+    first: u64,
+    second: u64,
+}
+
+const NO_HEAD: KeyHead = KeyHead {
+    first: 0,
+    second: 0,
+};
+
 /// A search that goes on: the next cell, and that of the last key so far that is not after the one searched for.
 #[derive(Clone, Copy, Debug)]
 struct Lane {
     at: u32,
     before: u32,
+    /// The head of the key searched for.
+    head: KeyHead,
 }
+
+/// What a search reads of a cell.
+#[derive(Clone, Copy, Debug)]
+struct CellRead {
+    left: u32,
+    right: u32,
+    head: KeyHead,
+}
+
+const NO_CELL: CellRead = CellRead {
+    left: NO_CHAIN,
+    right: NO_CHAIN,
+    head: NO_HEAD,
+};
 
 /// The number of a link; `NO_CHAIN` where there is none.
 pub(crate) fn number_of(link: Option<u32>) -> u32 {
@@ -40,11 +73,93 @@ pub(crate) fn number_of(link: Option<u32>) -> u32 {
     }
 }
 
+// The number that eight bytes from a place on spell, the highest first.
+fn word_at(bytes: &[u8], at: usize) -> u64
+    requires { at + 8 ≤ length bytes.now }
+{
+    u64::from_be_bytes([
+        bytes[at],
+        bytes[at + 1],
+        bytes[at + 2],
+        bytes[at + 3],
+        bytes[at + 4],
+        bytes[at + 5],
+        bytes[at + 6],
+        bytes[at + 7],
+    ])
+}
+
+// The head of a key.
+fn head_of(key: &[u8]) -> KeyHead {
+    let len = key.len();
+    if len < 8 {
+        return NO_HEAD;
+    }
+    let first = word_at(key, 0);
+    if len >= HEAD_BYTES {
+        return KeyHead {
+            first,
+            second: word_at(key, 8),
+        };
+    }
+    // Of the last eight bytes some are in the first number.
+    let last = word_at(key, len - 8);
+    KeyHead {
+        first,
+        second: (last << (8 * (15 - len))) << 8,
+    }
+}
+
+// Whether a head is before another.
+fn is_head_before(head: KeyHead, other: KeyHead) -> bool {
+    (head.first < other.first) | ((head.first == other.first) & (head.second < other.second))
+}
+
+// What a search reads of the cell of a lane.
+fn read(arena: &Arena, at: u32) -> CellRead {
+    if at as usize >= arena.numbers() {
+        return NO_CELL;
+    }
+    let links = arena.links(at);
+    CellRead {
+        left: number_of(links.left),
+        right: number_of(links.right),
+        head: head_of(arena.key(at)),
+    }
+}
+
+// Reads the cells of all lanes. Nothing here waits for what is read: so all of them come from memory side by side.
+fn read_all(arena: &Arena, lanes: &[Lane; SEARCH_LANES]) -> [CellRead; SEARCH_LANES] {
+    let mut cells = [NO_CELL; SEARCH_LANES];
+    for i in 0..SEARCH_LANES {
+        cells[i] = read(arena, lanes[i].at);
+    }
+    cells
+}
+
+// Whether a key is before that of a lane's cell, mostly by their heads.
+fn is_to_the_left(arena: &Arena, key: &[u8], lane: Lane, cell: CellRead) -> bool
+    requires { lane.at < length arena.now.cells }
+{
+    if lane.head == cell.head {
+        arena.order(lane.at, key).is_lt()
+    } else {
+        is_head_before(lane.head, cell.head)
+    }
+}
+
+// One of two numbers, without a branch: half of the branches here would be guessed wrong.
+fn choose(is_first: bool, first: u32, second: u32) -> u32 {
+    let mask = 0u32.wrapping_sub(u32::from(is_first));
+    (first & mask) | (second & !mask)
+}
+
 // One level down.
 fn step<C: Ledger, W: Ledger>(
     arena: &Arena,
     key: &[u8],
     lane: Lane,
+    cell: CellRead,
     steps: &mut Steps<C, W>,
 ) -> Lane
     ensures { IsLookCost 1 steps.old steps.new }
@@ -52,17 +167,12 @@ fn step<C: Ledger, W: Ledger>(
     if lane.at as usize >= arena.numbers() {
         return lane;
     }
-    let links = arena.links(lane.at);
-    if arena.compare(lane.at, key, steps).is_lt() {
-        Lane {
-            at: number_of(links.left),
-            before: lane.before,
-        }
-    } else {
-        Lane {
-            at: number_of(links.right),
-            before: lane.at,
-        }
+    steps.compare();
+    let is_left = is_to_the_left(arena, key, lane, cell);
+    Lane {
+        at: choose(is_left, cell.left, cell.right),
+        before: choose(is_left, lane.before, lane.at),
+        head: lane.head,
     }
 }
 
@@ -75,8 +185,9 @@ fn step_all<C: Ledger, W: Ledger>(
 )
     ensures { IsLookCost search_lanes steps.old steps.new }
 {
+    let cells = read_all(arena, lanes);
     for i in 0..keys.len().min(SEARCH_LANES) {
-        lanes[i] = step(arena, keys[i].as_slice(), lanes[i], steps);
+        lanes[i] = step(arena, keys[i].as_slice(), lanes[i], cells[i], steps);
     }
 }
 
@@ -94,9 +205,28 @@ fn search_all<C: Ledger, W: Ledger>(
     }
 }
 
-// The chain that a search ends at, if there is one.
-fn lane_chain(arena: &Arena, lane: Lane) -> u32 {
-    if arena.is_chain(lane.before) {
+// The lanes of the keys, from a cell on.
+fn first_lanes(keys: &[Key], root: u32) -> [Lane; SEARCH_LANES] {
+    let none = Lane {
+        at: NO_CHAIN,
+        before: NO_CHAIN,
+        head: NO_HEAD,
+    };
+    let mut lanes = [none; SEARCH_LANES];
+    for i in 0..keys.len().min(SEARCH_LANES) {
+        lanes[i] = Lane {
+            at: root,
+            before: NO_CHAIN,
+            head: head_of(keys[i].as_slice()),
+        };
+    }
+    lanes
+}
+
+// The chain that a search ends at, if there is one. Its link to the next is read too, though no chain is after itself: a look near the
+// key needs it, and here those of all lanes come from memory at once.
+fn lane_chain(arena: &Arena, nexts: &NextLinks, lane: Lane) -> u32 {
+    if arena.is_chain(lane.before) & (nexts.number_after(lane.before) != lane.before) {
         lane.before
     } else {
         NO_CHAIN
@@ -104,10 +234,14 @@ fn lane_chain(arena: &Arena, lane: Lane) -> u32 {
 }
 
 // The chains that the searches end at.
-fn lane_chains(arena: &Arena, lanes: &[Lane; SEARCH_LANES]) -> [u32; SEARCH_LANES] {
+fn lane_chains(
+    arena: &Arena,
+    nexts: &NextLinks,
+    lanes: &[Lane; SEARCH_LANES],
+) -> [u32; SEARCH_LANES] {
     let mut near = [NO_CHAIN; SEARCH_LANES];
     for i in 0..SEARCH_LANES {
-        near[i] = lane_chain(arena, lanes[i]);
+        near[i] = lane_chain(arena, nexts, lanes[i]);
     }
     near
 }
@@ -123,13 +257,9 @@ pub(crate) fn near_keys<C: Ledger, W: Ledger>(
     ensures { (d : ℕ) → length (entries_of index.now arena.now) < 2 ^ d
         → IsSearchCost (search_lanes * d) steps.old steps.new }
 {
-    let first = Lane {
-        at: number_of(index.tree.root),
-        before: NO_CHAIN,
-    };
-    let mut lanes = [first; SEARCH_LANES];
+    let mut lanes = first_lanes(keys, number_of(index.tree.root));
     search_all(arena, keys, &mut lanes, index.tree.levels, steps);
-    lane_chains(arena, &lanes)
+    lane_chains(arena, &index.nexts, &lanes)
 }
 
 /// Where a key is, by a chain near it.

@@ -37,7 +37,7 @@ pub(crate) fn slot_for<C: Ledger, W: Ledger>(
     steps: &mut Steps<C, W>,
 ) -> Result<u32, Refusal>
     requires own { IsIndex arena.old.cells nexts.old index.old }
-    requires chains { AreChains arena.old (tree_of arena.old.cells index.old) }
+    requires chains { IsArenaOf (entries_at arena.old.cells index.old) arena.old }
     ensures ok { IfOk result (IsSlot arena.old arena.new nexts.old nexts.new index.old index.new key.old) }
     ensures arena { OnErr result (arena.new ≡ arena.old) }
     ensures nexts { OnErr result (nexts.new ≡ nexts.old) }

@@ -55,7 +55,8 @@ fn near(store: &Lookups<'_>, keys: &[Key]) -> [u32; SEARCH_LANES] {
     store.near(keys)
 }
 
-// The keys of up to `SEARCH_LANES` mutations from a place on, before the first that is known to have no row.
+// The keys of up to `SEARCH_LANES` mutations from a place on, before the first that is known to have no row. That is known of the first
+// mutation's key wherever the others are.
 fn keys_from(
     alloc: Global,
     schema: &Schema,
@@ -70,7 +71,7 @@ fn keys_from(
         let Some(key) = key_of(alloc, schema, &mutations[at]) else {
             return Ok(keys);
         };
-        if store.is_known_absent(key.as_slice()) {
+        if at > 0 && store.is_known_absent(key.as_slice()) {
             return Ok(keys);
         }
         keys.push(key)?;

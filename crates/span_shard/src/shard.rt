@@ -13,6 +13,7 @@ use super::snapshot::{Snapshot, snapshot_of};
 use super::store::Store;
 use super::write::NearWrite;
 use span_keycode::range::KeyRange;
+use span_keyindex::near::SEARCH_LANES;
 use span_mutate::mutation::CheckedMutation;
 use span_schema::schema::Schema;
 use span_value::refusal::Refusal;
@@ -181,6 +182,32 @@ impl Shard {
     }
 }
 
+/// When the places of the next writes are to be looked at.
+#[derive(Drop)]
+struct PutsAhead {
+    /// As long as more writes are left, none is looked at.
+    left: usize,
+}
+
+/// How many writes are prepared without a look where none of those looked at has a place near a chain.
+const WRITES_BETWEEN: usize = 64;
+
+impl PutsAhead {
+    // Looks at the places of the next writes of these, from the last on.
+    fn look(&mut self, store: &Store, writes: &[NearWrite]) {
+        if writes.len() > self.left || writes.len() < 2 {
+            return;
+        }
+        let seen = store.look_ahead(writes);
+        let count = if seen == 0 {
+            WRITES_BETWEEN
+        } else {
+            SEARCH_LANES
+        };
+        self.left = writes.len().saturating_sub(count);
+    }
+}
+
 /// Prepares writes, from the last to the first. After an error some are prepared.
 fn put_all(store: &mut Store, txn: u64, writes: Vec<NearWrite>) -> Result<(), Refusal>
     requires order { AreInOrder store.old }
@@ -190,8 +217,10 @@ fn put_all(store: &mut Store, txn: u64, writes: Vec<NearWrite>) -> Result<(), Re
     ensures refused { IfErr result (ArePutsRefused txn writes.items store.old) }
 {
     let mut left = writes;
+    let mut ahead = PutsAhead { left: left.len() };
     while let Some(write) = left.pop() {
         store.put(txn, write)?;
+        ahead.look(store, left.as_slice());
     }
     Ok(())
 }

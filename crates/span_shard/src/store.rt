@@ -9,9 +9,10 @@ use super::node::{PreparedNode, end_nodes, prepare_node};
 use super::search::{slot_near, split_at};
 use super::split::{add_room, move_versions};
 use super::trim::trim_chains;
-use super::write::{NearWrite, Write};
+use super::write::{NearWrite, Write, last_chains};
 use span_arena::arena::Arena;
 use span_keyindex::index::KeyIndex;
+use span_keyindex::near::SEARCH_LANES;
 use span_value::refusal::Refusal;
 use std::alloc::Global;
 use std::marker::Model;
@@ -81,6 +82,12 @@ impl Store {
                 Err(why)
             }
         }
+    }
+
+    /// Looks at the places in the index of the keys of writes, of up to `SEARCH_LANES` from the last on. How many of them are searched near a
+    /// chain is returned, and nothing is promised of it.
+    pub(crate) fn look_ahead(&self, writes: &[NearWrite]) -> usize {
+        self.index.look_above(&self.arena, &last_chains(writes))
     }
 
     /// Applies the transaction's write at each key. It takes no memory, and moves links alone.

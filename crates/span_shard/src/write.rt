@@ -1,5 +1,7 @@
 //! The row to write at a key.
+use span_arena::token::NO_CHAIN;
 use span_keycode::key::Key;
+use span_keyindex::near::SEARCH_LANES;
 use span_value::seq::Seq;
 use std::marker::Model;
 
@@ -26,4 +28,14 @@ impl Model for NearWrite {
     ghost Value = { Write };
 
     ghost view = { λ n. n.write };
+}
+
+/// The chains near the keys of writes, from the last on.
+pub(crate) fn last_chains(writes: &[NearWrite]) -> [u32; SEARCH_LANES] {
+    let mut near = [NO_CHAIN; SEARCH_LANES];
+    for i in 0..writes.len().min(SEARCH_LANES) {
+        let write = &writes[writes.len() - 1 - i];
+        near[i] = write.near;
+    }
+    near
 }

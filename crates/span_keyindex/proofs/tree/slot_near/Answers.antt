@@ -8,9 +8,6 @@ use Rattle.span_keyindex.proofs.tree.slot_near.Goals as goal
 pub is_after-requires : goal.is_after-requires
 is_after-requires g c = last_inside c.args.arena.now.cells c.args.nexts.now c.args.index.now c.requires.own
 
-pub put_last-requires-clause-chains : goal.put_last-requires-clause-chains
-put_last-requires-clause-chains g c = tree_chains c.args.arena.now c.args.index.now c.requires.chains
-
 pub put_into-requires-clause-chains : goal.put_into-requires-clause-chains
 put_into-requires-clause-chains g c = tree_chains c.args.arena.now c.args.index.now c.requires.chains
 

@@ -1,8 +1,5 @@
-use Rattle.span_keyindex.proofs.Owning.{tree_chains, slot_chain, slot_own, slot_is}
+use Rattle.span_keyindex.proofs.Owning.{slot_chain, slot_own, slot_is}
 use Rattle.span_keyindex.proofs.index.KeyIndex.slot_for.Goals as goal
-
-pub slot_for-requires-clause-chains : goal.slot_for-requires-clause-chains
-slot_for-requires-clause-chains g c = tree_chains c.args.arena.now c.args.self.now.tree c.requires.own
 
 pub returns-clause-ok : goal.returns-clause-ok
 returns-clause-ok g c = slot_is c.args.arena.now c.slot_for.new.arena c.args.self.now.nexts c.slot_for.new.nexts c.args.self.now.tree c.slot_for.new.index c.args.key c.in_ok-number.number c.in_ok-number.ensures.ok
