@@ -292,40 +292,37 @@ fn step(arena: &Arena, nexts: &NextLinks, lane: Lane, ahead: &Ahead) -> u32 {
     nexts.number_after(lane.at)
 }
 
-/// Short keys that come next, and how many keys lie up to the last of them.
-#[derive(Clone, Copy, Debug)]
-struct ShortKeys {
-    numbers: [u32; SHORT_KEYS],
-    len: usize,
-    passed: usize,
-}
+/// Short keys that come next.
+type ShortKeys = [u32; SHORT_KEYS];
 
-// The next few keys of at most `most` bytes from a chain on. Lengths and links alone are read of those between them.
-fn short_keys(arena: &Arena, nexts: &NextLinks, most: usize, number: u32, stop: u32) -> ShortKeys {
-    let mut found = ShortKeys {
-        numbers: [NO_CHAIN; SHORT_KEYS],
-        len: 0,
-        passed: 0,
-    };
+// The next few keys of at most `most` bytes from a chain on, and how many keys lie up to the last of them. Lengths and links alone are read of
+// those between them. Each is put, and a short one stays: which are short can't be guessed, and a wrong guess takes longer than both.
+fn short_keys(
+    arena: &Arena,
+    nexts: &NextLinks,
+    most: usize,
+    number: u32,
+    stop: u32,
+) -> (ShortKeys, usize) {
+    let mut numbers = [NO_CHAIN; SHORT_KEYS];
+    let mut count: usize = 0;
     let mut at = number;
     for passed in 0..NEAR_KEYS {
-        found.passed = passed;
-        if at == stop || at as usize >= arena.numbers() || found.len >= SHORT_KEYS {
-            return found;
+        if at == stop || at as usize >= arena.numbers() || count >= SHORT_KEYS {
+            return (numbers, passed);
         }
-        // Each is put, and a short one stays: which are short can't be guessed, and a wrong guess takes longer than both.
-        found.numbers[found.len] = at;
-        found.len += arena.has_short_key(at, most) as usize;
+        numbers[count] = at;
+        count += arena.has_short_key(at, most) as usize;
         at = nexts.number_after(at);
     }
-    found
+    (numbers, NEAR_KEYS)
 }
 
 // Looks at the keys; whether each may be one.
 fn look_at_keys(arena: &Arena, keys: &ShortKeys) -> bool {
     let mut are_keys = true;
     for i in 0..SHORT_KEYS {
-        let number = keys.numbers[i];
+        let number = keys[i];
         if (number as usize) < arena.numbers() {
             are_keys = are_keys && arena.key(number).len() <= MOST_BYTES;
         }
@@ -337,7 +334,7 @@ fn look_at_keys(arena: &Arena, keys: &ShortKeys) -> bool {
 fn look_at_rows(arena: &Arena, keys: &ShortKeys) -> bool {
     let mut are_rows = true;
     for i in 0..SHORT_KEYS {
-        let is_row = !is_no_row(arena, keys.numbers[i]);
+        let is_row = !is_no_row(arena, keys[i]);
         are_rows = are_rows && is_row;
     }
     are_rows
@@ -346,14 +343,14 @@ fn look_at_rows(arena: &Arena, keys: &ShortKeys) -> bool {
 // Looks at the next few short keys, first at all of them and then at their rows: so that several wait for memory at once. How many keys the walk
 // passes before it looks ahead again.
 fn look_along(arena: &Arena, nexts: &NextLinks, ahead: &Ahead, number: u32, stop: u32) -> usize {
-    let keys = short_keys(arena, nexts, ahead.most, number, stop);
+    let (keys, passed) = short_keys(arena, nexts, ahead.most, number, stop);
     if !look_at_keys(arena, &keys) {
         return FIRST_KEYS;
     }
     if ahead.has_rows && !look_at_rows(arena, &keys) {
         return FIRST_KEYS;
     }
-    keys.passed
+    passed
 }
 
 // How many lanes have gone on.
