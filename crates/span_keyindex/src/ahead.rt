@@ -2,8 +2,12 @@
 //!
 //! Where keys were put in no order a walk waits for memory at each: it learns the next key's number only when the last link has come.
 //! So it looks ahead, in several lanes at once: from keys of the tree's upper levels, which lie about evenly among all, the links are
-//! followed together, and each key is looked at, with its newest row where the caller is to read it. Nothing that a walk hands out
-//! rests on it.
+//! followed together, and each key is looked at, with its newest row where the caller is to read it.
+//!
+//! Keys that were put in order lie one after another, and memory is waited for at few of them; but where a walk passes over most of them,
+//! those that it hands out lie apart. They are then found by lengths and links alone, and looked at, a few together.
+//!
+//! Nothing that a walk hands out rests on it.
 
 use crate::near::number_of;
 use crate::next::NextLinks;
@@ -30,6 +34,12 @@ const FIRST_KEYS: usize = 64;
 /// The next key's number differs by no more where keys were put in order: memory is waited for at few of them.
 const NEAR: u32 = 8;
 
+/// How many keys are looked at together among longer ones, where keys were put in order.
+const SHORT_KEYS: usize = 32;
+
+/// Among how many keys these are found at most.
+const NEAR_KEYS: usize = 512;
+
 /// More levels than a tree of 2^32 keys has above the lowest.
 const MOST_TURNS: usize = 64;
 
@@ -44,6 +54,8 @@ pub(crate) struct Ahead {
     pub has_rows: bool,
     /// How many keys are looked at already.
     seen: usize,
+    /// Keys were passed over since keys were last looked at.
+    is_sparse: bool,
 }
 
 impl Ahead {
@@ -53,6 +65,7 @@ impl Ahead {
             most: usize::MAX,
             has_rows: false,
             seen: FIRST_KEYS,
+            is_sparse: false,
         }
     }
 
@@ -64,6 +77,7 @@ impl Ahead {
     /// The walk has passed over some of these.
     pub(crate) fn pass_seen(&mut self, keys: usize) {
         self.seen = self.seen.saturating_sub(keys);
+        self.is_sparse = true;
     }
 
     /// The walk is at a chain; it looks ahead where it has come to the end of what was looked at.
@@ -79,6 +93,7 @@ impl Ahead {
             self.seen -= 1;
         } else {
             self.seen = look_from(arena, nexts, self, number, stop);
+            self.is_sparse = false;
         }
     }
 }
@@ -93,10 +108,13 @@ fn look_from(
     number: u32,
     stop: Option<u32>,
 ) -> usize {
-    if is_near(nexts, number) {
-        FIRST_KEYS
+    if !is_near(nexts, number) {
+        return look(arena, nexts, ahead, number, number_of(stop));
+    }
+    if ahead.is_sparse {
+        look_along(arena, nexts, ahead, number, number_of(stop))
     } else {
-        look(arena, nexts, ahead, number, number_of(stop))
+        FIRST_KEYS
     }
 }
 
@@ -254,20 +272,85 @@ fn is_no_row(arena: &Arena, number: u32) -> bool {
     }
 }
 
-// A key on. A lane stays at its end, and at a key that is too long to be one or a row that is none.
+// Looks at a key, and at its newest row where the caller is to read it; whether it is too long to be a key, or its row is none.
+fn is_none(arena: &Arena, number: u32, ahead: &Ahead) -> bool {
+    if number as usize >= arena.numbers() {
+        return true;
+    }
+    arena.key(number).len() > MOST_BYTES || (ahead.has_rows && is_no_row(arena, number))
+}
+
+// A key on. A lane stays at its end, and at what is none.
 fn step(arena: &Arena, nexts: &NextLinks, lane: Lane, ahead: &Ahead) -> u32 {
     if lane.at == lane.end || lane.at as usize >= arena.numbers() {
         return lane.at;
     }
-    if ahead.most == usize::MAX || arena.has_short_key(lane.at, ahead.most) {
-        if arena.key(lane.at).len() > MOST_BYTES {
-            return lane.at;
-        }
-        if ahead.has_rows && is_no_row(arena, lane.at) {
-            return lane.at;
-        }
+    let is_looked_at = ahead.most == usize::MAX || arena.has_short_key(lane.at, ahead.most);
+    if is_looked_at && is_none(arena, lane.at, ahead) {
+        return lane.at;
     }
     nexts.number_after(lane.at)
+}
+
+/// Short keys that come next.
+type ShortKeys = [u32; SHORT_KEYS];
+
+// The next few keys of at most `most` bytes from a chain on, and how many keys lie up to the last of them. Lengths and links alone are read of
+// those between them. Each is put, and a short one stays: which are short can't be guessed, and a wrong guess takes longer than both.
+fn short_keys(
+    arena: &Arena,
+    nexts: &NextLinks,
+    most: usize,
+    number: u32,
+    stop: u32,
+) -> (ShortKeys, usize) {
+    let mut numbers = [NO_CHAIN; SHORT_KEYS];
+    let mut count: usize = 0;
+    let mut at = number;
+    for passed in 0..NEAR_KEYS {
+        if at == stop || at as usize >= arena.numbers() || count >= SHORT_KEYS {
+            return (numbers, passed);
+        }
+        numbers[count] = at;
+        count += arena.has_short_key(at, most) as usize;
+        at = nexts.number_after(at);
+    }
+    (numbers, NEAR_KEYS)
+}
+
+// Looks at the keys; whether each may be one.
+fn look_at_keys(arena: &Arena, keys: &ShortKeys) -> bool {
+    let mut are_keys = true;
+    for i in 0..SHORT_KEYS {
+        let number = keys[i];
+        if (number as usize) < arena.numbers() {
+            are_keys = are_keys && arena.key(number).len() <= MOST_BYTES;
+        }
+    }
+    are_keys
+}
+
+// Looks at the newest row of each of the keys; whether each may be one.
+fn look_at_rows(arena: &Arena, keys: &ShortKeys) -> bool {
+    let mut are_rows = true;
+    for i in 0..SHORT_KEYS {
+        let is_row = !is_no_row(arena, keys[i]);
+        are_rows = are_rows && is_row;
+    }
+    are_rows
+}
+
+// Looks at the next few short keys, first at all of them and then at their rows: so that several wait for memory at once. How many keys the walk
+// passes before it looks ahead again.
+fn look_along(arena: &Arena, nexts: &NextLinks, ahead: &Ahead, number: u32, stop: u32) -> usize {
+    let (keys, passed) = short_keys(arena, nexts, ahead.most, number, stop);
+    if !look_at_keys(arena, &keys) {
+        return FIRST_KEYS;
+    }
+    if ahead.has_rows && !look_at_rows(arena, &keys) {
+        return FIRST_KEYS;
+    }
+    passed
 }
 
 // How many lanes have gone on.

@@ -1,6 +1,7 @@
 -- Lists that lie one after another in one list: their number, one of them, and more of them.
 use Rattle.std.proofs.Common.{◌≡◌, ◌∙◌, ◌≤◌, ◌<◌, ◌+◌, ◌-◌, ◌++◌, ◌∷◌, [], ℕ, zero, suc, List, take, drop, length, get_or, ap, sym, subst, refl, arith, length-append, append_assoc}
 use Rattle.std.proofs.lemmas.Grind.{common_steps}
+use Rattle.std.proofs.lemmas.List.{append-nil}
 use Rattle.std.proofs.Math.Seq.{drop-append-add}
 use Rattle.span_rows.specs.Cuts.{cut_at, AreEnds, shift, start_at}
 
@@ -116,6 +117,14 @@ module _ {A : Type 0} where
   rows_more ends new-ends all more new are is ended =
       let count : length new ≡ length all + length more = ap length is ∙ length-append all more in
       ap (λ (es : List ℕ). cut_at 0 es new) (ended ∙ ap (λ n. ends ++ n ∷ []) count) ∙ ap (cut_at 0 (ends ++ (length all + length more) ∷ [])) is ∙ cut_more 0 ends all more are
+
+  -- a list of nothing more
+  pub whole_none : (ends new-ends : List ℕ) (all : List A) → AreEnds 0 ends (length all) → new-ends ≡ ends ++ length all ∷ [] → AreEnds 0 new-ends (length all)
+  whole_none ends new-ends all are ended = whole_more ends new-ends all [] all are (sym (append-nil all)) ended
+
+  pub rows_none : (ends new-ends : List ℕ) (all : List A) → AreEnds 0 ends (length all) → new-ends ≡ ends ++ length all ∷ []
+      → cut_at 0 new-ends all ≡ cut_at 0 ends all ++ [] ∷ []
+  rows_none ends new-ends all are ended = rows_more ends new-ends all [] all are (sym (append-nil all)) ended
 
   pub whole_joined : (ends others new-ends : List ℕ) (all more new : List A) → AreEnds 0 ends (length all) → AreEnds 0 others (length more) → new ≡ all ++ more
       → new-ends ≡ ends ++ shift (length all) others → AreEnds 0 new-ends (length new)

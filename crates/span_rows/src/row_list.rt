@@ -96,6 +96,9 @@ impl RowList {
         ensures moved { OnOk result (row.new.items ≡ []) }
         ensures kept { OnErr result (row.new.items ≡ row.old.items) }
     {
+        if row.is_empty() {
+            return push_none(self.values.as_slice(), &mut self.ends);
+        }
         push_values(&mut self.values, &mut self.ends, row)
     }
 
@@ -243,6 +246,18 @@ fn row_at<'a>(values: &'a [Value], ends: &[usize], at: usize) -> &'a [Value]
     ensures { result.now ≡ slice_index_or (cut_at 0 ends.now values.now) at result.now }
 {
     part(values, start_of(ends, at), ends[at])
+}
+
+/// Adds a row of no values: a leaf whose rows are only counted has such rows. An error leaves all as it was.
+#[tactic(auto, using(crate::proofs::Cutting::whole_none, crate::proofs::Cutting::rows_none))]
+fn push_none(values: &[Value], ends: &mut Vec<usize>) -> Result<(), AllocError>
+    requires { AreEnds 0 ends.old.items (length values.now) }
+    ensures whole { AreEnds 0 ends.new.items (length values.now) }
+    ensures ok { OnOk result (cut_at 0 ends.new.items values.now ≡ cut_at 0 ends.old.items values.now ++ [] ∷ []) }
+    ensures err { OnErr result (ends.new.items ≡ ends.old.items) }
+{
+    ends.push(values.len())?;
+    Ok(())
 }
 
 /// Adds a row, whose values are moved. An error leaves all as it was.
