@@ -40,6 +40,9 @@ const SHORT_KEYS: usize = 32;
 /// Among how many keys these are found at most.
 const NEAR_KEYS: usize = 512;
 
+/// How many keys a walk passes before it looks ahead again where there were fewer of them: to find these takes longer then than to wait.
+const RARE_KEYS: usize = 8192;
+
 /// More levels than a tree of 2^32 keys has above the lowest.
 const MOST_TURNS: usize = 64;
 
@@ -350,7 +353,11 @@ fn look_along(arena: &Arena, nexts: &NextLinks, ahead: &Ahead, number: u32, stop
     if ahead.has_rows && !look_at_rows(arena, &keys) {
         return FIRST_KEYS;
     }
-    passed
+    if passed < NEAR_KEYS {
+        passed
+    } else {
+        RARE_KEYS
+    }
 }
 
 // How many lanes have gone on.
