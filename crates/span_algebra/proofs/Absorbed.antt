@@ -1,21 +1,19 @@
 -- One more row: it is taken by the group of its key, or by a new one after the others.
-use Rattle.std.proofs.Common.{◌≡◌, ◌≢◌, ℕ, zero, suc, ◌+◌, ◌<◌, ◌^◌, Bool, true, false, cond, List, [], ◌∷◌, ◌++◌, length, set, get_or, refl, sym, ap, ◌∙◌, subst, inl, inr, arith}
+use Rattle.std.proofs.Common.{◌≡◌, ◌≢◌, ℕ, zero, suc, ◌+◌, ◌<◌, ◌^◌, true, false, List, [], ◌∷◌, ◌++◌, length, set, get_or, refl, sym, ap, ◌∙◌, subst, inl, inr, arith}
 use Rattle.std.proofs.lemmas.Bool.{cases_eq}
-use Rattle.std.proofs.lemmas.List.{length-map, length-set, length-append, get_or-map, get_or-set_same, get_or-set_other, map-append, append-nil}
-use Rattle.std.proofs.lemmas.List.Elements.{All-push}
-use Rattle.std.proofs.Math.Seq.{get_or-append_seam}
+use Rattle.std.proofs.lemmas.List.{length-map, length-set, get_or-map, get_or-set_same, get_or-set_other, append-nil}
 use Rattle.span_query.specs.declared.query.Aggregate.{Aggregate}
 use Rattle.span_query.specs.declared.query.Grouping.{Grouping}
 use Rattle.span_query.specs.Rows.{Row}
-use Rattle.span_query.specs.Groups.{are_equal, columns_at, group_keys, rows_with}
+use Rattle.span_query.specs.Groups.{are_equal, columns_at, rows_with}
 use Rattle.span_algebra.specs.declared.aggregate.State.{State}
-use Rattle.span_algebra.specs.declared.group.Group.{Group}
-use Rattle.span_rows.specs.Keys.{contains_row, with_new, place_of, AreApart}
+use Rattle.span_algebra.specs.StateLists.{Group}
+use Rattle.span_rows.specs.Keys.{AreApart}
 use Rattle.span_algebra.specs.States.{AreStatesOf, CanCountOne}
 use Rattle.span_algebra.specs.GroupStates.{keys_of, HasTakenRows, AreGroupsOf, HasPlace}
 use Rattle.span_rows.proofs.Alike.{are_equal-itself}
 use Rattle.span_algebra.proofs.Together.{filter-shorter}
-use Rattle.span_rows.proofs.Places.{place_found, place_tells, place_most, apart_at, group_keys-apart, group_keys-more, no_rows, rows_with-push}
+use Rattle.span_rows.proofs.Places.{apart_at, group_keys-apart, rows_with-push}
 
 pub key_at : (groups : List Group) (i : ℕ) (d : Group) (e : Row) → i < length groups → get_or (keys_of groups) i e ≡ (get_or groups i d).key
 key_at groups i d e inside = get_or-map (λ (x : Group). x.key) groups i d e inside
@@ -36,43 +34,10 @@ module _ (g : Grouping) (row : Row) (rows : List Row) (groups : List Group) wher
   abbrev key : Row
   key = columns_at g.keys row
 
-  -- ---- the place
-
-  module _ (are : AreGroupsOf g rows groups) (at : ℕ) (is : at ≡ place_of (keys_of groups) key) where
-    more : (known : Bool) → contains_row (keys_of groups) key ≡ known → group_keys g.keys (rows ++ row ∷ []) ≡ cond known (keys_of groups) (keys_of groups ++ key ∷ [])
-    more known e =
-        group_keys-more g.keys rows row
-        ∙ ap (λ (ks : List Row). with_new ks key) (sym are.keyed)
-        ∙ ap (λ b. cond b (keys_of groups) (keys_of groups ++ key ∷ [])) e
-
-    pub has_place : at ≢ length groups → HasPlace g row rows groups at
-    has_place apart =
-        let within : at < length groups = omega (arith, place_most (keys_of groups) key, key_count groups) in
-        let inside : place_of (keys_of groups) key < length (keys_of groups) = omega (arith, key_count groups) in
-        record {
-          are = record { keyed = sym (more true ((place_tells (keys_of groups) key).0 inside)); each = are.each };
-          within = within;
-          key = λ d. sym (key_at groups at d key within) ∙ ap (λ i. get_or (keys_of groups) i key) is ∙ place_found (keys_of groups) key key inside;
-        }
-
-    pub new_place : (x : Group) → at ≡ length groups → x.key ≡ key → AreStatesOf g.aggregates [] x.states.items → HasPlace g row rows (groups ++ x ∷ []) at
-    new_place x past same states =
-        let new : contains_row (keys_of groups) key ≡ false = (place_tells (keys_of groups) key).1 (omega (arith, key_count groups)) in
-        let none : rows_with g.keys key rows ≡ [] = no_rows g.keys row rows (ap (λ (ks : List Row). contains_row ks key) (sym are.keyed) ∙ new) in
-        let taken : HasTakenRows g rows x = subst (λ (rs : List Row). AreStatesOf g.aggregates rs x.states.items) (sym (ap (λ (k : Row). rows_with g.keys k rows) same ∙ none)) states in
-        record {
-          are = record {
-            keyed = map-append (λ (y : Group). y.key) groups (x ∷ []) ∙ ap (λ (k : Row). keys_of groups ++ k ∷ []) same ∙ sym (more false new);
-            each = All-push (HasTakenRows g rows) groups x are.each taken;
-          };
-          within = omega (arith, length-append groups (x ∷ []));
-          key = λ d. ap (λ (y : Group). y.key) (ap (λ i. get_or (groups ++ x ∷ []) i d) past ∙ get_or-append_seam groups x [] d) ∙ same;
-        }
-
   -- ---- the row
 
   module _ (at : ℕ) (place : HasPlace g row rows groups at) where
-    pub has_room : (x : Group) → x ≡ get_or groups at x → length rows + 1 < 2 ^ 64 → CanCountOne g.aggregates x.states.items
+    pub has_room : (x : Group) → x ≡ get_or groups at x → length rows + 1 < 2 ^ 64 → CanCountOne g.aggregates x.states
     has_room x is few = record {
       rows = rows_with g.keys x.key rows;
       are = subst (HasTakenRows g rows) (sym is) (place.are.each at x place.within);
@@ -90,18 +55,18 @@ module _ (g : Grouping) (row : Row) (rows : List Row) (groups : List Group) wher
         ∙ apart
 
     module _ (was new : Group) (is : was ≡ get_or groups at was) (same : new.key ≡ was.key)
-        (step : TakesRow g.aggregates row was.states.items new.states.items) where
+        (step : TakesRow g.aggregates row was.states new.states) where
       takes_here : HasTakenRows g (rows ++ row ∷ []) new
       takes_here =
           let old : HasTakenRows g rows was = subst (HasTakenRows g rows) (sym is) (place.are.each at was place.within) in
           let alike : are_equal new.key key ≡ true = ap (λ (k : Row). are_equal k key) (same ∙ ap (λ (x : Group). x.key) is ∙ place.key was) ∙ are_equal-itself key in
           let all : rows_with g.keys new.key (rows ++ row ∷ []) ≡ rows_with g.keys was.key rows ++ row ∷ [] =
           rows_with-push g.keys new.key rows row true alike ∙ ap (λ (k : Row). rows_with g.keys k rows ++ row ∷ []) same in
-          subst (λ (rs : List Row). AreStatesOf g.aggregates rs new.states.items) (sym all) (step (rows_with g.keys was.key rows) old)
+          subst (λ (rs : List Row). AreStatesOf g.aggregates rs new.states) (sym all) (step (rows_with g.keys was.key rows) old)
 
       passes_there : (x : Group) → are_equal x.key key ≡ false → HasTakenRows g rows x → HasTakenRows g (rows ++ row ∷ []) x
       passes_there x other h =
-          subst (λ (rs : List Row). AreStatesOf g.aggregates rs x.states.items) (sym (rows_with-push g.keys x.key rows row false other ∙ append-nil (rows_with g.keys x.key rows))) h
+          subst (λ (rs : List Row). AreStatesOf g.aggregates rs x.states) (sym (rows_with-push g.keys x.key rows row false other ∙ append-nil (rows_with g.keys x.key rows))) h
 
       -- ONE MORE ROW: the groups with it
       pub absorbed : AreGroupsOf g (rows ++ row ∷ []) (set groups at new)

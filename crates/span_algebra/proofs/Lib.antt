@@ -4,6 +4,7 @@ pub mod Together
 pub mod Derived
 pub mod Blocks
 pub mod InOrder
+pub mod StateLists
 pub mod Absorbed
 pub mod Shown
 pub mod Passes
@@ -12,3 +13,5 @@ pub mod Merging
 pub mod MergedGroups
 pub mod Measuring
 pub mod Parting
+pub mod AddedStates
+pub mod GroupSteps

@@ -11,7 +11,7 @@ use Rattle.span_query.specs.declared.query.Grouping.{Grouping}
 use Rattle.span_query.specs.Rows.{Row}
 use Rattle.span_query.specs.Groups.{are_equal, columns_at, distinct, group_keys, rows_with}
 use Rattle.span_algebra.specs.declared.aggregate.State.{State}
-use Rattle.span_algebra.specs.declared.group.Group.{Group}
+use Rattle.span_algebra.specs.StateLists.{Group}
 use Rattle.span_rows.specs.Keys.{contains_row, with_new, place_of, AreApart}
 use Rattle.span_algebra.specs.States.{AreStatesOf}
 use Rattle.span_algebra.specs.GroupStates.{keys_of, HasTakenRows, AreGroupsOf}
@@ -193,11 +193,11 @@ module _ (g : Grouping) (key : Row) (keys rows : List Row) (groups : List Group)
         has_key = λ d. sym (key_at groups at d key within) ∙ ap (λ i. get_or (keys_of groups) i key) is ∙ place_found (keys_of groups) key key inside;
       }
 
-  pub new_group_at : (x : Group) → at ≡ length groups → x.key ≡ key → AreStatesOf g.aggregates [] x.states.items → HasGroupAt g key keys rows (groups ++ x ∷ []) at
+  pub new_group_at : (x : Group) → at ≡ length groups → x.key ≡ key → AreStatesOf g.aggregates [] x.states → HasGroupAt g key keys rows (groups ++ x ∷ []) at
   new_group_at x past same states =
       let new : contains_row keys key ≡ false = ap (λ (ks : List Row). contains_row ks key) (sym h.are.keyed) ∙ (place_tells (keys_of groups) key).1 (omega (arith, key_count groups)) in
       let none : rows_with g.keys x.key rows ≡ [] = ap (λ (k : Row). rows_with g.keys k rows) same ∙ h.whole key new in
-      let taken : HasTakenRows g rows x = subst (λ (rs : List Row). AreStatesOf g.aggregates rs x.states.items) (sym none) states in
+      let taken : HasTakenRows g rows x = subst (λ (rs : List Row). AreStatesOf g.aggregates rs x.states) (sym none) states in
       let more : keys ++ key ∷ [] ≡ with_new keys key = sym (ap (λ b. cond b keys (keys ++ key ∷ [])) new) in
       record {
         are = record {
@@ -224,7 +224,7 @@ on_ok_always (Err e) p = tt
 -- one group more
 module _ (g : Grouping) (key : Row) (keys rows next : List Row) (groups : List Group) (at : ℕ) (has : HasGroupAt g key keys rows groups at)
     (was new : Group) (is : was ≡ get_or groups at was) (same : new.key ≡ was.key) (more : List State)
-    (step : (rs ns : List Row) → AreStatesOf g.aggregates rs was.states.items → AreStatesOf g.aggregates ns more → AreStatesOf g.aggregates (rs ++ ns) new.states.items)
+    (step : (rs ns : List Row) → AreStatesOf g.aggregates rs was.states → AreStatesOf g.aggregates ns more → AreStatesOf g.aggregates (rs ++ ns) new.states)
     (taken : AreStatesOf g.aggregates (rows_with g.keys key next) more) where
   abbrev pub after : List Row
   after = rows ++ rows_with g.keys key next
@@ -249,7 +249,7 @@ module _ (g : Grouping) (key : Row) (keys rows next : List Row) (groups : List G
       ∙ rows_with-append g.keys key rows (rows_with g.keys key next)
       ∙ ap (λ (l : List Row). rows_with g.keys key rows ++ l) (rows_with-again g.keys key next)
       ∙ ap (λ (k : Row). rows_with g.keys k rows ++ rows_with g.keys key next) (sym own_key) in
-      subst (λ (rs : List Row). AreStatesOf g.aggregates rs new.states.items) (sym all) (step (rows_with g.keys was.key rows) (rows_with g.keys key next) old taken)
+      subst (λ (rs : List Row). AreStatesOf g.aggregates rs new.states) (sym all) (step (rows_with g.keys was.key rows) (rows_with g.keys key next) old taken)
 
   -- what has another key is as it was
   passes : (k : Row) → are_equal k key ≡ false → rows_with g.keys k after ≡ rows_with g.keys k rows
@@ -267,7 +267,7 @@ module _ (g : Grouping) (key : Row) (keys rows next : List Row) (groups : List G
         | inr other ↦
             let within : j < length groups = omega (arith, length-set groups at new) in
             let x : Group = get_or groups j d in
-            let kept : HasTakenRows g after x = subst (λ (rs : List Row). AreStatesOf g.aggregates rs x.states.items) (sym (passes x.key (other_key j d within other))) (has.are.are.each j d within) in
+            let kept : HasTakenRows g after x = subst (λ (rs : List Row). AreStatesOf g.aggregates rs x.states) (sym (passes x.key (other_key j d within other))) (has.are.are.each j d within) in
             subst (HasTakenRows g after) (sym (get_or-set_other groups at j new d other)) kept
       ];
     };
@@ -307,5 +307,5 @@ module _ (g : Grouping) (rows next : List Row) (more : List Group) where
       subst (λ (l : List Row). AreWholeGroups g (with_keys (group_keys g.keys rows) l) (rows ++ rows_by_key g.keys l next) now) all merged in
       record {
         keyed = whole.are.keyed ∙ keys_together g.keys rows next;
-        each = λ j d inside. subst (λ (rs : List Row). AreStatesOf g.aggregates rs (get_or now j d).states.items) (rows_together g.keys rows next (get_or now j d).key) (whole.are.each j d inside);
+        each = λ j d inside. subst (λ (rs : List Row). AreStatesOf g.aggregates rs (get_or now j d).states) (rows_together g.keys rows next (get_or now j d).key) (whole.are.each j d inside);
       }

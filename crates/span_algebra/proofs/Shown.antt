@@ -12,8 +12,8 @@ use Rattle.span_query.specs.declared.query.Aggregate.TheVariants.{CountRows, Of}
 use Rattle.span_query.specs.declared.query.Grouping.{Grouping}
 use Rattle.span_query.specs.Rows.{Row, Rows, OrFault, ◌>>=◌, value_of, append_results, concat_map, each, singleton}
 use Rattle.span_query.specs.Groups.{are_equal, columns_at, group_keys, rows_with, of_values, without_nulls, aggregate, group_row, groups}
-use Rattle.span_algebra.specs.declared.group.Group.{Group}
-use Rattle.span_rows.specs.Answers.{Gives}
+use Rattle.span_algebra.specs.StateLists.{Group}
+use Rattle.span_rows.specs.Answers.{Gives, Puts}
 use Rattle.span_rows.specs.Keys.{place_of}
 use Rattle.span_algebra.specs.declared.aggregate.State.{State}
 use Rattle.span_algebra.specs.States.{AreStatesOf, operand_at}
@@ -22,13 +22,17 @@ use Rattle.span_rows.proofs.Gathering.{concat_map-append, nil-append_results, on
 use Rattle.span_rows.proofs.Alike.{are_equal-itself}
 use Rattle.span_rows.proofs.Places.{place_found, place_known, has_key}
 
+pub puts_fails : {A : Type 0} (why : Failure) (o : OrFault A) (new : A) → Puts (Err why) o new → Gives {A = A} (Err why) o
+puts_fails failure.Fault o new h = h
+puts_fails failure.OutOfMemory o new h = tt {0}
+
 -- ---- the row of each group
 
 groups-keyed : (g : Grouping) (rows : List Row) (keys : List Row) → keys ≡ group_keys g.keys rows → groups g rows ≡ each (group_row g rows) keys
 groups-keyed g rows keys is = ap (each (group_row g rows)) (sym is)
 
 -- what is made of the key and the states of a group is its row
-pub gives_row : (g : Grouping) (rows : List Row) (x : Group) (r : Result Row Failure) (key : Row) (states : List State) → key ≡ x.key → states ≡ x.states.items
+pub gives_row : (g : Grouping) (rows : List Row) (x : Group) (r : Result Row Failure) (key : Row) (states : List State) → key ≡ x.key → states ≡ x.states
     → ((all : List Aggregate) (taken : List Row) → AreStatesOf all taken states → Gives r (each (aggregate taken) all >>= (λ vs. Some (key ++ vs)))) → HasTakenRows g rows x → Gives r (group_row g rows x.key)
 gives_row g rows x r key states same are gives taken =
     let its : List Row = rows_with g.keys x.key rows in

@@ -3,6 +3,7 @@ pub mod States
 pub mod BlockMeaning
 pub mod Sources
 pub mod ColumnOrders
+pub mod StateLists
 pub mod GroupStates
 pub mod MergedGroups
 pub mod FirstRows

@@ -3,7 +3,7 @@ use Rattle.std.specs.Prelude.{◌≡◌, ℕ, ◌<◌, false, List, [], ◌∷�
 use Rattle.span_query.specs.declared.query.Grouping.{Grouping}
 use Rattle.span_query.specs.Rows.{Row}
 use Rattle.span_query.specs.Groups.{rows_with}
-use Rattle.span_algebra.specs.declared.group.Group.{Group}
+use Rattle.span_algebra.specs.StateLists.{Group}
 use Rattle.span_rows.specs.Keys.{contains_row, with_new, AreApart}
 use Rattle.span_algebra.specs.GroupStates.{AreGroups}
 

@@ -11,7 +11,7 @@ use Rattle.span_algebra.specs.declared.part_rows.Measure.TheVariants.{CountRows,
 use Rattle.span_algebra.specs.declared.part_rows.Groups.{Groups}
 use Rattle.span_algebra.specs.declared.firsts.FirstPlaces.{FirstPlaces}
 use Rattle.span_algebra.specs.FirstRows.{AreFirstsOf}
-use Rattle.span_algebra.specs.GroupStates.{AreGroupsOf}
+use Rattle.span_algebra.specs.GroupStates.{HoldGroups}
 
 abbrev pub aggregate_of : Measure → Aggregate
 aggregate_of CountRows = aggregate.CountRows
@@ -23,7 +23,7 @@ AreMeasuresOf aggregates measures = aggregates ≡ map aggregate_of measures
 -- they are the groups that a block makes of the rows by these keys and aggregates
 abbrev pub HaveGroups : List Row → Groups → Type 0
 HaveGroups rows made =
-    (g : Grouping) → g.keys ≡ made.keys.items → AreMeasuresOf g.aggregates made.measures.items → AreGroupsOf g rows made.groups.items
+    (g : Grouping) → g.keys ≡ made.keys.items → AreMeasuresOf g.aggregates made.measures.items → HoldGroups g rows rows made.lists
 
 -- the groups and the first rows of a part, where they were made, are those of its rows
 pub record IsPart (rows : List Row) (made : Option Groups) (found : Option FirstPlaces) : Type 0 where

@@ -1,5 +1,5 @@
 -- What holds of a state of an aggregate after the rows that it has taken.
-use Rattle.std.specs.Prelude.{◌≡◌, ℕ, ◌+◌, ◌<◌, ◌^◌, List, [], ◌∷◌, length, slice_get, Option, Some, None}
+use Rattle.std.specs.Prelude.{◌≡◌, ℕ, ◌+◌, ◌<◌, ◌^◌, List, [], ◌∷◌, length, take, drop, slice_get, Option, Some, None}
 use Rattle.std.specs.List.{fold}
 use Rattle.span_value.specs.declared.value.Value.{Value}
 use Rattle.span_value.specs.declared.value.Value.TheVariants.{Null}
@@ -72,3 +72,8 @@ pub record CanCountOne (aggregates : List Aggregate) (states : List State) : Typ
   pub rows : List Row
   pub are : AreStatesOf aggregates rows states
   pub few : length rows + 1 < 2 ^ 64
+
+-- the states of one more group, of no rows, after the others
+pub record AreAdded (aggregates : List Aggregate) (old new : List State) : Type 0 where
+  pub before : take (length old) new ≡ old
+  pub fresh : AreStatesOf aggregates [] (drop (length old) new)

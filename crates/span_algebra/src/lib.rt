@@ -6,6 +6,7 @@ mod block;
 pub mod distinct;
 mod firsts;
 mod group;
+mod lent;
 mod merge;
 pub mod ordered;
 pub mod part_rows;

@@ -1,131 +1,113 @@
 //! The groups of parts of some rows put together: those of all the rows, by first appearance.
-ghost use Rattle.std.specs.Prelude.{◌≡◌, ◌<◌, [], ◌∷◌, ◌++◌, length, List, IfOk, IfSome, IsTrue, OnOk};
-ghost use Rattle.span_query.specs.declared.query.Aggregate.{Aggregate};
-ghost use Rattle.span_query.specs.declared.query.Grouping.{Grouping};
+ghost use Rattle.std.specs.Prelude.{◌≡◌, ◌*◌, [], ◌∷◌, ◌++◌, length, List, IfOk, IfSome, IsTrue, OnOk};
 ghost use Rattle.span_query.specs.Rows.{Row};
-ghost use Rattle.span_query.specs.Groups.{group_keys, rows_with};
-ghost use Rattle.span_algebra.specs.GroupStates.{keys_of, HasTakenRows, AreGroupsOf};
+ghost use Rattle.span_query.specs.Groups.{columns_at, group_keys, rows_with};
 ghost use Rattle.span_rows.specs.Keys.{with_new};
-ghost use Rattle.span_algebra.specs.MergedGroups.{AreWholeGroups, HasGroupAt};
+ghost use Rattle.span_rows.specs.LentRows.{lent_rows};
+ghost use Rattle.span_algebra.specs.GroupStates.{groups_by, keys_at, AreGroupLists, AreInStep, HaveKeys, HoldGroups};
+ghost use Rattle.span_algebra.specs.MergedGroups.{AreWholeGroups};
 ghost use Rattle.span_algebra.specs.Parts.{all_rows};
+ghost use Rattle.span_algebra.specs.States.{AreStatesOf};
 
-use super::group::{Group, first_groups, new_group};
+use super::aggregate::State;
+use super::group::{GroupLists, first_index, group_of, push_if, row_or_none};
+use super::lent::{LentGroups, no_lent_groups};
 use super::part_rows::PartRows;
-use super::states::merge_all;
+use super::states::{merge_all, states_at};
 use indexmap::IndexSet;
-use span_query::query::{Aggregate, Grouping};
-use span_rows::key::RowKey;
-use span_rows::row::{add, copy_row};
-use span_value::value::Row;
+use span_query::query::Grouping;
+use span_rows::key::LentKey;
+use span_rows::row_list::RowList;
+use span_value::value::Value;
 use std::alloc::{AllocError, Global};
 
-/// The place of the group of a key, which is added after the others where there was none. The index has the keys of the groups, in
-/// their order.
-fn group_with_key<'a>(
-    alloc: Global,
-    aggregates: &[Aggregate],
-    index: &mut IndexSet<RowKey<'a>>,
-    groups: &mut Vec<Group>,
-    key: &'a Row,
-) -> Result<usize, AllocError>
-    requires { index.old.keys ≡ keys_of groups.old.items }
-    ensures place { IfOk result
-        (λ at.
-        (g : Grouping) (keys rows : List Row)
-        → g.aggregates ≡ aggregates.now
-        → AreWholeGroups g keys rows groups.old.items
-        → HasGroupAt g key.now keys rows groups.new.items at) }
-    ensures within { IfOk result (λ at. at < length groups.new.items) }
-    ensures indexed { OnOk result (index.new.keys ≡ keys_of groups.new.items) }
-{
-    let values = key.as_slice();
-    let (at, _) = index.insert_full(RowKey::new(values))?;
-    if at == groups.len() {
-        add(
-            groups,
-            new_group(alloc, aggregates, copy_row(alloc, values)?)?,
-        )?;
-    }
-    Ok(at)
-}
-
-/// The groups with the rows of one more group, after the others. False where they could not be put together.
+/// The groups with the rows of one more group, after the others; its first row is lent. False where they could not be put together.
 fn merge_group<'a>(
     alloc: Global,
-    aggregates: &[Aggregate],
-    index: &mut IndexSet<RowKey<'a>>,
-    groups: &mut Vec<Group>,
-    more: &'a Group,
+    grouping: &'a Grouping,
+    index: &mut IndexSet<LentKey<'a>>,
+    groups: &mut LentGroups<'a>,
+    row: &'a [Value],
+    more: &[State],
 ) -> Result<bool, AllocError>
-    requires { index.old.keys ≡ keys_of groups.old.items }
+    requires step { AreInStep grouping.now index.old.keys groups.old.states.items }
+    requires wide { length more.now ≡ length grouping.now.aggregates }
+    ensures step { OnOk result (AreInStep grouping.now index.new.keys groups.new.states.items) }
     ensures merged { IfOk result
         (λ done.
         IsTrue done
-        → (g : Grouping) (keys rows next : List Row)
-        → g.aggregates ≡ aggregates.now
-        → AreWholeGroups g keys rows groups.old.items
-        → HasTakenRows g next more.now
-        → AreWholeGroups g (with_new keys more.now.key) (rows ++ rows_with g.keys more.now.key next) groups.new.items) }
-    ensures indexed { OnOk result (index.new.keys ≡ keys_of groups.new.items) }
+        → (rows next : List Row)
+        → AreWholeGroups grouping.now index.old.keys rows (groups_by grouping.now index.old.keys groups.old.states.items)
+        → AreStatesOf grouping.now.aggregates (rows_with grouping.now.keys (columns_at grouping.now.keys row.now) next) more.now
+        → AreWholeGroups grouping.now (with_new index.old.keys (columns_at grouping.now.keys row.now))
+        (rows ++ rows_with grouping.now.keys (columns_at grouping.now.keys row.now) next)
+        (groups_by grouping.now index.new.keys groups.new.states.items)) }
+    ensures keys { OnOk result (index.new.keys ≡ with_new index.old.keys (columns_at grouping.now.keys row.now)) }
+    ensures firsts { OnOk result
+        (HaveKeys grouping.now (lent_rows groups.old.firsts.items) index.old.keys
+        → HaveKeys grouping.now (lent_rows groups.new.firsts.items) index.new.keys) }
 {
-    let at = group_with_key(alloc, aggregates, index, groups, &more.key)?;
-    merge_all(alloc, &mut groups[at].states, more.states.as_slice())
+    let (at, is_new) = group_of(grouping, index, &mut groups.states, row)?;
+    push_if(is_new, &mut groups.firsts, row)?;
+    merge_all(
+        alloc,
+        &mut groups.states,
+        at * grouping.aggregates.len(),
+        more,
+    )
 }
 
-/// The groups of rows with those of further rows. False where they could not be put together.
-pub(crate) fn merge_groups<'a>(
+/// The groups of rows with those of further rows, of a list. False where they could not be put together.
+fn merge_groups<'a>(
     alloc: Global,
-    aggregates: &[Aggregate],
-    index: &mut IndexSet<RowKey<'a>>,
-    groups: &mut Vec<Group>,
-    more: &'a [Group],
+    grouping: &'a Grouping,
+    index: &mut IndexSet<LentKey<'a>>,
+    groups: &mut LentGroups<'a>,
+    rows: &'a RowList,
+    more: &GroupLists,
 ) -> Result<bool, AllocError>
-    requires { index.old.keys ≡ keys_of groups.old.items }
+    requires step { AreInStep grouping.now index.old.keys groups.old.states.items }
+    requires wide { length more.now.states.items ≡ length more.now.firsts.items * length grouping.now.aggregates }
     ensures merged { IfOk result
         (λ done.
         IsTrue done
-        → (g : Grouping) (rows next : List Row)
-        → g.aggregates ≡ aggregates.now
-        → AreGroupsOf g rows groups.old.items
-        → AreGroupsOf g next more.now
-        → AreGroupsOf g (rows ++ next) groups.new.items) }
-    ensures indexed { OnOk result (index.new.keys ≡ keys_of groups.new.items) }
+        → (taken : List Row)
+        → AreGroupLists grouping.now taken index.old.keys groups.old.states.items
+        → HoldGroups grouping.now rows.now rows.now more.now
+        → AreGroupLists grouping.now (taken ++ rows.now) index.new.keys groups.new.states.items) }
+    ensures firsts { OnOk result
+        (HaveKeys grouping.now (lent_rows groups.old.firsts.items) index.old.keys
+        → HaveKeys grouping.now (lent_rows groups.new.firsts.items) index.new.keys) }
 {
-    for group in more {
-        if !merge_group(alloc, aggregates, index, groups, group)? {
+    let width = grouping.aggregates.len();
+    for at in 0..more.firsts.len() {
+        let row = row_or_none(rows, more.firsts[at]);
+        let states = states_at(more.states.as_slice(), at, width);
+        if !merge_group(alloc, grouping, index, groups, row, states)? {
             return Ok(false);
         }
     }
     Ok(true)
 }
 
-/// The index of the groups of no rows.
-fn first_index<'a>(alloc: Global, grouping: &Grouping) -> Result<IndexSet<RowKey<'a>>, AllocError>
-    ensures { IfOk result (λ index. index.keys ≡ group_keys grouping.now.keys []) }
-{
-    let mut index = IndexSet::new(alloc);
-    if grouping.keys.is_empty() {
-        index.insert(RowKey::new(&[]))?;
-    }
-    Ok(index)
-}
-
 /// The groups that a block makes of the rows of all parts. None where those of a part were not made, or they could not be put together.
-pub(crate) fn merge_parts(
+pub(crate) fn merge_parts<'a>(
     alloc: Global,
-    grouping: &Grouping,
-    parts: &[&PartRows],
-) -> Result<Option<Vec<Group>>, AllocError>
-    ensures { IfOk result (λ found. IfSome found (λ groups. AreGroupsOf grouping.now (all_rows parts.now) groups.items)) }
+    grouping: &'a Grouping,
+    parts: &[&'a PartRows],
+) -> Result<Option<LentGroups<'a>>, AllocError>
+    ensures { IfOk result
+        (λ found.
+        IfSome found
+        (λ groups. AreGroupLists grouping.now (all_rows parts.now) (keys_at grouping.now.keys (lent_rows groups.firsts.items)) groups.states.items)) }
 {
-    let aggregates = grouping.aggregates.as_slice();
-    let mut groups = first_groups(alloc, grouping)?;
+    let mut groups = no_lent_groups(alloc, grouping)?;
     let mut index = first_index(alloc, grouping)?;
     for part in parts {
         let Some(more) = part.groups_by(grouping) else {
             return Ok(None);
         };
-        if !merge_groups(alloc, aggregates, &mut index, &mut groups, more)? {
+        if !merge_groups(alloc, grouping, &mut index, &mut groups, part.rows(), more)? {
             return Ok(None);
         }
     }

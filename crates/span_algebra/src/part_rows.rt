@@ -6,11 +6,11 @@ ghost use Rattle.span_query.specs.Sorting.{sorted};
 ghost use Rattle.span_rows.specs.Columns.{distinct_at};
 ghost use Rattle.span_rows.specs.LentRows.{lent_rows};
 ghost use Rattle.span_algebra.specs.FirstRows.{AreFirstsAt};
-ghost use Rattle.span_algebra.specs.GroupStates.{AreGroupsOf};
+ghost use Rattle.span_algebra.specs.GroupStates.{HoldGroups};
 ghost use Rattle.span_algebra.specs.Parts.{aggregate_of, AreMeasuresOf, HaveGroups};
 
 use super::firsts::{FirstPlaces, lend_firsts};
-use super::group::{Group, groups_where};
+use super::group::{GroupLists, groups_where};
 use indexmap::IndexSet;
 use span_expr::cell::Failure;
 use span_expr::expr::Expr;
@@ -94,7 +94,7 @@ fn are_measures(aggregates: &[Aggregate], measures: &[Measure]) -> bool
 struct Groups {
     keys: Vec<usize>,
     measures: Vec<Measure>,
-    groups: Vec<Group>,
+    lists: GroupLists,
 }
 
 /// Rows, and the groups that they fall into, their order, or the first of them by some columns, where these were made. Contracts see the rows.
@@ -132,15 +132,15 @@ fn groups_of(
     if are_many(alloc, grouping, rows)? {
         return Ok(None);
     }
-    let groups = match groups_where(alloc, &None, grouping, rows) {
-        Ok(groups) => groups,
+    let lists = match groups_where(alloc, &None, grouping, rows) {
+        Ok(lists) => lists,
         Err(Failure::Fault) => return Ok(None),
         Err(Failure::OutOfMemory) => return Err(AllocError),
     };
     Ok(Some(Groups {
         keys: grouping.keys.as_slice().to_vec(alloc)?,
         measures,
-        groups,
+        lists,
     }))
 }
 
@@ -268,15 +268,15 @@ impl PartRows {
     }
 
     /// The groups that a block makes of the rows, where they were made.
-    pub(crate) fn groups_by(&self, grouping: &Grouping) -> Option<&[Group]>
-        ensures { IfSome result (λ groups. AreGroupsOf grouping.now self.now groups.now) }
+    pub(crate) fn groups_by(&self, grouping: &Grouping) -> Option<&GroupLists>
+        ensures { IfSome result (λ groups. HoldGroups grouping.now self.now self.now groups.now) }
     {
         let Some(groups) = &self.groups else {
             return None;
         };
         let (keys, aggregates) = (grouping.keys.as_slice(), grouping.aggregates.as_slice());
         if keys == groups.keys.as_slice() && are_measures(aggregates, groups.measures.as_slice()) {
-            Some(groups.groups.as_slice())
+            Some(&groups.lists)
         } else {
             None
         }

@@ -1,37 +1,49 @@
-use Rattle.std.proofs.Common.{rules, ◌≡◌, ◌∙◌, ap, sym, subst, set, List, get_or}
-use Rattle.std.proofs.lemmas.Result.{on_ok_weaker}
+use Rattle.std.proofs.Common.{rules, ◌+◌, ◌*◌, ◌≤◌, ℕ, List, length, sym, subst}
 use Rattle.span_query.specs.declared.query.Aggregate.{Aggregate}
-use Rattle.span_algebra.specs.declared.group.Group.{Group}
+use Rattle.span_query.specs.Rows.{Row}
+use Rattle.span_algebra.specs.declared.aggregate.State.{State}
+use Rattle.span_algebra.specs.StateLists.{states_from, IsChangedAt}
 use Rattle.span_algebra.specs.States.{CanCountOne}
-use Rattle.span_algebra.specs.GroupStates.{keys_of, HasPlace}
-use Rattle.span_algebra.proofs.Absorbed.{TakesRow, keys-same, has_room, absorbed}
+use Rattle.span_algebra.proofs.Absorbed.{TakesRow}
+use Rattle.span_algebra.proofs.GroupSteps.{in_step, room_within, can_count, taken_at}
 use Rattle.span_algebra.proofs.group.take_row.Goals as goal
 
-pub take-requires : goal.take-requires
-take-requires c =
+pub group_of-requires : goal.group_of-requires
+group_of-requires c = in_step c.args.grouping.now c.requires.rows c.args.index.now.keys c.args.states.now.items c.requires.are
+
+pub overflow_mul-at : goal.overflow_mul-at
+overflow_mul-at c =
     let g = c.args.grouping.now in
-    let place : HasPlace g c.args.row.now c.requires.few.rows c.group_of.new.groups.items c.in_ok-at.at = c.in_ok-at.ensures.place c.requires.few.rows c.requires.few.are in
-    let is : c.index_mut.result.now ≡ get_or c.group_of.new.groups.items c.in_ok-at.at c.index_mut.result.now = search rules in
-    let room : CanCountOne g.aggregates c.index_mut.result.now.states.items = has_room g c.args.row.now c.requires.few.rows c.group_of.new.groups.items c.in_ok-at.at place c.index_mut.result.now is c.requires.few.few in
-    subst (λ (aggregates : List Aggregate). CanCountOne aggregates c.index_mut.result.now.states.items) (sym {A = List Aggregate} c.as_slice.ensures) room
+    let keys : List Row = c.args.index.now.keys in
+    let new : List Row = c.group_of.new.index.keys in
+    let mid : List State = c.group_of.new.states.items in
+    let room : c.in_ok-at.at * length g.aggregates + length g.aggregates ≤ length mid =
+    room_within g c.args.row.now keys new c.args.states.now.items mid c.in_ok-at.at c.in_ok-at.ensures.step c.in_ok-at.ensures.within c.in_ok-at.ensures.place in
+    search (rules, room)
+
+pub take_all-requires-clause-within : goal.take_all-requires-clause-within
+take_all-requires-clause-within c =
+    let g = c.args.grouping.now in
+    let room : c.in_ok-at.at * length g.aggregates + length g.aggregates ≤ length c.group_of.new.states.items =
+    room_within g c.args.row.now c.args.index.now.keys c.group_of.new.index.keys c.args.states.now.items c.group_of.new.states.items c.in_ok-at.at c.in_ok-at.ensures.step c.in_ok-at.ensures.within c.in_ok-at.ensures.place in
+    subst (λ (all : List Aggregate). c.in_ok-at.at * length all + length all ≤ length c.group_of.new.states.items) (sym {A = List Aggregate} c.as_slice-aggregates.ensures) room
+
+pub take_all-requires-clause-few : goal.take_all-requires-clause-few
+take_all-requires-clause-few c =
+    let g = c.args.grouping.now in
+    let mid : List State = c.group_of.new.states.items in
+    let few : CanCountOne g.aggregates (states_from (c.in_ok-at.at * length g.aggregates) (length g.aggregates) mid) =
+    can_count g c.args.row.now c.args.index.now.keys c.group_of.new.index.keys c.args.states.now.items mid c.in_ok-at.at c.in_ok-at.ensures.step c.in_ok-at.ensures.within c.in_ok-at.ensures.place c.requires in
+    subst (λ (all : List Aggregate). CanCountOne all (states_from (c.in_ok-at.at * length all) (length all) mid)) (sym {A = List Aggregate} c.as_slice-aggregates.ensures) few
 
 pub returns-clause-ok : goal.returns-clause-ok
-returns-clause-ok c =
+returns-clause-ok c rows are =
     let g = c.args.grouping.now in
-    let was = c.index_mut.result.now in
-    let is : was ≡ get_or c.group_of.new.groups.items c.in_ok-at.at was = search rules in
-    on_ok_weaker c.take.result (λ takes rows are.
-    let place : HasPlace g c.args.row.now rows c.group_of.new.groups.items c.in_ok-at.at = c.in_ok-at.ensures.place rows are in
-    absorbed g c.args.row.now rows c.group_of.new.groups.items c.in_ok-at.at place was c.take.new.self is c.take.ensures.key
-    (subst (λ (aggregates : List Aggregate). TakesRow aggregates c.args.row.now was.states.items c.take.new.self.states.items) c.as_slice.ensures takes)) c.take.ensures.ok
-
-pub returns-clause-indexed : goal.returns-clause-indexed
-returns-clause-indexed c =
-    let groups = c.group_of.new.groups.items in
-    let was = c.index_mut.result.now in
-    let new = c.take.new.self in
-    let is : was ≡ get_or groups c.in_ok-at.at was = search rules in
-    let place : HasPlace c.args.grouping.now c.args.row.now c.requires.few.rows groups c.in_ok-at.at = c.in_ok-at.ensures.place c.requires.few.rows c.requires.few.are in
-    let same : keys_of (set groups c.in_ok-at.at new) ≡ keys_of groups =
-    keys-same groups c.in_ok-at.at new place.within (c.take.ensures.key ∙ ap (λ (x : Group). x.key) is ∙ place.key was ∙ sym (place.key new)) in
-    on_ok_weaker c.take.result (λ takes. c.in_ok-at.ensures.indexed ∙ sym same) c.take.ensures.ok
+    let at : ℕ = c.in_ok-at.at in
+    let mid : List State = c.group_of.new.states.items in
+    let now : List State = c.take_all.new.states.items in
+    let changed : IsChangedAt (at * length g.aggregates) (length g.aggregates) mid now =
+    subst (λ (all : List Aggregate). IsChangedAt (at * length all) (length all) mid now) c.as_slice-aggregates.ensures c.in_ok-take_all.ensures.others in
+    let takes : TakesRow g.aggregates c.args.row.now (states_from (at * length g.aggregates) (length g.aggregates) mid) (states_from (at * length g.aggregates) (length g.aggregates) now) =
+    subst (λ (all : List Aggregate). TakesRow all c.args.row.now (states_from (at * length all) (length all) mid) (states_from (at * length all) (length all) now)) c.as_slice-aggregates.ensures c.in_ok-take_all.ensures.ok in
+    taken_at g c.args.row.now c.args.index.now.keys c.group_of.new.index.keys c.args.states.now.items mid at c.in_ok-at.ensures.step c.in_ok-at.ensures.within c.in_ok-at.ensures.place now changed takes rows are

@@ -1,6 +1,10 @@
-use Rattle.std.proofs.Common.{◌≡◌, length}
+use Rattle.std.proofs.Common.{length}
+use Rattle.span_algebra.specs.StateLists.{states_from, IsChangedAt}
 use Rattle.span_algebra.proofs.Merging.{TakesBefore}
 use Rattle.span_algebra.proofs.states.merge_all.Given as goal
 
 abbrev pub invariant-loop-at : goal.invariant-loop-at
-invariant-loop-at l = (length l.states.items ≡ length l.fn.states.items) × TakesBefore l.fn.states.items l.more l.states.items l.at
+invariant-loop-at l = record {
+  taken : TakesBefore (states_from l.start (length l.more) l.fn.states.items) l.more (states_from l.start (length l.more) l.states.items) l.at;
+  others : IsChangedAt l.start (length l.more) l.fn.states.items l.states.items;
+}
