@@ -10,6 +10,7 @@
     --seconds N                             a check ends after N seconds of processor time, and then gives no verdict
     --minutes N                             no check begins after N minutes
     --left                                  those alone that were not refused yet on the files as they are
+    --new                                   those alone that have no verdict yet, on whatever files
 
 Without --gate and --built it works on a copy of the repository and builds the libraries that the crates need. Each edit is tried over what `rt check`
 kept of its crate: so prove the crates first (`rt all check`), or every check begins with the proof of all that a function calls. What is found of
@@ -78,11 +79,12 @@ def arguments():
     reader.add_argument("--seconds", type=int, metavar="N", help="the processor time after which a check ends without a verdict")
     reader.add_argument("--minutes", type=int, metavar="N", help="the time after which no check begins")
     reader.add_argument("--left", action="store_true", help="those that were not refused yet on the files as they are")
+    reader.add_argument("--new", action="store_true", help="those that have no verdict yet, on whatever files")
     reader.add_argument("crates", nargs="*", metavar="CRATE")
     found = reader.parse_args()
     found.ends = time.monotonic() + 60 * found.minutes if found.minutes else None
-    if found.gate and (found.crates or found.built or found.left):
-        reader.error("--gate takes no crates, no --built and no --left")
+    if found.gate and (found.crates or found.built or found.left or found.new):
+        reader.error("--gate takes no crates, and neither --built nor --left nor --new")
     for crate in found.crates:
         if crate not in crates_with_edits():
             reader.error(f"tests/edits has no edits of {crate}")
@@ -495,9 +497,8 @@ def main():
     words, rt = arguments(), toolchain()
     rt.rtlib.guarded()
     edits = edits_of_gate() if words.gate else {it: edits_of(it) for it in words.crates or crates_with_edits()}
-    if words.left:
-        known = verdicts.recorded()
-        edits = {crate: [it for it in its if not verdicts.is_current(it, known)] for crate, its in edits.items()}
+    if words.left or words.new:
+        edits = {crate: verdicts.left(its, words.new) for crate, its in edits.items()}
     if not any(edits.values()):
         sys.exit("edits: there are none to try")
     if words.seconds:

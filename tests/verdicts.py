@@ -55,6 +55,14 @@ def is_current(edit, verdicts):
     return verdict is not None and verdict.sum == sum_of(edit) and verdict.found in (REFUSED, BY_NAMES)
 
 
+def left(edits, is_new):
+    """Those of some edits that were not refused on the files as they are; or those that have no verdict at all."""
+    verdicts = recorded()
+    if is_new:
+        return [edit for edit in edits if name_of(edit) not in verdicts]
+    return [edit for edit in edits if not is_current(edit, verdicts)]
+
+
 def record(found, commit):
     """Writes what was found of some edits: pairs of an edit and a verdict."""
     with LOCK:
