@@ -12,3 +12,4 @@ pub mod Merging
 pub mod MergedGroups
 pub mod Measuring
 pub mod Parting
+pub mod OneGroup

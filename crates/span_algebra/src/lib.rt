@@ -3,6 +3,7 @@
 
 mod aggregate;
 mod block;
+mod counted;
 pub mod distinct;
 mod firsts;
 mod group;

@@ -9,8 +9,9 @@ ghost use Rattle.span_algebra.specs.FirstRows.{AreFirstsAt};
 ghost use Rattle.span_algebra.specs.GroupStates.{AreGroupsOf};
 ghost use Rattle.span_algebra.specs.Parts.{aggregate_of, AreMeasuresOf, HaveGroups};
 
+use super::counted::groups_of_all;
 use super::firsts::{FirstPlaces, lend_firsts};
-use super::group::{Group, groups_where};
+use super::group::Group;
 use indexmap::IndexSet;
 use span_expr::cell::Failure;
 use span_expr::expr::Expr;
@@ -132,7 +133,7 @@ fn groups_of(
     if are_many(alloc, grouping, rows)? {
         return Ok(None);
     }
-    let groups = match groups_where(alloc, &None, grouping, rows) {
+    let groups = match groups_of_all(alloc, grouping, rows) {
         Ok(groups) => groups,
         Err(Failure::Fault) => return Ok(None),
         Err(Failure::OutOfMemory) => return Err(AllocError),
@@ -153,6 +154,10 @@ fn are_many(alloc: Global, grouping: &Grouping, rows: &RowList) -> Result<bool, 
         return Ok(false);
     }
     let places = grouping.keys.as_slice();
+    if places.is_empty() {
+        // There is one group.
+        return Ok(false);
+    }
     let count = rows.len() / ROWS_FOR_EACH;
     let mut keys = IndexSet::new(alloc);
     for at in 0..count {
