@@ -15,7 +15,7 @@ EDITS = os.path.join(TOP, "tests", "edits")
 PAGE = os.path.join(EDITS, "README.md")
 RECORD = os.path.join(EDITS, "verdicts.txt")
 BEGIN, END = "<!-- verdicts: written by tests/edits.py -->", "<!-- verdicts: end -->"
-HEAD = ["| Crate | Edits | Refused | By names | Refused before a file changed | Without a verdict |", "|---|---:|---:|---:|---:|---:|"]
+HEAD = ["| Crate | Edits | Refused | By names | Refused before a file changed | Not refused | Without a verdict |", "|---|" + "---:|" * 6]
 REFUSED, BY_NAMES, NOT_REFUSED, NO_VERDICT = "refused", "refused-by-names", "not-refused", "no-verdict"
 LOCK = threading.Lock()
 Verdict = collections.namedtuple("Verdict", "sum date commit found")
@@ -78,8 +78,8 @@ def row(crate, edits, verdicts):
     current = [verdicts[name_of(edit)].found for edit in edits if is_current(edit, verdicts)]
     before = [edit for edit in edits if not is_current(edit, verdicts) and name_of(edit) in verdicts]
     earlier = sum(verdicts[name_of(edit)].found in (REFUSED, BY_NAMES) for edit in before)
-    left = len(edits) - len(current) - earlier
-    counts = (len(edits), len(current), current.count(BY_NAMES), earlier, left)
+    not_refused = sum(verdicts[name_of(edit)].found == NOT_REFUSED for edit in before)
+    counts = (len(edits), len(current), current.count(BY_NAMES), earlier, not_refused, len(edits) - len(current) - earlier - not_refused)
     return f"| `{crate}` | " + " | ".join(str(count) if count else "" for count in counts) + " |", counts
 
 
@@ -88,7 +88,7 @@ def write_table(edits):
     with LOCK:
         verdicts = recorded()
         rows = [row(crate, edits[crate], verdicts) for crate in sorted(edits)]
-        whole = [sum(counts[at] for _, counts in rows) for at in range(5)]
+        whole = [sum(of_column) for of_column in zip(*(counts for _, counts in rows))]
         last = "| all crates | " + " | ".join(str(count) if count else "" for count in whole) + " |"
         before, rest = read(PAGE).split(BEGIN, 1)
         after = rest.split(END, 1)[1]
