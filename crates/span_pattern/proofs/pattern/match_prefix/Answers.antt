@@ -1,6 +1,6 @@
 use Rattle.std.proofs.Common.{rules, ◌∙◌, sym, chars}
-use Rattle.span_expr.proofs.Matching.{front_none, front_any, front_short, front_refused, front_taken}
-use Rattle.span_expr.proofs.pattern.match_prefix.Goals as goal
+use Rattle.span_pattern.proofs.Matching.{front_none, front_any, front_short, front_refused, front_taken}
+use Rattle.span_pattern.proofs.pattern.match_prefix.Goals as goal
 
 pub returns-then-is_any-clause-found : goal.returns-then-is_any-clause-found
 returns-then-is_any-clause-found c = c.loop-part.invariant.1 ∙ front_any c.loop-part.parts.now c.in-Some.part.now c.in-Some.more.now (chars c.loop-part.rest.now) c.in-Some.ensures.cases.0 (sym c.is_any.ensures ∙ c.if-is_any.true)

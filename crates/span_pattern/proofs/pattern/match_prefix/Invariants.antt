@@ -1,8 +1,8 @@
 use Rattle.std.proofs.Common.{◌≡◌, ◌≤◌, chars, length}
 use denote.Text.{Utf8}
 use denote.Shadow.{shadow}
-use Rattle.span_expr.specs.Patterns as spec
-use Rattle.span_expr.proofs.pattern.match_prefix.Given as goal
+use Rattle.span_pattern.specs.Patterns as spec
+use Rattle.span_pattern.proofs.pattern.match_prefix.Given as goal
 
 abbrev pub invariant-loop-part : goal.invariant-loop-part
 invariant-loop-part l =

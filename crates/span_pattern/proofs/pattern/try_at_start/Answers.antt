@@ -1,6 +1,6 @@
 use Rattle.std.proofs.Common.{chars}
-use Rattle.span_expr.proofs.Matching.{goes_after}
-use Rattle.span_expr.proofs.pattern.try_at_start.Goals as goal
+use Rattle.span_pattern.proofs.Matching.{goes_after}
+use Rattle.span_pattern.proofs.pattern.try_at_start.Goals as goal
 
 pub returns-in-Some-split_first-clause-try_at_start : goal.returns-in-Some-split_first-clause-try_at_start
 returns-in-Some-split_first-clause-try_at_start c =
