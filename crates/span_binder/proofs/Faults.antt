@@ -19,10 +19,10 @@ use Rattle.span_trees.specs.declared.tree.Expr.TheOpen.{Expr-F, Arm-F, Link-F}
 use Rattle.span_trees.specs.declared.tree.Expr.TheViews.{roll-Expr}
 use Rattle.span_trees.specs.declared.tree.Expr.TheFolds.{ind-Expr, map-Expr, fold-roll-Expr, fold-roll-Arm, fold-roll-Link}
 use Rattle.span_expr.specs.declared.expr.Expr.{Expr as TypedExpr}
-use Rattle.span_expr.specs.declared.expr.PatternPart.{PatternPart}
+use Rattle.span_pattern.specs.declared.pattern.PatternPart.{PatternPart}
 use Rattle.span_expr.specs.declared.expr.Operator.{Operator as Calculates}
 use Rattle.span_expr.specs.declared.expr.Operator.TheVariants.{Divide, Modulo}
-use Rattle.span_expr.specs.Patterns.{parts_of}
+use Rattle.span_pattern.specs.Patterns.{parts_of}
 use Rattle.span_query.specs.declared.query.Aggregate.{Aggregate}
 use Rattle.span_query.specs.declared.query.Aggregate.TheVariants.{CountRows, Of}
 use Rattle.span_query.specs.declared.query.Function.{Function}

@@ -7,7 +7,6 @@ pub mod conjunct;
 pub mod copy;
 pub mod expr;
 pub mod form;
-pub mod pattern;
 pub mod rank;
 pub mod reads;
 pub mod total;

@@ -15,12 +15,12 @@ use Rattle.span_trees.specs.declared.tree.Operator.TheVariants.{Plus, Minus, Tim
 use Rattle.span_expr.specs.declared.expr.Expr.{Expr}
 use Rattle.span_expr.specs.declared.expr.Expr.TheVariants as expr
 use Rattle.span_expr.specs.declared.expr.Arm.{Arm}
-use Rattle.span_expr.specs.declared.expr.PatternPart.{PatternPart}
+use Rattle.span_pattern.specs.declared.pattern.PatternPart.{PatternPart}
 use Rattle.span_expr.specs.declared.expr.Comparison.{Comparison as Compares}
 use Rattle.span_expr.specs.declared.expr.Comparison.TheVariants as compares
 use Rattle.span_expr.specs.declared.expr.Operator.{Operator as Calculates}
 use Rattle.span_expr.specs.declared.expr.Operator.TheVariants.{Add, Subtract, Multiply, Divide, Modulo, Concatenate}
-use Rattle.span_expr.specs.Patterns.{parts_of}
+use Rattle.span_pattern.specs.Patterns.{parts_of}
 use Rattle.span_query.specs.declared.query.Function.{Function}
 use Rattle.span_query.specs.declared.query.Function.TheVariants as function
 use Rattle.span_lexer.specs.LiteralValues.{text_of}

@@ -9,7 +9,7 @@ use super::kind::{common_kind, takes, text_kind};
 use super::step::{box_three, box_two, keep_if, pair_with};
 use super::typed::{Chain, Typed};
 use span_expr::expr::{Comparison, Expr, Link, Operator};
-use span_expr::pattern::parts_of;
+use span_pattern::pattern::parts_of;
 use span_lexer::literal_value::text_of;
 use span_trees::tree;
 use span_value::refusal::Refusal;

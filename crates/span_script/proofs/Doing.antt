@@ -12,7 +12,7 @@ use Rattle.span_machine.specs.declared.step.Reply.{Reply}
 use Rattle.span_machine.specs.declared.step.Reply.TheVariants as reply
 use Rattle.span_machine.specs.Machine.{Machine}
 use Rattle.span_script.specs.declared.session.Session.{Session}
-use Rattle.span_script.specs.Lines.{refused_line, word_line}
+use Rattle.span_answers.specs.Lines.{refused_line, word_line}
 use Rattle.span_command.specs.declared.command.Command.{Command}
 use Rattle.span_command.specs.declared.command.Command.TheVariants as command
 use Rattle.span_machine.specs.declared.step.Step.{Step}

@@ -1,9 +1,6 @@
-pub mod Begun
 pub mod Doing
 pub mod Ends
 pub mod Loads
 pub mod Runs
 pub mod Scans
-pub mod Shards
 pub mod Taking
-pub mod Written

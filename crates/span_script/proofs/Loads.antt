@@ -19,7 +19,7 @@ use Rattle.span_script.specs.declared.report.Refused.{Refused}
 use Rattle.span_script.specs.declared.load.Load.{Load}
 use Rattle.span_script.specs.declared.load.Records.{Records}
 use Rattle.span_script.specs.declared.session.Session.{Session}
-use Rattle.span_script.specs.Lines.{number_line, refused_line}
+use Rattle.span_answers.specs.Lines.{number_line, refused_line}
 use Rattle.span_script.specs.Scripts.{BeginsLoad, EndsLoad, Gathers, LoadsRecord, RefusesRecord, ScriptState, refused_load}
 use Rattle.span_script.specs.Sessions.{AddsRow, Changes, Gathered, inserts_of, load_of, state_of, state_with, with_records}
 

@@ -1,4 +1,3 @@
-pub mod Lines
 pub mod Reports
 pub mod Scripts
 pub mod Sessions

@@ -30,7 +30,7 @@ use Rattle.span_command.specs.Layouts.{IsOfRecord, IsLayoutOf, IsKeyLayoutOf, Ha
 use Rattle.span_command.specs.Limits.{longest_line}
 use Rattle.span_command.specs.Record.{record_fields}
 use Rattle.span_command.specs.Texts.{NextLine}
-use Rattle.span_script.specs.Lines.{shards_text, number_line, word_line, refused_line, reply_text}
+use Rattle.span_answers.specs.Lines.{shards_text, number_line, word_line, refused_line, reply_text}
 use Rattle.span_script.specs.Steps.{Takes, IsBegun, IsQueried}
 
 -- a load whose lines are read: how its records are read, or why it is refused; and how many mutations were gathered

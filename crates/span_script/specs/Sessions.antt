@@ -20,7 +20,7 @@ use Rattle.span_script.specs.declared.report.Refused.{Refused}
 use Rattle.span_script.specs.declared.load.Load.{Load}
 use Rattle.span_script.specs.declared.load.Records.{Records}
 use Rattle.span_script.specs.declared.session.Session.{Session}
-use Rattle.span_script.specs.Lines.{refused_line}
+use Rattle.span_answers.specs.Lines.{refused_line}
 use Rattle.span_script.specs.Scripts.{OpenLoad, ScriptState, IsAnswered}
 
 abbrev pub layout_of : Result Records Refused → Result Layout Refusal

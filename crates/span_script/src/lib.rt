@@ -5,7 +5,6 @@
 //! the commands and their answers.
 #![tactic(auto)]
 
-pub mod answer;
 mod load;
 pub mod report;
 pub mod run;

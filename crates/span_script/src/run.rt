@@ -5,9 +5,9 @@ ghost use Rattle.span_command.specs.Device.{risen};
 ghost use Rattle.span_command.specs.Unread.{IsStillToCome, TakesNext};
 ghost use Rattle.span_script.specs.Scripts.{IsAnswerText};
 
-use super::answer::Answers;
 use super::report::{Refused, Reports, query_of};
 use super::session::Session;
+use span_answers::answer::Answers;
 use span_command::device::{Input, Output};
 use span_command::line::{Line, Lines};
 use span_core::database::Core;

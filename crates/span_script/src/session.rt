@@ -1,7 +1,7 @@
 //! What a script has set and gathered, and its commands done one after another.
 ghost use Rattle.std.specs.Prelude.{◌≡◌, ◌++◌, None, Some, is_some, IfErr, IfOk, IfSome, IsOkUnless, OnOk, ◌⊎◌, [], codes, vec_len};
 ghost use Rattle.span_machine.specs.declared.step.Step.TheVariants as step_of_kind;
-ghost use Rattle.span_script.specs.Lines.{Begins, number_line};
+ghost use Rattle.span_answers.specs.Lines.{Begins, number_line};
 ghost use Rattle.span_script.specs.Reports.{AreAnswered};
 ghost use Rattle.span_script.specs.Steps.{Takes, IsQueried, IsBegun};
 ghost use Rattle.span_script.specs.Scripts.{BeginsLoad, Deletes, EndsLoad, Gathers, IsAnswered, IsCommandLine, IsDeletion, IsDone, IsDoneIfRead, IsExplained, IsFirst, IsLoadLine, IsReplied, IsSplit, LoadsRecord, RefusesClock, RefusesDelete, RefusesParam, RefusesRecord, RefusesWrite, SetsClock, SetsParam, Writes, end_answer, is_passed_over, refused_load};
@@ -10,11 +10,11 @@ ghost use Rattle.span_command.specs.Layouts.{IsOfRecord, heading_of};
 ghost use Rattle.span_command.specs.Record.{record_fields};
 ghost use Rattle.span_script.specs.Sessions.{Adds, AddsAt, AddsLine, Changes, Gathered, count_of, load_of, state_in, state_of, text_of};
 
-use super::answer::Answers;
 use super::load::{Load, Records, one_row};
 use super::report::Refused;
 use super::steps::{OWNER, read, split_refusal, step_of, take_step};
 use csv::StringRecord;
+use span_answers::answer::Answers;
 use span_command::command::{Command, read_command};
 use span_command::layout::Layout;
 use span_command::line::Line;
@@ -60,7 +60,7 @@ impl Session {
 
     /// Does what a line of this number asks for, and adds its answer. Returns the refused command that was answered so,
     /// if one was. `OutOfMemory` where memory runs out for the answer.
-    #[tactic(auto, using(crate::proofs::Begun::front_taken))]
+    #[tactic(auto, using(span_answers::proofs::Begun::front_taken))]
     pub fn take_line(
         &mut self,
         alloc: Global,
@@ -89,7 +89,7 @@ impl Session {
     }
 
     /// The end of the script, after the line of this number: a load without its `end` is refused.
-    #[tactic(auto, using(crate::proofs::Begun::begins_itself))]
+    #[tactic(auto, using(span_answers::proofs::Begun::begins_itself))]
     pub fn finish(&mut self, number: u64, answers: &mut Answers) -> Result<Option<Refused>, Refusal>
         ensures exact { IfOk result (λ _. answers.new ≡ answers.old ++ end_answer (state_of self.old)) }
         ensures answered { IfOk result (AreAnswered answers.old answers.new) }
@@ -111,7 +111,7 @@ impl Session {
     }
 
     /// Adds the answer of a line, or answers where and why its command is refused.
-    #[tactic(auto, using(crate::proofs::Begun::begins_itself, crate::proofs::Begun::begins_on))]
+    #[tactic(auto, using(span_answers::proofs::Begun::begins_itself, span_answers::proofs::Begun::begins_on))]
     fn answer_line(
         &mut self,
         alloc: Global,
@@ -138,7 +138,7 @@ impl Session {
     }
 
     /// A line that is in no load.
-    #[tactic(auto, using(crate::proofs::Begun::begins_itself, crate::proofs::Begun::begins_on))]
+    #[tactic(auto, using(span_answers::proofs::Begun::begins_itself, span_answers::proofs::Begun::begins_on))]
     fn command_line(
         &mut self,
         alloc: Global,
@@ -162,7 +162,7 @@ impl Session {
     }
 
     /// Does the command of a line; empty lines and remarks have none.
-    #[tactic(auto, using(crate::proofs::Begun::begins_itself, crate::proofs::Begun::begins_on))]
+    #[tactic(auto, using(span_answers::proofs::Begun::begins_itself, span_answers::proofs::Begun::begins_on))]
     fn answer_text(
         &mut self,
         alloc: Global,
@@ -192,7 +192,7 @@ impl Session {
     ///
     /// Where a command changes what a script has set, its answer goes first: nothing has changed then where memory runs
     /// out for it, and `take_line` takes it back where the change is refused.
-    #[tactic(auto, using(crate::proofs::Begun::begins_itself, crate::proofs::Begun::begins_on))]
+    #[tactic(auto, using(span_answers::proofs::Begun::begins_itself, span_answers::proofs::Begun::begins_on))]
     fn answer(
         &mut self,
         alloc: Global,
@@ -417,7 +417,7 @@ impl Session {
     }
 
     /// Takes a line of a load. Its answer comes with its `end`.
-    #[tactic(auto, using(crate::proofs::Begun::begins_itself, crate::proofs::Begun::begins_on))]
+    #[tactic(auto, using(span_answers::proofs::Begun::begins_itself, span_answers::proofs::Begun::begins_on))]
     fn load_line(
         &mut self,
         alloc: Global,
@@ -478,7 +478,7 @@ impl Session {
     }
 
     /// Answers a load at its `end`, the line of this number. Where memory runs out the load has gathered nothing.
-    #[tactic(auto, using(crate::proofs::Begun::begins_itself, crate::proofs::Begun::begins_on))]
+    #[tactic(auto, using(span_answers::proofs::Begun::begins_itself, span_answers::proofs::Begun::begins_on))]
     fn end_load(
         &mut self,
         alloc: Global,
@@ -503,7 +503,7 @@ impl Session {
 
     /// Gathers what a load has read, and answers how much that is. The answer goes first: nothing has changed then
     /// where memory runs out for it. `OutOfMemory` is the only refusal.
-    #[tactic(auto, using(crate::proofs::Begun::begins_itself, crate::proofs::Begun::begins_on))]
+    #[tactic(auto, using(span_answers::proofs::Begun::begins_itself, span_answers::proofs::Begun::begins_on))]
     fn gather_load(
         &mut self,
         alloc: Global,
@@ -572,7 +572,7 @@ impl Session {
     }
 
     /// Adds the plan of a query text with the parameters that are set. The refusal of the query text, or `OutOfMemory`.
-    #[tactic(auto, using(crate::proofs::Begun::begins_itself))]
+    #[tactic(auto, using(span_answers::proofs::Begun::begins_itself))]
     fn explain(
         &self,
         alloc: Global,
@@ -635,7 +635,7 @@ fn is_passed_over(text: &str) -> bool
 }
 
 /// Adds the answer that a reply is. A refused step is a refused command.
-#[tactic(auto, using(crate::proofs::Begun::begins_itself))]
+#[tactic(auto, using(span_answers::proofs::Begun::begins_itself))]
 fn add_reply(alloc: Global, reply: &Reply, answers: &mut Answers) -> Result<(), Refusal>
     ensures added { Adds (IsReplied reply.now) answers.old answers.new result }
     ensures grows { Begins answers.old answers.new }

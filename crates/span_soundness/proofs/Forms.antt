@@ -7,7 +7,7 @@ use Rattle.span_value.specs.declared.value.Kind.TheVariants as kind
 use Rattle.span_value.specs.declared.value.Value.{Value}
 use Rattle.span_schema.specs.Fitting.{is_of_kind}
 use Rattle.span_expr.specs.declared.expr.Comparison.{Comparison}
-use Rattle.span_expr.specs.declared.expr.PatternPart.{PatternPart}
+use Rattle.span_pattern.specs.declared.pattern.PatternPart.{PatternPart}
 use Rattle.span_expr.specs.declared.expr.Link.{Link}
 use Rattle.span_expr.specs.declared.expr.Arm.{Arm}
 use Rattle.span_expr.specs.declared.expr.Expr.{Expr}

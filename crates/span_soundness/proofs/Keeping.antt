@@ -16,7 +16,7 @@ use Rattle.span_expr.specs.declared.condition.Condition.{Condition}
 use Rattle.span_expr.specs.declared.condition.Condition.TheVariants.{Known, Faulted}
 use Rattle.span_expr.specs.declared.expr.Comparison.{Comparison}
 use Rattle.span_expr.specs.declared.expr.Comparison.TheVariants.{Equal, AtLeast, AtMost}
-use Rattle.span_expr.specs.declared.expr.PatternPart.{PatternPart}
+use Rattle.span_pattern.specs.declared.pattern.PatternPart.{PatternPart}
 use Rattle.span_expr.specs.declared.expr.Operator.{Operator}
 use Rattle.span_expr.specs.declared.expr.Operator.TheVariants.{Add, Subtract, Multiply, Divide, Modulo, Concatenate}
 use Rattle.span_expr.specs.declared.expr.Link.{Link}
@@ -27,7 +27,7 @@ use Rattle.span_expr.specs.declared.expr.Expr.TheViews.{roll-Expr}
 use Rattle.span_expr.specs.declared.expr.Expr.TheFolds.{ind-Expr, map-Expr, fold-roll-Expr}
 use Rattle.span_expr.specs.Outcomes.{at_value, strict, is_null, null_test, condition_of, outcome_of, logical_not, if_true, first_non_null, both}
 use Rattle.span_expr.specs.Operators.{number, is_int64, apply_operator, calculate, concatenation, append_text, append_bytes, calculate_ints, arithmetic_negation, compare_values, holds, length_of, has_prefix, column_of}
-use Rattle.span_expr.specs.Patterns.{like}
+use Rattle.span_pattern.specs.Patterns.{like}
 use Rattle.span_expr.specs.Meaning.{apply_link, case_value, match_value, at_operands, val, link_val, arm_val, between, in_list, and_also, or_else, or_equal, all_of, any_of}
 use Rattle.span_soundness.specs.Types.{IsOutcomeOf, IsRowOf, are_same, is_text, is_operand, Typing, is_some, is_link_of, has_value, has_condition, is_compared_with, are_conditions, all_values_are, all_are, has_type, typing_at, is_of}
 use Rattle.span_soundness.specs.Laws.{ExpressionsKeepTypes}

@@ -14,10 +14,10 @@ use Rattle.span_expr.specs.declared.expr.Expr.{Expr}
 use Rattle.span_expr.specs.declared.expr.Expr.TheVariants as expr
 use Rattle.span_expr.specs.declared.expr.Link.{Link}
 use Rattle.span_expr.specs.declared.expr.Arm.{Arm}
-use Rattle.span_expr.specs.declared.expr.PatternPart.{PatternPart}
+use Rattle.span_pattern.specs.declared.pattern.PatternPart.{PatternPart}
 use Rattle.span_expr.specs.declared.expr.Operator.{Operator}
 use Rattle.span_expr.specs.declared.expr.Operator.TheVariants.{Divide, Modulo}
-use Rattle.span_expr.specs.Patterns.{parts_of}
+use Rattle.span_pattern.specs.Patterns.{parts_of}
 use Rattle.span_query.specs.declared.query.Function.{Function}
 use Rattle.span_query.specs.declared.query.Function.TheVariants as function
 use Rattle.span_lexer.specs.LiteralValues.{text_of}

@@ -11,12 +11,12 @@ use Rattle.span_value.specs.declared.truth.Outcome.TheVariants.{Val, Fault}
 use Rattle.span_value.specs.Orders.{value_order}
 use Rattle.span_schema.specs.Fitting.{is_of_kind}
 use Rattle.span_expr.specs.declared.expr.Comparison.{Comparison}
-use Rattle.span_expr.specs.declared.expr.PatternPart.{PatternPart}
+use Rattle.span_pattern.specs.declared.pattern.PatternPart.{PatternPart}
 use Rattle.span_expr.specs.declared.expr.Operator.{Operator}
 use Rattle.span_expr.specs.declared.expr.Operator.TheVariants.{Add, Subtract, Multiply, Divide, Modulo, Concatenate}
 use Rattle.span_expr.specs.Outcomes.{is_null, condition_of, outcome_of}
 use Rattle.span_expr.specs.Operators.{number, is_int64, apply_operator, calculate, concatenation, calculate_ints, arithmetic_negation, compare_values, holds, has_prefix, length_of}
-use Rattle.span_expr.specs.Patterns.{like}
+use Rattle.span_pattern.specs.Patterns.{like}
 use Rattle.span_soundness.specs.Types.{IsNullOnlyIf, are_same, is_text, is_operand}
 use Rattle.span_soundness.specs.Laws.{NullComesOfNull}
 use Rattle.span_soundness.proofs.Sameness.{not_true}

@@ -11,10 +11,10 @@ use Rattle.span_parser.specs.declared.tree.Query.{Query}
 use Rattle.span_expr.specs.declared.expr.Expr.{Expr}
 use Rattle.span_expr.specs.declared.expr.Operator.{Operator}
 use Rattle.span_expr.specs.declared.expr.Comparison.{Comparison}
-use Rattle.span_expr.specs.declared.expr.PatternPart.{PatternPart}
+use Rattle.span_pattern.specs.declared.pattern.PatternPart.{PatternPart}
 use Rattle.span_expr.specs.Outcomes.{is_null, condition_of, outcome_of}
 use Rattle.span_expr.specs.Operators.{apply_operator, arithmetic_negation, compare_values, has_prefix, length_of}
-use Rattle.span_expr.specs.Patterns.{like}
+use Rattle.span_pattern.specs.Patterns.{like}
 use Rattle.span_expr.specs.Meaning.{val}
 use Rattle.span_query.specs.declared.query.Aggregate.{Aggregate}
 use Rattle.span_query.specs.declared.query.BoundQuery.{BoundQuery}

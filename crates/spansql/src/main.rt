@@ -1,20 +1,16 @@
 //! The program `spansql`.
 //!
 //! `spansql run SCHEMA SCRIPT` runs the script of a file over a new database with the schema of another file, and writes the answers on
-//! standard output. `words` reads the command line, `answer` judges the schema and runs the script; what goes to standard error beside
-//! them, where it is asked for, is in `explanations` and `progress`. `docs/FORMATS.md` has scripts, answers and statuses.
+//! standard output. What it does with words, bytes and devices is in `span_program`; here are the process's own: its arguments, files and
+//! streams, and its exit status. `docs/FORMATS.md` has scripts, answers and statuses.
 #![tactic(auto)]
 
-mod answer;
-mod explanations;
-mod fault;
-mod progress;
-mod words;
-
 use clap::error::ErrorKind;
-use explanations::Explanations;
-use fault::Fault;
-use progress::{Progress, Watched};
+use span_program::answer::answer;
+use span_program::explanations::Explanations;
+use span_program::fault::Fault;
+use span_program::progress::{Progress, Watched};
+use span_program::words::{Order, read_words};
 use span_script::Counted;
 use std::alloc::{AllocError, Global};
 use std::fs::{File, OpenFile};
@@ -22,7 +18,6 @@ use std::io::IsTerminal;
 use std::process::ExitCode;
 use std::rt::{Clock, Env, Files};
 use std::{env, fs, io};
-use words::{Order, read_words};
 
 /// The status of a wrong command line, or one that asks for help.
 const WRONG_WORDS: u8 = 2;
@@ -115,7 +110,7 @@ fn run_files<R: AllocGlobal + Print + Eprint + Files + Clock>(
     let mut input = Watched::new(Counted::new(file), progress);
     let mut output = Counted::new(io::writer(rt));
     let mut reports = reports;
-    answer::answer(
+    answer(
         rt.alloc(),
         bytes.as_slice(),
         &mut input,

@@ -1,0 +1,3 @@
+pub mod Begun
+pub mod Shards
+pub mod Written

@@ -1,0 +1,3 @@
+pub mod Firsts
+pub mod Matching
+pub mod Writing
