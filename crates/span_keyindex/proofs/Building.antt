@@ -8,20 +8,20 @@ use Rattle.span_arena.specs.declared.cell.Cell.{Cell}
 use Rattle.span_arena.specs.declared.cell.Links.{Links}
 use Rattle.span_arena.specs.declared.cell.Balance.TheVariants.{Even, RightHigh}
 use Rattle.span_keyindex.specs.declared.build.Built.{Built}
-use Rattle.span_keyindex.specs.Trees.{Tree, Fork, root_of, IsInCells, one_at, count, height, IsAvl, IsBalance}
+use Rattle.span_keytree.specs.Trees.{Tree, Fork, root_of, IsInCells, one_at, count, height, IsAvl, IsBalance}
 use Rattle.span_arena.specs.Cells.{cell_at, with_links}
-use Rattle.span_keyindex.specs.Effects.{links_with}
-use Rattle.span_keyindex.specs.Items.{entry, items, holders}
-use Rattle.span_keyindex.specs.Entries.{Entry}
-use Rattle.span_keyindex.specs.Nexts.{Nexts, next_of}
-use Rattle.span_keyindex.specs.Puts.{tree_at, IsTree}
-use Rattle.span_keyindex.specs.Walks.{walked}
+use Rattle.span_keytree.specs.Effects.{links_with}
+use Rattle.span_keytree.specs.Items.{entry, items, holders}
+use Rattle.span_keytree.specs.Entries.{Entry}
+use Rattle.span_keytree.specs.Nexts.{Nexts, next_of}
+use Rattle.span_keytree.specs.Puts.{tree_at, IsTree}
+use Rattle.span_keywalk.specs.Walks.{walked}
 use Rattle.span_keyindex.specs.Builds.{after_cells, run_of, IsRun, IsDigits, balance_of, IsBuilt}
-use Rattle.span_keyindex.proofs.Counting.{one_here, one_same, differ, stays, links_here, links_other, links_length}
-use Rattle.span_keyindex.proofs.Avl.{same_balance}
-use Rattle.span_keyindex.proofs.Linking.{held_append, held_items}
-use Rattle.span_keyindex.proofs.Whole.{shape_is}
-use Rattle.span_keyindex.proofs.Walking.{walked_none}
+use Rattle.span_keytree.proofs.Counting.{one_here, one_same, differ, stays, links_here, links_other, links_length}
+use Rattle.span_keytree.proofs.Avl.{same_balance}
+use Rattle.span_keytree.proofs.Linking.{held_append, held_items}
+use Rattle.span_keytree.proofs.Whole.{shape_is}
+use Rattle.span_keywalk.proofs.Walking.{walked_none}
 
 -- ---- runs
 

@@ -9,11 +9,12 @@ use Rattle.std.proofs.lemmas.Bool.Decides.{nat_tests}
 use Rattle.span_arena.specs.declared.version.Version.{Version}
 use Rattle.span_arena.specs.Cells.{blank}
 use Rattle.span_arena.specs.Content.{Content, IsChain, is_unused, without_chain}
-use Rattle.span_keyindex.specs.Entries.{Entry}
-use Rattle.span_keyindex.specs.Items.{holders}
-use Rattle.span_keyindex.specs.Arenas.{one_if_chain, IsArenaOf, in_use, IsWithoutUnused}
+use Rattle.span_keytree.specs.Entries.{Entry}
+use Rattle.span_keytree.specs.Items.{holders}
+use Rattle.span_keytree.specs.Arenas.{one_if_chain, IsArenaOf, in_use, IsWithoutUnused}
 use Rattle.span_keyindex.specs.Removals.{KeepsCells}
-use Rattle.span_keyindex.proofs.Holders.{one_of, one_here, one_elsewhere, holders-append, at_most_one, is_some_chain, holders-filter}
+use Rattle.span_keyindex.proofs.Holders.{one_of, one_here, one_elsewhere, holders-append, at_most_one, holders-filter}
+use Rattle.span_keytree.proofs.Held.{is_some_chain}
 
 -- the number is that of a chain with no version and nothing prepared, of one of these keys
 abbrev pub is_gone : Content → List Entry → ℕ → Bool

@@ -5,10 +5,10 @@ use Rattle.std.proofs.lemmas.Bool.{cases_eq}
 use Rattle.std.proofs.lemmas.Bool.Decides.{nat_tests}
 use Rattle.span_arena.specs.declared.version.Version.{Version}
 use Rattle.span_arena.specs.Content.{Content, IsNewChain}
-use Rattle.span_keyindex.specs.Entries.{Entry}
-use Rattle.span_keyindex.specs.Items.{holders}
-use Rattle.span_keyindex.specs.Arenas.{one_if_chain}
-use Rattle.span_keyindex.proofs.Puts.{elsewhere}
+use Rattle.span_keytree.specs.Entries.{Entry}
+use Rattle.span_keytree.specs.Items.{holders}
+use Rattle.span_keytree.specs.Arenas.{one_if_chain}
+use Rattle.span_keytree.proofs.Puts.{elsewhere}
 
 abbrev pub one_of : ℕ → Entry → ℕ
 one_of c e = cond (nat_eq e.chain.number c) 1 0
@@ -30,10 +30,6 @@ none_held c false = refl
 pub at_most_one : (o : Option (List Version)) → one_if_chain o ≤ 1
 at_most_one None = omega arith
 at_most_one (Some vs) = omega arith
-
-pub is_some_chain : (o : Option (List Version)) → 1 ≤ one_if_chain o → (vs : List Version) × (o ≡ Some vs)
-is_some_chain None h = absurd (omega arith)
-is_some_chain (Some vs) h = (vs, refl)
 
 -- a filter by the chain's number keeps all keys of a chain or none
 pub holders-filter : (q : ℕ → Bool) (c : ℕ) (es : List Entry) → holders c (filter (λ (e : Entry). q e.chain.number) es) ≡ cond (q c) (holders c es) 0

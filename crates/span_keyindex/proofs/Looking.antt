@@ -2,13 +2,13 @@
 use Rattle.std.proofs.Common.{ℕ, ◌+◌, ◌*◌, ◌<◌, ◌≤◌, ◌^◌, List, refl, ◌∙◌, arith, length}
 use Rattle.span_arena.specs.declared.cell.Cell.{Cell}
 use Rattle.span_arena.specs.Counts.{Count}
-use Rattle.span_keyindex.specs.declared.tree.TreeRoot.{TreeRoot}
-use Rattle.span_keyindex.specs.Indexes.{entries_at, tree_of, IsSearchCost, IsSearchTree}
+use Rattle.span_keytree.specs.declared.tree.TreeRoot.{TreeRoot}
+use Rattle.span_keytree.specs.Roots.{entries_at, tree_of, IsSearchCost, IsSearchTree}
 use Rattle.span_keyindex.specs.Limits.{search_lanes}
 use Rattle.span_keyindex.specs.Nears.{IsLookCost}
-use Rattle.span_keyindex.specs.Trees.{height}
-use Rattle.span_keyindex.proofs.Avl.{few_levels}
-use Rattle.span_keyindex.proofs.Searching.{length_items}
+use Rattle.span_keytree.specs.Trees.{height}
+use Rattle.span_keytree.proofs.Avl.{few_levels}
+use Rattle.span_keytree.proofs.Searching.{length_items}
 
 pub none_looked : (s : Count) → IsLookCost 0 s s
 none_looked s = record { compared = omega arith; written = refl }

@@ -9,19 +9,20 @@ use Rattle.span_keycode.specs.Order.{byte_order}
 use Rattle.span_arena.specs.declared.cell.Cell.{Cell}
 use Rattle.span_arena.specs.declared.version.Version.{Version}
 use Rattle.span_arena.specs.Cells.{cell_at}
-use Rattle.span_arena.specs.Content.{Content, IsChain}
+use Rattle.span_arena.specs.Content.{Content}
 use Rattle.span_keyindex.specs.declared.index.KeyIndex.{KeyIndex}
-use Rattle.span_keyindex.specs.Arenas.{one_if_chain}
-use Rattle.span_keyindex.specs.Entries.{Entry, HasChain, IsAbsent}
-use Rattle.span_keyindex.specs.Items.{entry, holders, AreRising}
-use Rattle.span_keyindex.specs.Indexes.{tree_of, entries_of, IsIndexOf}
+use Rattle.span_keytree.specs.Arenas.{one_if_chain}
+use Rattle.span_keytree.specs.Entries.{Entry, HasChain, IsAbsent}
+use Rattle.span_keytree.specs.Items.{entry, holders, AreRising}
+use Rattle.span_keytree.specs.Roots.{tree_of}
+use Rattle.span_keyindex.specs.Indexes.{entries_of, IsIndexOf}
 use Rattle.span_keyindex.specs.Nears.{IsBefore}
-use Rattle.span_keyindex.specs.Nexts.{next_of, IsLinked, head_cell}
+use Rattle.span_keytree.specs.Nexts.{next_of, IsLinked, head_cell}
 use Rattle.std.proofs.lemmas.Map.Lookups.{exact_bytes}
-use Rattle.span_keyindex.proofs.Counting.{one_other}
-use Rattle.span_keyindex.proofs.Linking.{linked_back, linked_first}
-use Rattle.span_keyindex.proofs.Rising.{all_back, all_both, IsAround, around, apart, turned, above_more, below_more, all_weaker}
-use Rattle.span_keyindex.proofs.Walking.{keys_in_cells}
+use Rattle.span_keytree.proofs.Counting.{one_other}
+use Rattle.span_keytree.proofs.Linking.{linked_back, linked_first}
+use Rattle.span_keytree.proofs.Rising.{all_back, all_both, IsAround, around, apart, turned, above_more, below_more, all_weaker}
+use Rattle.span_keytree.proofs.Keyed.{keys_in_cells}
 
 -- an entry of a chain among the others
 record IsHolder (b : ℕ) (es : List Entry) : Type 0 where
@@ -38,13 +39,6 @@ holder b (e ∷ es) some = elim (cases_eq e.chain.number b) [
   | inr differs ↦ (let rest = holder b es (omega (arith, one_other b e.chain.number (λ q. differs (sym q)))) in
       record { front = e ∷ rest.front; here = rest.here; back = rest.back; is = ap (λ (l : List Entry). e ∷ l) rest.is; number = rest.number })
 ]
-
-has_versions : (o : Option (List Version)) → is_some o ≡ true → (vs : List Version) × (o ≡ Some vs)
-has_versions None is = absurd (let e : false ≡ true = is in cc)
-has_versions (Some vs) is = (vs, refl)
-
-pub is_some_chain : (a : Content) (c : ℕ) → is_some (get_or a.chains c None) ≡ true → IsChain a c
-is_some_chain a c is = has_versions (get_or a.chains c None) is
 
 some_chain : (o : Option (List Version)) → is_some o ≡ true → one_if_chain o ≡ 1
 some_chain None is = absurd (let e : false ≡ true = is in cc)

@@ -7,28 +7,20 @@ use Rattle.std.proofs.lemmas.Bool.{cases_eq}
 use Rattle.span_arena.specs.declared.token.Chain.{Chain}
 use Rattle.span_arena.specs.Content.{Content, IsChain, IsNewChain}
 use Rattle.span_arena.proofs.Keeping.{is_new_chain}
+use Rattle.span_keytree.proofs.Held.{held_chain}
 use Rattle.span_keyindex.specs.declared.index.KeyIndex.{KeyIndex}
-use Rattle.span_keyindex.specs.declared.tree.TreeRoot.{TreeRoot}
-use Rattle.span_keyindex.specs.Arenas.{one_if_chain, IsArenaOf, HasSameChains}
-use Rattle.span_keyindex.specs.Entries.{Entry, HasChain, IsSlotFor, with_entry}
-use Rattle.span_keyindex.specs.Items.{entry, holders, AreRising, below, above}
-use Rattle.span_keyindex.specs.Puts.{AreChains}
-use Rattle.span_keyindex.specs.Nexts.{Nexts}
-use Rattle.span_keyindex.specs.Indexes.{tree_of, entries_at, entries_of, IsIndex, IsIndexOf, IsSlot}
-use Rattle.span_keyindex.proofs.Counting.{one_here}
-use Rattle.span_keyindex.proofs.Holders.{one_of, one_elsewhere, holders-append, is_some_chain, chains_elsewhere}
+use Rattle.span_keytree.specs.declared.tree.TreeRoot.{TreeRoot}
+use Rattle.span_keytree.specs.Arenas.{one_if_chain, IsArenaOf, HasSameChains}
+use Rattle.span_keytree.specs.Entries.{Entry, HasChain, IsSlotFor, with_entry}
+use Rattle.span_keytree.specs.Items.{entry, holders, AreRising, below, above}
+use Rattle.span_keytree.specs.Nexts.{Nexts}
+use Rattle.span_keytree.specs.Roots.{entries_at, IsIndex, IsSlot}
+use Rattle.span_keyindex.specs.Indexes.{entries_of, IsIndexOf}
+use Rattle.span_keytree.proofs.Counting.{one_here}
+use Rattle.span_keyindex.proofs.Holders.{one_of, one_elsewhere, holders-append, chains_elsewhere}
 use Rattle.span_keyindex.proofs.Keeping.{own_stays}
-use Rattle.span_keyindex.proofs.Linking.{held_items}
-use Rattle.span_keyindex.proofs.Rising.{cut_at}
-use Rattle.span_keyindex.proofs.Searching.{AllOther}
-
--- a number that a key has is that of a chain
-pub held_chain : (es : List Entry) (a : Content) (c : ℕ) → IsArenaOf es a → 0 < holders c es → IsChain a c
-held_chain es a c own some = is_some_chain (get_or a.chains c None) (omega (arith, own.each c))
-
--- the cells of the tree are those of chains
-pub tree_chains : (a : Content) (index : TreeRoot) → IsArenaOf (entries_at a.cells index) a → AreChains a (tree_of a.cells index)
-tree_chains a index own j some = held_chain (entries_at a.cells index) a j own (omega (arith, held_items j (tree_of a.cells index)))
+use Rattle.span_keytree.proofs.Rising.{cut_at}
+use Rattle.span_keytree.proofs.Searching.{AllOther}
 
 chains_each : (es : List Entry) (a : Content) → ((c : ℕ) → 0 < holders c es → IsChain a c) → AllByRecursion (λ (e : Entry). IsChain a e.chain.number) es
 chains_each [] a held = tt

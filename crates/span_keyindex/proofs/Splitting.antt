@@ -1,38 +1,19 @@
 -- The keys from one on, in an index of their own.
-use Rattle.std.proofs.Common.{◌≡◌, ℕ, zero, suc, ◌<◌, ◌≤◌, length, List, [], ◌∷◌, ◌++◌, refl, sym, ◌∙◌, ap, arith, get_or, inl, inr, None, Option, subst, append-nil, append_assoc}
+use Rattle.std.proofs.Common.{◌≡◌, ℕ, zero, suc, ◌<◌, length, List, [], ◌∷◌, ◌++◌, refl, sym, ◌∙◌, ap, arith, get_or, inl, inr, subst, append-nil, append_assoc}
 use Rattle.std.specs.declared.cmp.Ordering.TheVariants.{Less}
 use Rattle.std.proofs.lemmas.List.{map-append}
 use Rattle.std.proofs.lemmas.Bool.{cases_eq}
 use Rattle.span_keycode.specs.Order.{byte_order}
-use Rattle.span_arena.specs.declared.cell.Cell.{Cell}
 use Rattle.span_arena.specs.declared.token.Chain.{Chain}
 use Rattle.span_arena.specs.Content.{Content, versions, versions_in, IsNewChain}
 use Rattle.span_arena.proofs.Keeping.{is_new_chain}
 use Rattle.span_keyindex.specs.declared.index.KeyIndex.{KeyIndex}
-use Rattle.span_keyindex.specs.declared.tree.TreeRoot.{TreeRoot}
-use Rattle.span_keyindex.specs.Entries.{Entry, HasChain, IsSlotFor, keys_of}
-use Rattle.span_keyindex.specs.Items.{AreRising, below, above, from}
-use Rattle.span_keyindex.specs.Nexts.{Nexts, head_cell}
-use Rattle.span_keyindex.specs.Indexes.{entries_at, entries_of, IsIndex, IsIndexOf}
+use Rattle.span_keytree.specs.Entries.{Entry, HasChain, IsSlotFor, keys_of}
+use Rattle.span_keytree.specs.Items.{AreRising, below, above, from}
+use Rattle.span_keyindex.specs.Indexes.{entries_of, IsIndexOf}
 use Rattle.span_keyindex.specs.Splits.{IsPartFrom}
 use Rattle.span_keyindex.proofs.Holders.{chains_elsewhere}
-use Rattle.span_keyindex.proofs.Rising.{AllBelow, IsAround, around, apart, cut_from, rising_back, keeps_below, drops_above}
-use Rattle.span_keyindex.proofs.Walking.{IsWalked, AreWalked, part_walked, part_handed}
-
--- ---- walks
-
-module _ (cs : List Cell) (ns : Nexts) (index : TreeRoot) (own : IsIndex cs ns index) (n : ℕ) (enough : length cs ≤ n) (low : List ℕ) (at : Option ℕ) (first : at ≡ head_cell None (from low (entries_at cs index))) where
-  cut : entries_at cs index ≡ below low (entries_at cs index) ++ (from low (entries_at cs index) ++ [])
-  cut = cut_from low (entries_at cs index) own.search.rising ∙ ap (λ (xs : List Entry). below low (entries_at cs index) ++ xs) (sym (append-nil (from low (entries_at cs index))))
-
-  -- the entries from a key on
-  pub from_walked : IsWalked cs ns n at None (from low (entries_at cs index))
-  from_walked = part_walked cs ns index own n enough (below low (entries_at cs index)) (from low (entries_at cs index)) [] at None cut
-      (first ∙ ap (λ (xs : List Entry). head_cell None xs) (sym (append-nil (from low (entries_at cs index))))) refl
-
-  -- and their chains
-  pub from_handed : AreWalked ns n at (from low (entries_at cs index))
-  from_handed = part_handed cs ns n at (from low (entries_at cs index)) own.places from_walked
+use Rattle.span_keytree.proofs.Rising.{AllBelow, IsAround, around, apart, cut_from, rising_back, keeps_below, drops_above}
 
 pub rising_from : (key : List ℕ) (es : List Entry) → AreRising es → AreRising (from key es)
 rising_from key es rising = rising_back (below key es) (from key es) (subst AreRising {x = es} {y = below key es ++ from key es} (cut_from key es rising) rising)

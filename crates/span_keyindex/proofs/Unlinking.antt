@@ -7,27 +7,27 @@ use Rattle.std.proofs.lemmas.List.{get_or-set_other}
 use Rattle.std.proofs.lemmas.List.Elements.{filter-append}
 use Rattle.span_keycode.specs.Order.{byte_order}
 use Rattle.span_arena.specs.declared.cell.Cell.{Cell}
-use Rattle.span_keyindex.specs.declared.tree.TreeRoot.{TreeRoot}
+use Rattle.span_keytree.specs.declared.tree.TreeRoot.{TreeRoot}
 use Rattle.span_keyindex.specs.declared.build.Built.{Built}
 use Rattle.span_keyindex.specs.declared.remove.Kept.{Kept}
-use Rattle.span_keyindex.specs.Trees.{one_at, count}
-use Rattle.span_keyindex.specs.Puts.{tree_at}
+use Rattle.span_keytree.specs.Trees.{one_at, count}
+use Rattle.span_keytree.specs.Puts.{tree_at}
 use Rattle.span_arena.specs.Content.{Content, IsChain, is_unused, without_chain}
 use Rattle.span_arena.specs.Cells.{cell_at}
-use Rattle.span_keyindex.specs.Items.{entry, items, holders, AreRising}
-use Rattle.span_keyindex.specs.Entries.{Entry}
-use Rattle.span_keyindex.specs.Nexts.{Nexts, next_of, IsLinked, with_cell, last_cell, without_first}
-use Rattle.span_keyindex.specs.Indexes.{tree_of, entries_at, IsIndex}
-use Rattle.span_keyindex.specs.Walks.{walked}
+use Rattle.span_keytree.specs.Items.{entry, items, holders, AreRising}
+use Rattle.span_keytree.specs.Entries.{Entry}
+use Rattle.span_keytree.specs.Nexts.{Nexts, next_of, IsLinked, with_cell, last_cell, without_first}
+use Rattle.span_keytree.specs.Roots.{tree_of, entries_at, IsIndex}
+use Rattle.span_keywalk.specs.Walks.{walked}
 use Rattle.span_keyindex.specs.Builds.{run_of, IsRun, IsBuilt}
-use Rattle.span_keyindex.specs.Arenas.{IsArenaOf, IsWithoutUnused}
+use Rattle.span_keytree.specs.Arenas.{IsArenaOf, IsWithoutUnused}
 use Rattle.span_keyindex.specs.Removals.{is_kept, unmarked, all_of, IsSequence, passed_links, passed, passed_arena, KeepsCells}
-use Rattle.span_keyindex.proofs.Counting.{one_here, one_same}
+use Rattle.span_keytree.proofs.Counting.{one_here, one_same}
 use Rattle.span_keyindex.proofs.Freeing.{IsFreed, is_chain_next, is_unused_next, freed_used, freed_more, freed_none, freed_cells, without_unused}
-use Rattle.span_keyindex.proofs.Linking.{held_append, held_items, linked_same, linked_more, last_some, last_held, held_apart}
-use Rattle.span_keyindex.proofs.Whole.{length_cell}
+use Rattle.span_keytree.proofs.Linking.{held_append, held_items, linked_same, linked_more, last_some, last_held, held_apart}
+use Rattle.span_keytree.proofs.Whole.{length_cell}
 use Rattle.span_keyindex.proofs.Building.{run_most}
-use Rattle.span_keyindex.proofs.Walking.{walked_is, all_walked}
+use Rattle.span_keywalk.proofs.Walking.{walked_is, all_walked}
 
 -- ---- filters
 

@@ -4,13 +4,13 @@ use Rattle.span_arena.specs.declared.cell.Cell.{Cell}
 use Rattle.span_arena.specs.declared.cell.Balance.{Balance}
 use Rattle.span_arena.specs.declared.cell.Balance.TheVariants.{Even, RightHigh}
 use Rattle.span_keyindex.specs.declared.build.Built.{Built}
-use Rattle.span_keyindex.specs.Trees.{IsAvl, height}
+use Rattle.span_keytree.specs.Trees.{IsAvl, height}
 use Rattle.span_arena.specs.Cells.{cell_at}
-use Rattle.span_keyindex.specs.Puts.{tree_at, IsTree}
-use Rattle.span_keyindex.specs.Items.{items, holders}
-use Rattle.span_keyindex.specs.Entries.{Entry}
-use Rattle.span_keyindex.specs.Nexts.{Nexts, next_of}
-use Rattle.span_keyindex.specs.Walks.{walked_in}
+use Rattle.span_keytree.specs.Puts.{tree_at, IsTree}
+use Rattle.span_keytree.specs.Items.{items, holders}
+use Rattle.span_keytree.specs.Entries.{Entry}
+use Rattle.span_keytree.specs.Nexts.{Nexts, next_of}
+use Rattle.span_keywalk.specs.Walks.{walked_in}
 
 -- the link after n cells
 abbrev pub after_cells : (ℕ → Option ℕ) → ℕ → Option ℕ → Option ℕ

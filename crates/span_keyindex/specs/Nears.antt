@@ -7,7 +7,7 @@ use Rattle.span_arena.specs.Counts.{Count}
 use Rattle.span_arena.specs.declared.cell.Cell.{Cell}
 use Rattle.span_keyindex.specs.declared.near.Near.{Near}
 use Rattle.span_keyindex.specs.declared.near.Near.TheVariants.{Here, Absent, Unknown}
-use Rattle.span_keyindex.specs.Entries.{Entry, HasChain, IsAbsent}
+use Rattle.span_keytree.specs.Entries.{Entry, HasChain, IsAbsent}
 
 -- the key is before that of the cell, if there is one
 abbrev pub IsBefore : List Cell → List ℕ → Option ℕ → Type 0

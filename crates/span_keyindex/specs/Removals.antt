@@ -4,9 +4,9 @@ use Rattle.span_arena.specs.Cells.{cell_at}
 use Rattle.span_arena.specs.Content.{Content, without_chain}
 use Rattle.span_arena.specs.declared.cell.Cell.{Cell}
 use Rattle.span_keyindex.specs.declared.remove.Kept.{Kept}
-use Rattle.span_keyindex.specs.Items.{holders}
-use Rattle.span_keyindex.specs.Entries.{Entry}
-use Rattle.span_keyindex.specs.Nexts.{Nexts, next_of, IsLinked, with_cell}
+use Rattle.span_keytree.specs.Items.{holders}
+use Rattle.span_keytree.specs.Entries.{Entry}
+use Rattle.span_keytree.specs.Nexts.{Nexts, next_of, IsLinked, with_cell}
 use Rattle.span_keyindex.specs.Builds.{run_of}
 
 abbrev pub is_kept : (ℕ → Bool) → Entry → Bool

@@ -2,7 +2,7 @@
 use Rattle.std.specs.Prelude.{◌≡◌, ℕ, List, []}
 use Rattle.span_arena.specs.Content.{Content, versions}
 use Rattle.span_keyindex.specs.declared.index.KeyIndex.{KeyIndex}
-use Rattle.span_keyindex.specs.Entries.{Entry, entries_from, keys_of}
+use Rattle.span_keytree.specs.Entries.{Entry, entries_from, keys_of}
 use Rattle.span_keyindex.specs.Indexes.{IsIndexOf, entries_of}
 
 -- the index has the keys from one on, in an arena of its own: their chains have no version, nothing is prepared, and no

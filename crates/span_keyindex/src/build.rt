@@ -3,9 +3,9 @@ ghost use Rattle.std.specs.Prelude.{◌≡◌};
 ghost use Rattle.span_arena.specs.Content.{with_cells};
 ghost use Rattle.span_keyindex.specs.Builds.{balance_of, IsBuilt, IsRun};
 
-use crate::next::NextLinks;
 use span_arena::arena::Arena;
 use span_arena::cell::{Balance, Links};
+use span_keytree::next::NextLinks;
 
 /// A tree that was built: the chain of its first key, the link after that of its last one, and how many levels it has.
 #[derive(Clone, Copy, Debug)]

@@ -1,27 +1,28 @@
 //! The index of keys.
 ghost use Rattle.std.specs.Prelude.{◌≡◌, ℕ, ◌*◌, ◌<◌, ◌^◌, All, IfErr, IfOk, IfSome, MatchOption, OnErr, length, map};
 ghost use Rattle.span_arena.specs.Content.{IsChain};
-ghost use Rattle.span_keyindex.specs.Arenas.{in_use, IsWithoutUnused};
-ghost use Rattle.span_keyindex.specs.Entries.{HasChain, IsAbsent, IsRising, IsSlotFor, entries_from, entries_in, entries_under};
-ghost use Rattle.span_keyindex.specs.Indexes.{AreTwoSearches, IsEmptyIndex, IsIndexOf, IsSearchCost, IsSlotCost, entries_of};
+ghost use Rattle.span_keytree.specs.Arenas.{in_use, IsWithoutUnused};
+ghost use Rattle.span_keytree.specs.Entries.{HasChain, IsAbsent, IsRising, IsSlotFor, entries_from, entries_in, entries_under};
+ghost use Rattle.span_keytree.specs.Roots.{AreTwoSearches, IsSearchCost, IsSlotCost};
+ghost use Rattle.span_keyindex.specs.Indexes.{IsEmptyIndex, IsIndexOf, entries_of};
 ghost use Rattle.span_keyindex.specs.Limits.{search_lanes};
 ghost use Rattle.span_keyindex.specs.Splits.{IsPartFrom};
-ghost use Rattle.span_keyindex.specs.Ways.{IsNearSlotCost};
+ghost use Rattle.span_keytree.specs.Ways.{IsNearSlotCost};
 
-use crate::chains::{Chains, chains_from, chains_of};
-use crate::find::find;
 use crate::near::{Near, SEARCH_LANES, near_key, near_keys};
-use crate::next::NextLinks;
 use crate::reach::look_above;
 use crate::remove::remove_unused;
 use crate::split::copy_keys;
-use crate::tree::{TreeRoot, slot_for, slot_near};
-use crate::walk::{Walk, all, walk_from, walk_range, walk_under};
 use span_arena::arena::Arena;
 use span_arena::steps::Steps;
 use span_arena::token::Chain;
 use span_keycode::key::Key;
 use span_keycode::range::KeyRange;
+use span_keytree::next::NextLinks;
+use span_keytree::tree::{TreeRoot, slot_for, slot_near};
+use span_keywalk::chains::{Chains, chains_from, chains_of};
+use span_keywalk::find::find;
+use span_keywalk::walk::{Walk, all, walk_from, walk_range, walk_under};
 use span_value::refusal::Refusal;
 use std::alloc::Global;
 use std::cmp::Ordering;

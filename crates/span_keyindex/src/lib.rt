@@ -4,21 +4,9 @@
 //! (`slot_for`), a read goes over the keys of a range (`walk`), and after a trim the keys with nothing left go (`remove_empty`).
 #![tactic(auto)]
 
-mod ahead;
 mod build;
-pub mod chains;
-mod climb;
-mod find;
 pub mod index;
-mod join;
-mod last;
 pub mod near;
-mod next;
-mod part;
-mod put;
 mod reach;
 mod remove;
 mod split;
-mod stop;
-mod tree;
-pub mod walk;

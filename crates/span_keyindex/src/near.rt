@@ -4,17 +4,18 @@
 //! each other's cells at once: so a transaction's keys are searched ahead, a few at a time, and a look-up then begins at the
 //! chain where the search ended.
 ghost use Rattle.std.specs.Prelude.{◌≡◌, ℕ, ◌*◌, ◌+◌, ◌<◌, ◌≤◌, ◌^◌, IsTrue, length};
-ghost use Rattle.span_keyindex.specs.Indexes.{IsIndexOf, IsSearchCost, entries_of};
+ghost use Rattle.span_keyindex.specs.Indexes.{IsIndexOf, entries_of};
+ghost use Rattle.span_keytree.specs.Roots.{IsSearchCost};
 ghost use Rattle.span_keyindex.specs.Limits.{search_lanes};
 ghost use Rattle.span_keyindex.specs.Nears.{IsBefore, IsLookCost, IsNear};
 ghost use Rattle.span_keyindex.specs.declared.near.TheConstants.{SEARCH_LANES};
 
 use crate::index::KeyIndex;
-use crate::next::NextLinks;
 use span_arena::arena::Arena;
 use span_arena::steps::Steps;
 use span_arena::token::NO_CHAIN;
 use span_keycode::key::Key;
+use span_keytree::next::{NextLinks, number_of};
 use std::cmp::Ordering;
 use std::sync::ledger::Ledger;
 
@@ -64,14 +65,6 @@ const NO_CELL: CellRead = CellRead {
     right: NO_CHAIN,
     head: NO_HEAD,
 };
-
-/// The number of a link; `NO_CHAIN` where there is none.
-pub(crate) fn number_of(link: Option<u32>) -> u32 {
-    match link {
-        None => NO_CHAIN,
-        Some(number) => number,
-    }
-}
 
 // The number that eight bytes from a place on spell, the highest first.
 fn word_at(bytes: &[u8], at: usize) -> u64

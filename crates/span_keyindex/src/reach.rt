@@ -3,10 +3,10 @@
 //! A key that is put in near a chain waits for memory at each cell on the way up from there (`climb.rt`). The ways up of several keys are
 //! gone side by side, so that their cells come from memory at once. Nothing that a call answers rests on it.
 use crate::near::SEARCH_LANES;
-use crate::next::NextLinks;
 use span_arena::arena::Arena;
 use span_arena::token::NO_CHAIN;
 use span_keycode::key::MOST_BYTES;
+use span_keytree::next::NextLinks;
 
 /// How many cells up are looked at: of most parts of the tree that a key more changes these are all.
 const LEVELS: usize = 4;

@@ -1,17 +1,17 @@
 //! Keys are removed.
 ghost use Rattle.std.specs.Prelude.{◌≡◌, ◌+◌, ◌<◌, ◌^◌, IfSome, length};
 ghost use Rattle.span_arena.specs.Content.{IsChain, is_unused};
-ghost use Rattle.span_keyindex.specs.Arenas.{in_use, IsArenaOf, IsWithoutUnused};
-ghost use Rattle.span_keyindex.specs.Indexes.{entries_at, IsIndex};
-ghost use Rattle.span_keyindex.specs.Nexts.{next_of, IsLinked};
+ghost use Rattle.span_keytree.specs.Arenas.{in_use, IsArenaOf, IsWithoutUnused};
+ghost use Rattle.span_keytree.specs.Roots.{entries_at, IsIndex};
+ghost use Rattle.span_keytree.specs.Nexts.{next_of, IsLinked};
 ghost use Rattle.span_keyindex.specs.Removals.{all_of, passed, passed_arena, passed_links, IsSequence, KeepsCells};
 
 use crate::build::build;
-use crate::last::last_below;
-use crate::next::NextLinks;
-use crate::tree::TreeRoot;
 use span_arena::arena::Arena;
 use span_arena::token::Chain;
+use span_keytree::last::last_below;
+use span_keytree::next::NextLinks;
+use span_keytree::tree::TreeRoot;
 
 /// The last chain that is kept so far, and how many are.
 #[derive(Clone, Copy, Debug)]

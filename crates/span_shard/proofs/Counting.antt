@@ -11,9 +11,9 @@ use Rattle.span_arena.specs.declared.version.Version as arena
 use Rattle.span_arena.specs.Content.{Content, Prepared, versions_in, prepared_for, one_for, one_if, count_versions, count_prepared, IsInOrder}
 use Rattle.span_arena.specs.Content as content
 use Rattle.span_arena.proofs.Keeping.{chain_in_range}
-use Rattle.span_keyindex.specs.Items.{holders}
-use Rattle.span_keyindex.specs.Arenas.{one_if_chain, IsArenaOf}
-use Rattle.span_keyindex.specs.Entries.{Entry}
+use Rattle.span_keytree.specs.Items.{holders}
+use Rattle.span_keytree.specs.Arenas.{one_if_chain, IsArenaOf}
+use Rattle.span_keytree.specs.Entries.{Entry}
 use Rattle.span_shard.specs.declared.node.PreparedNode.{PreparedNode}
 use Rattle.span_shard.specs.Shard.{kept_of, live}
 use Rattle.span_shard.specs.Stored.{version_of, chain_versions, is_for, write_of, write_for, kept_entry, all_kept, count_for, IsNodeOf, IsStored}

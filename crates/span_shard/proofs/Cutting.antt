@@ -8,8 +8,8 @@ use Rattle.span_arena.specs.declared.token.Chain.{Chain}
 use Rattle.span_arena.specs.declared.version.Version as arena
 use Rattle.span_arena.specs.Content.{Content, Prepared, versions, versions_in, prepared_at, prepared_for, IsChain, kept_at, kept_upto, trimmed}
 use Rattle.span_arena.proofs.Keeping.{chain_in_range}
-use Rattle.span_keyindex.specs.Arenas.{HasSameChains}
-use Rattle.span_keyindex.specs.Entries.{Entry}
+use Rattle.span_keytree.specs.Arenas.{HasSameChains}
+use Rattle.span_keytree.specs.Entries.{Entry}
 use Rattle.span_keyindex.proofs.Keeping.{own_stays, chain_same, same_after, same-kept}
 use Rattle.span_maderows.proofs.Lists.{all_map, all_append}
 use Rattle.span_shard.specs.declared.chain.Version.{Version}

@@ -11,8 +11,8 @@ use Rattle.span_arena.specs.Content.{Content, Prepared, versions, versions_in, p
 use Rattle.span_arena.specs.Order.{IsLater}
 use Rattle.span_arena.specs.Order as order
 use Rattle.span_arena.proofs.Keeping.{chain_in_range}
-use Rattle.span_keyindex.specs.Arenas.{HasSameChains}
-use Rattle.span_keyindex.specs.Entries.{Entry}
+use Rattle.span_keytree.specs.Arenas.{HasSameChains}
+use Rattle.span_keytree.specs.Entries.{Entry}
 use Rattle.span_keyindex.proofs.Keeping.{same-equal, same-linked, same_after}
 use Rattle.span_mutate.proofs.Runs.{item_first}
 use Rattle.span_maderows.proofs.Lists.{all_filter_itself}

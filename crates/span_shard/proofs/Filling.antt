@@ -11,8 +11,8 @@ use Rattle.span_keycode.specs.Order.{byte_order}
 use Rattle.span_arena.specs.Limits.{most_nodes}
 use Rattle.span_arena.specs.declared.token.Chain.{Chain}
 use Rattle.span_arena.specs.Content.{Content}
-use Rattle.span_keyindex.specs.Arenas.{IsArenaOf}
-use Rattle.span_keyindex.specs.Entries.{Entry}
+use Rattle.span_keytree.specs.Arenas.{IsArenaOf}
+use Rattle.span_keytree.specs.Entries.{Entry}
 use Rattle.span_shard.specs.declared.chain.PreparedWrite.{PreparedWrite}
 use Rattle.span_shard.specs.declared.node.PreparedNode.{PreparedNode}
 use Rattle.span_shard.specs.declared.write.Write.{Write}

@@ -7,9 +7,9 @@ use Rattle.span_arena.specs.declared.version.Version as arena
 use Rattle.span_arena.specs.Content.{Content, versions, versions_in}
 use Rattle.span_arena.specs.Order.{AreFalling, AreInTimeOrder}
 use Rattle.span_arena.proofs.Falling.{first_is_last}
-use Rattle.span_keyindex.specs.Items.{holders}
-use Rattle.span_keyindex.specs.Arenas.{IsArenaOf, one_if_chain}
-use Rattle.span_keyindex.specs.Entries.{Entry}
+use Rattle.span_keytree.specs.Items.{holders}
+use Rattle.span_keytree.specs.Arenas.{IsArenaOf, one_if_chain}
+use Rattle.span_keytree.specs.Entries.{Entry}
 use Rattle.span_shard.specs.declared.chain.Version.{Version}
 use Rattle.span_shard.specs.declared.chain.PreparedWrite.{PreparedWrite}
 use Rattle.span_shard.specs.declared.node.PreparedNode.{PreparedNode}

@@ -8,12 +8,12 @@ use Rattle.span_arena.specs.declared.token.Chain.{Chain}
 use Rattle.span_arena.specs.Content.{Content, versions, versions_in, prepared_for, one_for, IsChain, cleared, with_kept, with_free_node, with_versions}
 use Rattle.span_arena.proofs.Counts.{sum-push}
 use Rattle.span_arena.proofs.Keeping.{chain_in_range}
-use Rattle.span_keyindex.specs.Arenas.{one_if_chain, HasSameChains}
-use Rattle.span_keyindex.specs.Entries.{Entry, keys_of}
-use Rattle.span_keyindex.specs.Items.{holders}
-use Rattle.span_keyindex.proofs.Counting.{one_same}
+use Rattle.span_keytree.specs.Arenas.{one_if_chain, HasSameChains}
+use Rattle.span_keytree.specs.Entries.{Entry, keys_of}
+use Rattle.span_keytree.specs.Items.{holders}
+use Rattle.span_keytree.proofs.Counting.{one_same}
 use Rattle.span_keyindex.proofs.Keeping.{chain_same, same_after, same-kept}
-use Rattle.span_keyindex.proofs.Linking.{held_append}
+use Rattle.span_keytree.proofs.Linking.{held_append}
 use Rattle.span_maderows.proofs.Lists.{all_map, all_append}
 use Rattle.span_shard.specs.Stored.{versions_count, HasRoom, HaveVersions, HasSameKeys, AreMoved}
 use Rattle.span_shard.proofs.Seeing.{chains_left, first_chain}

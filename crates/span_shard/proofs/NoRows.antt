@@ -10,7 +10,7 @@ use Rattle.std.proofs.lemmas.List.Kept.{AllPairs-filter}
 use Rattle.std.proofs.lemmas.Map.Lookups.{exact_bytes}
 use Rattle.span_keycode.specs.Order.{byte_order}
 use Rattle.span_arena.specs.Content.{Content}
-use Rattle.span_keyindex.specs.Entries.{Entry, IsRising, entries_from}
+use Rattle.span_keytree.specs.Entries.{Entry, IsRising, entries_from}
 use Rattle.span_maderows.proofs.Bytes.{bytes_total}
 use Rattle.span_maderows.proofs.Lists.{all_map}
 use Rattle.span_shard.specs.declared.node.PreparedNode.{PreparedNode}

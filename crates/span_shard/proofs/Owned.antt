@@ -7,7 +7,7 @@ use Rattle.std.proofs.lemmas.Bool.Decides.{nat_tests}
 use Rattle.std.proofs.lemmas.List.{get_or-set_other}
 use Rattle.span_arena.specs.Content.{Content, Prepared, prepared_at, prepared_for, one_for}
 use Rattle.span_arena.proofs.Counts.{sum-set}
-use Rattle.span_keyindex.specs.Arenas.{HasSameChains}
+use Rattle.span_keytree.specs.Arenas.{HasSameChains}
 use Rattle.span_keyindex.specs.Indexes.{entries_of}
 use Rattle.span_keyindex.specs.declared.index.KeyIndex.{KeyIndex}
 use Rattle.span_keyindex.proofs.Keeping.{chain_same}

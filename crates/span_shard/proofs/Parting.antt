@@ -9,17 +9,17 @@ use Rattle.span_arena.specs.declared.version.Version as arena
 use Rattle.span_arena.specs.Limits.{most_nodes}
 use Rattle.span_arena.specs.Content.{Content, Prepared, versions, versions_in, prepared_at, prepared_for}
 use Rattle.span_keyindex.specs.declared.index.KeyIndex.{KeyIndex}
-use Rattle.span_keyindex.specs.Arenas.{IsArenaOf}
-use Rattle.span_keyindex.specs.Entries.{Entry, entries_before, entries_from, keys_of}
-use Rattle.span_keyindex.specs.Items.{holders, AreRising}
+use Rattle.span_keytree.specs.Arenas.{IsArenaOf}
+use Rattle.span_keytree.specs.Entries.{Entry, entries_before, entries_from, keys_of}
+use Rattle.span_keytree.specs.Items.{holders, AreRising}
 use Rattle.span_keyindex.specs.Indexes.{IsIndexOf}
 use Rattle.span_keyindex.specs.Splits.{IsPartFrom}
-use Rattle.span_keyindex.proofs.Counting.{one_here}
+use Rattle.span_keytree.proofs.Counting.{one_here}
 use Rattle.span_keyindex.proofs.Holders.{at_most_one}
 use Rattle.span_keyindex.proofs.Keeping.{chain_same, same-equal}
-use Rattle.span_keyindex.proofs.Linking.{held_append}
+use Rattle.span_keytree.proofs.Linking.{held_append}
 use Rattle.span_keyindex.proofs.Owning.{index_stays}
-use Rattle.span_keyindex.proofs.Rising.{cut_from}
+use Rattle.span_keytree.proofs.Rising.{cut_from}
 use Rattle.span_maderows.proofs.Lists.{all_map, all_append, all_filter_itself, filter-map}
 use Rattle.span_shard.specs.declared.chain.Version.{Version}
 use Rattle.span_shard.specs.declared.chain.PreparedWrite.{PreparedWrite}

@@ -5,8 +5,8 @@ use Rattle.std.specs.List.{filter_map, cons_option}
 use Rattle.span_keycode.specs.declared.range.KeyRange.{KeyRange}
 use Rattle.span_arena.specs.declared.version.Version as arena
 use Rattle.span_arena.specs.Content.{Content, newest_upto, IsChain}
-use Rattle.span_keyindex.specs.Entries.{entries_in, entries_under, Entry}
-use Rattle.span_keyindex.specs.Walks.{without_long}
+use Rattle.span_keytree.specs.Entries.{entries_in, entries_under, Entry}
+use Rattle.span_keywalk.specs.Walks.{without_long}
 use Rattle.span_maderows.specs.Made.{begins_with}
 use Rattle.span_maderows.proofs.Lists.{filter-map}
 use Rattle.span_shard.specs.declared.chain.Version.{Version}

@@ -17,11 +17,11 @@ use Rattle.span_arena.specs.declared.token.Chain.{Chain}
 use Rattle.span_arena.specs.Content as content
 use Rattle.span_arena.specs.Content.{Content, Prepared, versions, versions_in, prepared_for, IsNewChain}
 use Rattle.span_arena.proofs.Keeping.{is_new_chain}
-use Rattle.span_keyindex.specs.Items.{holders}
-use Rattle.span_keyindex.specs.Arenas.{one_if_chain, IsArenaOf, in_use, IsWithoutUnused}
-use Rattle.span_keyindex.specs.Entries.{HasChain, IsAbsent, IsSlotFor, with_entry, Entry}
+use Rattle.span_keytree.specs.Items.{holders}
+use Rattle.span_keytree.specs.Arenas.{one_if_chain, IsArenaOf, in_use, IsWithoutUnused}
+use Rattle.span_keytree.specs.Entries.{HasChain, IsAbsent, IsSlotFor, with_entry, Entry}
 use Rattle.span_keyindex.proofs.Holders.{holders-append, one_here, one_of, chains_elsewhere}
-use Rattle.span_keyindex.proofs.Rising.{turned}
+use Rattle.span_keytree.proofs.Rising.{turned}
 use Rattle.span_mutate.specs.Directories.{IsRising}
 use Rattle.span_value.proofs.Comparisons.{is_less, is_greater}
 use Rattle.span_maderows.proofs.Bytes.{bytes_total}

@@ -6,8 +6,8 @@ use Rattle.std.proofs.lemmas.Bool.Decides.{nat_tests}
 use Rattle.span_arena.specs.declared.version.Version as arena
 use Rattle.span_arena.specs.Content.{Content, Prepared, versions, versions_in, prepared_at, prepared_for, one_for, is_unused}
 use Rattle.span_arena.proofs.Counts.{one_for-at, one_for-same}
-use Rattle.span_keyindex.specs.Arenas.{in_use, IsWithoutUnused}
-use Rattle.span_keyindex.specs.Entries.{Entry}
+use Rattle.span_keytree.specs.Arenas.{in_use, IsWithoutUnused}
+use Rattle.span_keytree.specs.Entries.{Entry}
 use Rattle.span_maderows.proofs.Lists.{all_map, all_filter_itself, filter-map}
 use Rattle.span_shard.specs.declared.node.PreparedNode.{PreparedNode}
 use Rattle.span_shard.specs.Versions.{is_empty, is_used}

@@ -6,7 +6,7 @@ use Rattle.span_value.specs.declared.refusal.Refusal.{Refusal}
 use Rattle.span_value.specs.declared.refusal.Refusal.TheVariants.{OutOfMemory, ShardFull, BadKey, BadRow}
 use Rattle.span_arena.specs.Limits.{most_nodes}
 use Rattle.span_arena.specs.Content.{Content}
-use Rattle.span_keyindex.specs.Entries.{Entry as IndexEntry}
+use Rattle.span_keytree.specs.Entries.{Entry as IndexEntry}
 use Rattle.span_schema.specs.declared.table.Table.{Table}
 use Rattle.span_rowcode.specs.Rows.{row_code}
 use Rattle.span_mutate.specs.declared.mutation.CheckedMutation.{CheckedMutation}

@@ -8,11 +8,11 @@ use Rattle.span_arena.specs.Content.{Content, Prepared, versions, prepared_at, p
 use Rattle.span_arena.specs.Order.{IsLaterFor}
 use Rattle.span_arena.specs.Limits.{most_nodes}
 use Rattle.span_arena.specs.declared.version.Version as arena
-use Rattle.span_keyindex.specs.Arenas.{IsArenaOf, HasSameChains}
+use Rattle.span_keytree.specs.Arenas.{IsArenaOf, HasSameChains}
 use Rattle.span_keyindex.specs.Indexes.{IsIndexOf}
 use Rattle.span_keyindex.specs.declared.index.KeyIndex.{KeyIndex}
-use Rattle.span_keyindex.specs.Entries.{Entry}
-use Rattle.span_keyindex.specs.Items.{holders}
+use Rattle.span_keytree.specs.Entries.{Entry}
+use Rattle.span_keytree.specs.Items.{holders}
 use Rattle.span_shard.specs.declared.chain.Version.{Version}
 use Rattle.span_shard.specs.declared.chain.PreparedWrite.{PreparedWrite}
 use Rattle.span_shard.specs.declared.node.PreparedNode.{PreparedNode}

@@ -14,7 +14,7 @@ use span_arena::arena::Arena;
 use span_arena::token::Chain;
 use span_keycode::key::Key;
 use span_keyindex::near::SEARCH_LANES;
-use span_keyindex::walk::Walk;
+use span_keywalk::walk::Walk;
 use span_value::seq::Seq;
 use std::alloc::{AllocError, Global};
 use std::marker::Model;

@@ -1,7 +1,7 @@
 //! Searches in the index, whose steps nobody reads here: each is handed a new count.
 ghost use Rattle.std.specs.Prelude.{◌≡◌, All, IfErr, IfOk, OnErr, map};
 ghost use Rattle.span_arena.specs.Content.{IsChain};
-ghost use Rattle.span_keyindex.specs.Entries.{IsRising, IsSlotFor, entries_from, entries_in, entries_under};
+ghost use Rattle.span_keytree.specs.Entries.{IsRising, IsSlotFor, entries_from, entries_in, entries_under};
 ghost use Rattle.span_keyindex.specs.Indexes.{IsIndexOf, entries_of};
 ghost use Rattle.span_keyindex.specs.Splits.{IsPartFrom};
 ghost use Rattle.span_shard.specs.Ledgers.{Opens};
@@ -11,10 +11,10 @@ use span_arena::steps::Steps;
 use span_arena::token::{Chain, NO_CHAIN};
 use span_keycode::key::Key;
 use span_keycode::range::KeyRange;
-use span_keyindex::chains::Chains;
 use span_keyindex::index::KeyIndex;
 use span_keyindex::near::SEARCH_LANES;
-use span_keyindex::walk::Walk;
+use span_keywalk::chains::Chains;
+use span_keywalk::walk::Walk;
 use span_value::refusal::Refusal;
 use std::alloc::Global;
 use std::marker::Brand;

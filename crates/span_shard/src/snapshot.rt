@@ -2,8 +2,8 @@
 ghost use Rattle.std.specs.Prelude.{◌≡◌, [], ◌∷◌, All, MatchOption, filter};
 ghost use Rattle.std.specs.Iterator.{YieldsFirstBy, item_count};
 ghost use Rattle.span_arena.specs.Content.{IsChain};
-ghost use Rattle.span_keyindex.specs.Entries.{entry_of};
-ghost use Rattle.span_keyindex.specs.Walks.{without_long};
+ghost use Rattle.span_keytree.specs.Entries.{entry_of};
+ghost use Rattle.span_keywalk.specs.Walks.{without_long};
 ghost use Rattle.span_shard.specs.Reading.{entry_row, has_short_key, short_rows};
 ghost use Rattle.span_shard.specs.Shard.{snapshot};
 
@@ -14,7 +14,7 @@ use super::store::Store;
 use span_arena::arena::Arena;
 use span_arena::token::Chain;
 use span_keycode::range::KeyRange;
-use span_keyindex::walk::Walk;
+use span_keywalk::walk::Walk;
 use std::marker::Model;
 
 /// The rows of a shard in a range at a timestamp. Contracts see them as a list, in the order of their keys.

@@ -1,7 +1,7 @@
 //! The versions of a part of the keys, moved to an arena of their own.
 ghost use Rattle.std.specs.Prelude.{◌≡◌, ℕ, ◌≤◌, [], IfErr, OnOk};
 ghost use Rattle.span_arena.specs.Content.{versions};
-ghost use Rattle.span_keyindex.specs.Entries.{entries_from, keys_of};
+ghost use Rattle.span_keytree.specs.Entries.{entries_from, keys_of};
 ghost use Rattle.span_keyindex.specs.Indexes.{IsIndexOf, entries_of};
 ghost use Rattle.span_shard.specs.Stored.{AreMoved, HasRoom, versions_count};
 

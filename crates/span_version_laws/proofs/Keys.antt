@@ -16,7 +16,7 @@ use Rattle.std.specs.Cmp.{eq_by_cmp_equiv}
 use Rattle.span_keycode.specs.Order.{byte_order}
 use Rattle.span_shard.proofs.InOrder.{in_order_with_writes, key_stays}
 use Rattle.span_shard.proofs.Undo.{equal_key}
-use Rattle.span_keyindex.proofs.Rising.{turned}
+use Rattle.span_keytree.proofs.Rising.{turned}
 
 -- ---- orders of keys
 

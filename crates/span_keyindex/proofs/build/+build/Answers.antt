@@ -1,7 +1,7 @@
 use Rattle.std.proofs.Common.{◌≡◌, ℕ, suc, ◌+◌, ◌-◌, ◌/◌, arith, ap, sym, Option, subst}
 use Rattle.span_arena.specs.Content.{Content}
 use Rattle.span_keyindex.specs.Builds.{IsRun, IsBuilt}
-use Rattle.span_keyindex.specs.Nexts.{next_of}
+use Rattle.span_keytree.specs.Nexts.{next_of}
 use Rattle.span_keyindex.proofs.Building.{run_at, built_at, run_left, rest_some, cell_in, cell_linked, run_right, built_more}
 use Rattle.span_keyindex.proofs.build.+build.Goals as goal
 

@@ -1,8 +1,8 @@
 use Rattle.std.proofs.Common.{List, sym, subst}
 use Rattle.span_arena.specs.Content.{is_unused}
-use Rattle.span_keyindex.specs.Arenas.{IsArenaOf}
-use Rattle.span_keyindex.specs.Entries.{Entry}
-use Rattle.span_keyindex.specs.Indexes.{entries_at}
+use Rattle.span_keytree.specs.Arenas.{IsArenaOf}
+use Rattle.span_keytree.specs.Entries.{Entry}
+use Rattle.span_keytree.specs.Roots.{entries_at}
 use Rattle.span_keyindex.specs.Removals.{all_of}
 use Rattle.span_keyindex.proofs.Unlinking.{sequence_of, sequence_own, run_left, entries_left, index_left}
 use Rattle.span_keyindex.proofs.remove.remove_unused.Goals as goal

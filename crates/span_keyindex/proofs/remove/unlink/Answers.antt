@@ -1,7 +1,7 @@
 use Rattle.std.proofs.Common.{◌+◌, ℕ, length, arith, sym, Option, subst}
 use Rattle.span_arena.specs.Content.{Content, is_unused}
 use Rattle.span_keyindex.specs.declared.remove.Kept.{Kept}
-use Rattle.span_keyindex.specs.Nexts.{Nexts, next_of, without_first}
+use Rattle.span_keytree.specs.Nexts.{Nexts, next_of, without_first}
 use Rattle.span_keyindex.specs.Removals.{all_of, passed, passed_arena, passed_links}
 use Rattle.span_keyindex.proofs.Unlinking.{IsPassing, passing_first, passed_none, passed_by, cell_linked, before_linked, chain_next, unused_same}
 use Rattle.span_keyindex.proofs.remove.unlink.Goals as goal

@@ -1,6 +1,6 @@
 use Rattle.std.proofs.Common.{ℕ, List, sym, ap, ◌∙◌, subst}
 use Rattle.span_arena.specs.Content.{Content}
-use Rattle.span_keyindex.specs.Entries.{Entry, IsSlotFor, entries_from}
+use Rattle.span_keytree.specs.Entries.{Entry, IsSlotFor, entries_from}
 use Rattle.span_keyindex.specs.Indexes.{entries_of}
 use Rattle.span_keyindex.proofs.Splitting.{IsCopying, no_chain, rising_from, copying_starts, copying_more, copying_ends}
 use Rattle.span_keyindex.proofs.split.copy_keys.Goals as goal

@@ -1,4 +1,4 @@
-use Rattle.span_keyindex.specs.Entries.{entries_from}
+use Rattle.span_keytree.specs.Entries.{entries_from}
 use Rattle.span_keyindex.specs.Indexes.{entries_of}
 use Rattle.span_keyindex.proofs.Splitting.{IsCopying}
 use Rattle.span_keyindex.proofs.split.copy_keys.Given as goal

@@ -1,5 +1,5 @@
 use Rattle.std.proofs.Common.{◌≡◌, ℕ, List, None, Some, subst, sym}
-use Rattle.span_keyindex.specs.Entries.{entry_of}
+use Rattle.span_keytree.specs.Entries.{entry_of}
 use Rattle.span_keyindex.specs.Indexes.{entries_of}
 use Rattle.span_shard.specs.EmptyRanges.{HasNoRowFrom}
 use Rattle.span_shard.specs.KeyVersions.{KeyVersions}

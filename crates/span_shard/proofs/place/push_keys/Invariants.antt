@@ -1,7 +1,7 @@
 use Rattle.std.proofs.Common.{◌≡◌, ◌++◌, map}
 use Rattle.std.specs.Prelude.{All}
 use Rattle.span_arena.specs.Content.{IsChain}
-use Rattle.span_keyindex.specs.Entries.{Entry}
+use Rattle.span_keytree.specs.Entries.{Entry}
 use Rattle.span_shard.specs.Reading.{versions_alone_at}
 use Rattle.span_shard.proofs.place.push_keys.Given as goal
 

@@ -1,5 +1,5 @@
 use Rattle.std.proofs.Common.{ℕ, List, inl, refl, subst}
-use Rattle.span_keyindex.specs.Entries.{HasChain}
+use Rattle.span_keytree.specs.Entries.{HasChain}
 use Rattle.span_keyindex.specs.Indexes.{entries_of}
 use Rattle.span_shard.proofs.search.slot_near.Goals as goal
 

@@ -1,5 +1,5 @@
 use Rattle.std.proofs.Common.{◌∙◌, List, ◌∷◌, ℕ, sym, ap, refl}
-use Rattle.span_keyindex.specs.Walks.{without_long}
+use Rattle.span_keywalk.specs.Walks.{without_long}
 use Rattle.span_shard.specs.Shard.{KeyRow}
 use Rattle.span_shard.specs.Reading.{short_rows}
 use Rattle.span_shard.proofs.Seeing.{chains_left, chains_short, first_chain, first_is_short, short_first, short_left, short_shrinks, unseen_skipped}

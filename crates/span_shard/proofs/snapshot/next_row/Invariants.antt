@@ -1,7 +1,7 @@
 use Rattle.std.proofs.Common.{◌≡◌, length}
 use Rattle.std.specs.Prelude.{All}
 use Rattle.span_arena.specs.Content.{IsChain}
-use Rattle.span_keyindex.specs.Entries.{Entry}
+use Rattle.span_keytree.specs.Entries.{Entry}
 use Rattle.span_shard.specs.Reading.{short_rows}
 use Rattle.span_shard.proofs.snapshot.next_row.Given as goal
 

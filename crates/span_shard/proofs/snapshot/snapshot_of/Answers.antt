@@ -1,6 +1,6 @@
 use Rattle.std.proofs.Common.{◌∙◌, All, List, ap, subst, sym}
 use Rattle.span_arena.specs.Content.{IsChain}
-use Rattle.span_keyindex.specs.Entries.{Entry}
+use Rattle.span_keytree.specs.Entries.{Entry}
 use Rattle.span_keyindex.specs.Indexes.{entries_of}
 use Rattle.span_shard.specs.Shard.{snapshot}
 use Rattle.span_shard.proofs.Seeing.{within_is}

@@ -3,7 +3,7 @@ use Rattle.std.specs.Ordering.{is_lt}
 use Rattle.std.proofs.lemmas.List.Elements.{All-filter}
 use Rattle.span_keycode.specs.Order.{byte_order}
 use Rattle.span_arena.specs.Content.{IsChain}
-use Rattle.span_keyindex.specs.Entries.{Entry, entries_from}
+use Rattle.span_keytree.specs.Entries.{Entry, entries_from}
 use Rattle.span_keyindex.specs.Indexes.{entries_of}
 use Rattle.span_keyindex.proofs.Owning.{all_chains}
 use Rattle.span_shard.proofs.Moving.{moving_starts, source_chain, to_chain, to_none, to_room, moving_step, moving_ends}

@@ -1,10 +1,10 @@
 use Rattle.std.proofs.Common.{List, sym, subst}
 use Rattle.std.specs.Prelude.{All}
 use Rattle.span_arena.specs.Content.{IsChain}
-use Rattle.span_keyindex.specs.Entries.{Entry}
+use Rattle.span_keytree.specs.Entries.{Entry}
 use Rattle.span_keyindex.specs.Indexes.{entries_of}
 use Rattle.span_keyindex.proofs.Owning.{all_chains}
-use Rattle.span_keyindex.proofs.Rising.{pairs_rising}
+use Rattle.span_keytree.proofs.Rising.{pairs_rising}
 use Rattle.span_keyindex.proofs.index.KeyIndex.all.Goals as goal
 
 pub returns-clause-chains : goal.returns-clause-chains

@@ -1,7 +1,8 @@
 use Rattle.std.proofs.Common.{List, sym, subst}
-use Rattle.span_keyindex.specs.Arenas.{in_use, IsArenaOf}
-use Rattle.span_keyindex.specs.Entries.{Entry}
-use Rattle.span_keyindex.specs.Indexes.{entries_at, entries_of}
+use Rattle.span_keytree.specs.Arenas.{in_use, IsArenaOf}
+use Rattle.span_keytree.specs.Entries.{Entry}
+use Rattle.span_keytree.specs.Roots.{entries_at}
+use Rattle.span_keyindex.specs.Indexes.{entries_of}
 use Rattle.span_keyindex.proofs.Freeing.{arena_of_used}
 use Rattle.span_keyindex.proofs.index.KeyIndex.remove_empty.Goals as goal
 

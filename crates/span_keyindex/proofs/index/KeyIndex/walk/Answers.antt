@@ -2,11 +2,11 @@ use Rattle.std.proofs.Common.{◌∙◌, List, ℕ, ap, sym, subst}
 use Rattle.std.specs.Prelude.{All}
 use Rattle.std.proofs.lemmas.List.Elements.{All-filter}
 use Rattle.span_arena.specs.Content.{IsChain}
-use Rattle.span_keyindex.specs.Entries.{Entry}
-use Rattle.span_keyindex.specs.Items.{entries_between, is_between}
+use Rattle.span_keytree.specs.Entries.{Entry}
+use Rattle.span_keytree.specs.Items.{entries_between, is_between}
 use Rattle.span_keyindex.specs.Indexes.{entries_of}
 use Rattle.span_keyindex.proofs.Owning.{all_chains}
-use Rattle.span_keyindex.proofs.Rising.{pairs_rising}
+use Rattle.span_keytree.proofs.Rising.{pairs_rising}
 use Rattle.span_keyindex.proofs.index.KeyIndex.walk.Goals as goal
 
 pub returns-clause-entries : goal.returns-clause-entries

@@ -1,5 +1,5 @@
 use Rattle.span_keyindex.specs.Indexes.{entries_of}
-use Rattle.span_keyindex.proofs.Rising.{pairs_rising}
+use Rattle.span_keytree.proofs.Rising.{pairs_rising}
 use Rattle.span_keyindex.proofs.index.KeyIndex.walk_from.Goals as goal
 
 pub returns-clause-rising : goal.returns-clause-rising

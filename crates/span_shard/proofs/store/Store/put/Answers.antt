@@ -1,7 +1,7 @@
 use Rattle.std.proofs.Common.{◌∙◌, refl, sym, ap, subst, List}
 use Rattle.std.specs.List.{AllByRecursion}
 use Rattle.span_arena.specs.Content.{Content}
-use Rattle.span_keyindex.specs.Arenas.{in_use}
+use Rattle.span_keytree.specs.Arenas.{in_use}
 use Rattle.span_keyindex.specs.Indexes.{IsIndexOf, entries_of}
 use Rattle.span_keyindex.specs.declared.index.KeyIndex.{KeyIndex}
 use Rattle.span_keyindex.proofs.Owning.{entries_stay, index_stays}

@@ -2,7 +2,7 @@ use Rattle.std.proofs.Common.{◌∙◌, List, [], ap, sym, arith, subst}
 use Rattle.std.specs.Prelude.{filter}
 use Rattle.std.specs.List.{AllByRecursion}
 use Rattle.span_arena.specs.Content.{Content}
-use Rattle.span_keyindex.specs.Entries.{Entry, entries_from, keys_of}
+use Rattle.span_keytree.specs.Entries.{Entry, entries_from, keys_of}
 use Rattle.span_keyindex.specs.Indexes.{entries_of}
 use Rattle.span_keyindex.proofs.Keeping.{same-equal}
 use Rattle.span_keyindex.proofs.Owning.{entries_stay, index_stays}

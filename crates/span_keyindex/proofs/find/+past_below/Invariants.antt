@@ -1,4 +1,0 @@
-use Rattle.span_keyindex.proofs.find.+past_below.Given as goal
-
-abbrev pub decreases-past_below : goal.decreases-past_below
-decreases-past_below g l = l.levels

@@ -1,4 +1,0 @@
-use Rattle.span_keyindex.proofs.part.+way_below.Given as goal
-
-abbrev pub decreases-way_below : goal.decreases-way_below
-decreases-way_below g l = l.levels

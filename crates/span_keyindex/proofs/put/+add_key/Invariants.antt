@@ -1,4 +1,0 @@
-use Rattle.span_keyindex.proofs.put.+add_key.Given as goal
-
-abbrev pub decreases-add_key : goal.decreases-add_key
-decreases-add_key g l = l.levels

@@ -1,0 +1,12 @@
+pub mod Arenas
+pub mod Avl
+pub mod Effects
+pub mod Entries
+pub mod Items
+pub mod Joins
+pub mod Lasts
+pub mod Nexts
+pub mod Puts
+pub mod Roots
+pub mod Trees
+pub mod Ways

@@ -1,0 +1,4 @@
+pub mod From
+pub mod Fronts
+pub mod Looks
+pub mod Walking

@@ -1,0 +1,54 @@
+-- What a walk hands out.
+use Rattle.std.specs.Prelude.{ℕ, zero, suc, ◌<◌, List, [], ◌∷◌, length, Option, Some, None, Bool, false, not, nat_eq, nat_le, if◌then◌else◌}
+use Rattle.std.specs.List.{AllByRecursion}
+use Rattle.span_arena.specs.declared.cell.Cell.{Cell}
+use Rattle.span_arena.specs.declared.token.Chain.{Chain}
+use Rattle.span_arena.specs.Cells.{cell_at}
+use Rattle.span_keytree.specs.Items.{entry}
+use Rattle.span_keytree.specs.Entries.{Entry}
+use Rattle.span_keytree.specs.Nexts.{Nexts, next_of}
+
+abbrev pub is_stop : ℕ → Option ℕ → Bool
+is_stop i None = false
+is_stop i (Some j) = nat_eq i j
+
+-- the entries from a cell on and before another, by their links, and at most n of them
+abbrev pub walked : (ℕ → Cell) → (ℕ → Option ℕ) → ℕ → Option ℕ → Option ℕ → List Entry
+walked f g zero at stop = []
+walked f g (suc n) None stop = []
+walked f g (suc n) (Some i) stop = (if is_stop i stop then [] else entry (f i).key i ∷ walked f g n (g i) stop)
+
+abbrev pub walked_in : List Cell → Nexts → ℕ → Option ℕ → Option ℕ → List Entry
+walked_in cs ns n at stop = walked (cell_at cs) (next_of ns) n at stop
+
+-- whether there is an entry, and the key of the first has more than `most` bytes
+abbrev pub begins_long : ℕ → List Entry → Bool
+begins_long most [] = false
+begins_long most (e ∷ es) = not (nat_le (length e.key) most)
+
+-- without the first entry, where its key has more than `most` bytes
+abbrev pub without_long_first : ℕ → List Entry → List Entry
+without_long_first most [] = []
+without_long_first most (e ∷ es) = (if nat_le (length e.key) most then e ∷ es else es)
+
+-- without the entries before the first whose key has at most `most` bytes
+abbrev pub without_long : ℕ → List Entry → List Entry
+without_long most [] = []
+without_long most (e ∷ es) = (if nat_le (length e.key) most then e ∷ es else without_long most es)
+
+-- each entry has a cell below n
+abbrev pub AreBelow : ℕ → List Entry → Type 0
+AreBelow n es = AllByRecursion (λ e. e.chain.number < n) es
+
+-- the chains from one on, by the links, and at most n of them
+abbrev pub chains_from : (ℕ → Option ℕ) → ℕ → Option ℕ → List Chain
+chains_from g zero at = []
+chains_from g (suc n) None = []
+chains_from g (suc n) (Some i) = record { number = i } ∷ chains_from g n (g i)
+
+abbrev pub chains_in : Nexts → ℕ → Option ℕ → List Chain
+chains_in ns n at = chains_from (next_of ns) n at
+
+-- each chain has a number below n
+abbrev pub AreNumbersBelow : ℕ → List Chain → Type 0
+AreNumbersBelow n cs = AllByRecursion (λ c. c.number < n) cs

@@ -1,0 +1,390 @@
+//! Keys that a walk comes to, looked at before.
+//!
+//! Where keys were put in no order a walk waits for memory at each: it learns the next key's number only when the last link has come.
+//! So it looks ahead, in several lanes at once: from keys of the tree's upper levels, which lie about evenly among all, the links are
+//! followed together, and each key is looked at, with its newest row where the caller is to read it.
+//!
+//! Keys that were put in order lie one after another, and memory is waited for at few of them; but where a walk passes over most of them,
+//! those that it hands out lie apart. They are then found by lengths and links alone, and looked at, a few together.
+//!
+//! Nothing that a walk hands out rests on it.
+
+use span_arena::arena::Arena;
+use span_arena::token::{Chain, NO_CHAIN};
+use span_keycode::key::MOST_BYTES;
+use span_keytree::next::{NextLinks, number_of};
+use span_keytree::tree::TreeRoot;
+
+/// More lanes do not go faster: what is waited for is then the walks over page tables, and few of them run at a time.
+const LANES: usize = 8;
+
+/// About how many keys lie from the begin of a lane to that of the next.
+const LANE_KEYS: usize = 64;
+
+/// The same where the rows are looked at too: each takes three lines of memory more, so fewer are looked at before they are read.
+const LANE_ROWS: usize = 16;
+
+/// How many keys a lane looks at.
+const MOST_STEPS: usize = 128;
+
+/// How many keys a walk hands out before it first looks ahead, and before it tries again.
+const FIRST_KEYS: usize = 64;
+
+/// The next key's number differs by no more where keys were put in order: memory is waited for at few of them.
+const NEAR: u32 = 8;
+
+/// How many keys are looked at together among longer ones, where keys were put in order.
+const SHORT_KEYS: usize = 32;
+
+/// Among how many keys these are found at most.
+const NEAR_KEYS: usize = 512;
+
+/// How many keys a walk passes before it looks ahead again where there were fewer of them: to find these takes longer then than to wait.
+const RARE_KEYS: usize = 8192;
+
+/// More levels than a tree of 2^32 keys has above the lowest.
+const MOST_TURNS: usize = 64;
+
+/// How a walk looks ahead.
+#[derive(Clone, Copy, Debug)]
+pub(crate) struct Ahead {
+    /// The number of the tree's root.
+    root: u32,
+    /// Keys with more bytes are not looked at.
+    pub most: usize,
+    /// The newest rows are looked at too.
+    pub has_rows: bool,
+    /// How many keys are looked at already.
+    seen: usize,
+    /// Keys were passed over since keys were last looked at.
+    is_sparse: bool,
+}
+
+impl Ahead {
+    pub(crate) fn new(tree: &TreeRoot) -> Ahead {
+        Ahead {
+            root: number_of(tree.root),
+            most: usize::MAX,
+            has_rows: false,
+            seen: FIRST_KEYS,
+            is_sparse: false,
+        }
+    }
+
+    /// How many keys are looked at already.
+    pub(crate) fn seen(&self) -> usize {
+        self.seen
+    }
+
+    /// The walk has passed over some of these.
+    pub(crate) fn pass_seen(&mut self, keys: usize) {
+        self.seen = self.seen.saturating_sub(keys);
+        self.is_sparse = true;
+    }
+
+    /// The walk is at a chain; it looks ahead where it has come to the end of what was looked at.
+    #[inline]
+    pub(crate) fn pass(
+        &mut self,
+        arena: &Arena,
+        nexts: &NextLinks,
+        number: u32,
+        stop: Option<u32>,
+    ) {
+        if self.seen > 0 {
+            self.seen -= 1;
+        } else {
+            self.seen = look_from(arena, nexts, self, number, stop);
+            self.is_sparse = false;
+        }
+    }
+}
+
+// How many keys are looked at from a chain on, or are passed before the next try. It is no part of a walk's loop: what most keys take is
+// short without it, and inlined there.
+#[inline(never)]
+fn look_from(
+    arena: &Arena,
+    nexts: &NextLinks,
+    ahead: &Ahead,
+    number: u32,
+    stop: Option<u32>,
+) -> usize {
+    if !is_near(nexts, number) {
+        return look(arena, nexts, ahead, number, number_of(stop));
+    }
+    if ahead.is_sparse {
+        look_along(arena, nexts, ahead, number, number_of(stop))
+    } else {
+        FIRST_KEYS
+    }
+}
+
+// Whether the next key was put soon before or after this one.
+fn is_near(nexts: &NextLinks, number: u32) -> bool {
+    nexts.number_after(number).abs_diff(number) <= NEAR
+}
+
+// How many levels of a tree with this many keys have lanes that begin there.
+fn upper_levels(keys: usize, has_rows: bool) -> usize {
+    let lanes = if has_rows {
+        keys / LANE_ROWS
+    } else {
+        keys / LANE_KEYS
+    };
+    match lanes.checked_ilog2() {
+        None => 0,
+        Some(level) => level as usize + 1,
+    }
+}
+
+/// A cell passed on the path whose key is yet to come, and how many levels there are from it on.
+#[derive(Clone, Copy, Debug)]
+struct Turn {
+    number: u32,
+    levels: usize,
+}
+
+/// A path from the root through the upper levels of the tree, to the right of which are the keys that come next.
+#[derive(Clone, Copy, Debug)]
+struct Path {
+    turns: [Turn; MOST_TURNS],
+    len: usize,
+}
+
+impl Path {
+    fn push(&mut self, turn: Turn) {
+        if self.len < MOST_TURNS {
+            self.turns[self.len] = turn;
+            self.len += 1;
+        }
+    }
+
+    fn pop(&mut self) -> Option<Turn> {
+        if self.len == 0 {
+            return None;
+        }
+        self.len -= 1;
+        self.turns.get(self.len).copied()
+    }
+
+    // From a cell down to the left.
+    fn go_left(&mut self, arena: &Arena, number: u32, levels: usize) {
+        let mut at = number;
+        for done in 0..levels {
+            if at as usize >= arena.numbers() {
+                return;
+            }
+            self.push(Turn {
+                number: at,
+                levels: levels - done,
+            });
+            at = number_of(arena.links(at).left);
+        }
+    }
+
+    // From a cell down towards a key.
+    fn go_to(&mut self, arena: &Arena, number: u32, levels: usize, key: &[u8]) {
+        let mut at = number;
+        for done in 0..levels {
+            if at as usize >= arena.numbers() {
+                return;
+            }
+            let links = arena.links(at);
+            if arena.order(at, key).is_lt() {
+                self.push(Turn {
+                    number: at,
+                    levels: levels - done,
+                });
+                at = number_of(links.left);
+            } else {
+                at = number_of(links.right);
+            }
+        }
+    }
+
+    // The next key of the upper levels.
+    fn next(&mut self, arena: &Arena) -> u32 {
+        let Some(turn) = self.pop() else {
+            return NO_CHAIN;
+        };
+        if (turn.number as usize) < arena.numbers() {
+            let right = number_of(arena.links(turn.number).right);
+            self.go_left(arena, right, turn.levels.saturating_sub(1));
+        }
+        turn.number
+    }
+}
+
+// A chain, or the walk's end where that is not after it.
+fn until_stop(arena: &Arena, number: u32, stop: u32) -> u32 {
+    if number as usize >= arena.numbers() {
+        return stop;
+    }
+    if (stop as usize) < arena.numbers() && !arena.order(stop, arena.key(number)).is_lt() {
+        return stop;
+    }
+    number
+}
+
+/// A part of the walk: where it is, and where the next one begins.
+#[derive(Clone, Copy, Debug)]
+struct Lane {
+    at: u32,
+    end: u32,
+}
+
+fn lanes_from(arena: &Arena, ahead: &Ahead, number: u32, key: &[u8], stop: u32) -> [Lane; LANES] {
+    let mut path = Path {
+        turns: [Turn {
+            number: NO_CHAIN,
+            levels: 0,
+        }; MOST_TURNS],
+        len: 0,
+    };
+    let levels = upper_levels(arena.numbers(), ahead.has_rows);
+    path.go_to(arena, ahead.root, levels, key);
+    let mut lanes = [Lane {
+        at: stop,
+        end: stop,
+    }; LANES];
+    let mut from = number;
+    for i in 0..LANES {
+        let end = until_stop(arena, path.next(arena), stop);
+        lanes[i] = Lane { at: from, end };
+        from = end;
+    }
+    lanes
+}
+
+// Looks at the newest row of a chain; whether it begins as no row does, with neither of the bytes that a cell begins with.
+fn is_no_row(arena: &Arena, number: u32) -> bool {
+    if !arena.is_chain(number) {
+        return false;
+    }
+    let Some(version) = arena.newest_at(Chain { number }, u64::MAX) else {
+        return false;
+    };
+    let Some(row) = version.image() else {
+        return false;
+    };
+    match row.as_slice().first() {
+        None => false,
+        Some(begin) => *begin > 1,
+    }
+}
+
+// Looks at a key, and at its newest row where the caller is to read it; whether it is too long to be a key, or its row is none.
+fn is_none(arena: &Arena, number: u32, ahead: &Ahead) -> bool {
+    if number as usize >= arena.numbers() {
+        return true;
+    }
+    arena.key(number).len() > MOST_BYTES || (ahead.has_rows && is_no_row(arena, number))
+}
+
+// A key on. A lane stays at its end, and at what is none.
+fn step(arena: &Arena, nexts: &NextLinks, lane: Lane, ahead: &Ahead) -> u32 {
+    if lane.at == lane.end || lane.at as usize >= arena.numbers() {
+        return lane.at;
+    }
+    let is_looked_at = ahead.most == usize::MAX || arena.has_short_key(lane.at, ahead.most);
+    if is_looked_at && is_none(arena, lane.at, ahead) {
+        return lane.at;
+    }
+    nexts.number_after(lane.at)
+}
+
+/// Short keys that come next.
+type ShortKeys = [u32; SHORT_KEYS];
+
+// The next few keys of at most `most` bytes from a chain on, and how many keys lie up to the last of them. Lengths and links alone are read of
+// those between them. Each is put, and a short one stays: which are short can't be guessed, and a wrong guess takes longer than both.
+fn short_keys(
+    arena: &Arena,
+    nexts: &NextLinks,
+    most: usize,
+    number: u32,
+    stop: u32,
+) -> (ShortKeys, usize) {
+    let mut numbers = [NO_CHAIN; SHORT_KEYS];
+    let mut count: usize = 0;
+    let mut at = number;
+    for passed in 0..NEAR_KEYS {
+        if at == stop || at as usize >= arena.numbers() || count >= SHORT_KEYS {
+            return (numbers, passed);
+        }
+        numbers[count] = at;
+        count += arena.has_short_key(at, most) as usize;
+        at = nexts.number_after(at);
+    }
+    (numbers, NEAR_KEYS)
+}
+
+// Looks at the keys; whether each may be one.
+fn look_at_keys(arena: &Arena, keys: &ShortKeys) -> bool {
+    let mut are_keys = true;
+    for i in 0..SHORT_KEYS {
+        let number = keys[i];
+        if (number as usize) < arena.numbers() {
+            are_keys = are_keys && arena.key(number).len() <= MOST_BYTES;
+        }
+    }
+    are_keys
+}
+
+// Looks at the newest row of each of the keys; whether each may be one.
+fn look_at_rows(arena: &Arena, keys: &ShortKeys) -> bool {
+    let mut are_rows = true;
+    for i in 0..SHORT_KEYS {
+        let is_row = !is_no_row(arena, keys[i]);
+        are_rows = are_rows && is_row;
+    }
+    are_rows
+}
+
+// Looks at the next few short keys, first at all of them and then at their rows: so that several wait for memory at once. How many keys the walk
+// passes before it looks ahead again.
+fn look_along(arena: &Arena, nexts: &NextLinks, ahead: &Ahead, number: u32, stop: u32) -> usize {
+    let (keys, passed) = short_keys(arena, nexts, ahead.most, number, stop);
+    if !look_at_keys(arena, &keys) {
+        return FIRST_KEYS;
+    }
+    if ahead.has_rows && !look_at_rows(arena, &keys) {
+        return FIRST_KEYS;
+    }
+    if passed < NEAR_KEYS {
+        passed
+    } else {
+        RARE_KEYS
+    }
+}
+
+// How many lanes have gone on.
+fn step_all(arena: &Arena, nexts: &NextLinks, lanes: &mut [Lane; LANES], ahead: &Ahead) -> usize {
+    let mut moved: usize = 0;
+    for i in 0..LANES {
+        let at = step(arena, nexts, lanes[i], ahead);
+        if at != lanes[i].at {
+            lanes[i].at = at;
+            moved = moved.wrapping_add(1);
+        }
+    }
+    moved
+}
+
+// Looks at the keys from a chain on; how many.
+fn look(arena: &Arena, nexts: &NextLinks, ahead: &Ahead, number: u32, stop: u32) -> usize {
+    if number as usize >= arena.numbers() {
+        return FIRST_KEYS;
+    }
+    let mut lanes = lanes_from(arena, ahead, number, arena.key(number), stop);
+    let mut seen: usize = 0;
+    for _ in 0..MOST_STEPS {
+        let moved = step_all(arena, nexts, &mut lanes, ahead);
+        if moved == 0 {
+            return seen;
+        }
+        seen = seen.saturating_add(moved);
+    }
+    seen
+}
