@@ -19,10 +19,10 @@ use super::replies::{
 };
 use super::slot::SlotView;
 use span_binder::understand::understand;
+use span_checking::transaction::Transaction;
 use span_journal::journal::Journal;
 use span_keycode::laws::are_values;
 use span_machine::step::{Reply, Step, Verdict};
-use span_mutate::transaction::Transaction;
 use span_params::params::Params;
 use span_parts::{cut, steps};
 use span_query::query::Statement;

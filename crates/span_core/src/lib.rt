@@ -10,9 +10,9 @@ mod replies;
 pub mod run;
 pub mod slot;
 
+pub use span_checking::transaction::Transaction;
 pub use span_machine::step::{Reply, Step, Verdict};
 pub use span_mutate::mutation::{CheckedMutation, Mutation, MutationKind, NamedValue};
-pub use span_mutate::transaction::Transaction;
 pub use span_params::params::{Parameter, Params};
 pub use span_schema::schema::Schema;
 pub use span_schema::table::{Column, KeyColumn, Parent, Table};

@@ -15,6 +15,7 @@ ghost use Rattle.span_transactions.specs.Choices.{chosen_mutations};
 ghost use Rattle.span_journal.specs.Judged.{as_reply, decision_reply, MayPrepare, IsUnprepared, IsNoted, IsUnnoted, IsApplied, IsGap, IsUnclaimed, IsRaised, leaf_of, IsRegistered, IsUnregistered, IsUnchanged, IsCovered, IsTaken, MaySplit, IsCutOf};
 
 use super::owned::{append, drop_at};
+use span_checking::transaction::Transaction;
 use span_columns::leaf::Leaf;
 use span_fragment::piece::Piece;
 use span_keycode::key::Key;
@@ -24,7 +25,6 @@ use span_machine::slot::SlotState;
 use span_machine::step::Verdict;
 use span_machine::transaction::Prepared;
 use span_mutate::mutation::CheckedMutation;
-use span_mutate::transaction::Transaction;
 use span_openqueries::queries::{cover_at, find_query, find_target, slot_at, take_at};
 use span_openqueries::query::KeptQuery;
 use span_openqueries::ranges::{gap_in, is_free};

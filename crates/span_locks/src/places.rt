@@ -8,8 +8,8 @@ ghost use Rattle.span_locks.specs.Replies.{IsNext};
 
 use span_journal::journal::Journal;
 use span_machine::slot::SlotState;
+use span_mutate::directory::is_in_range;
 use span_mutate::mutation::CheckedMutation;
-use span_mutate::root_key::is_in_range;
 use span_schema::schema::Schema;
 use span_transactions::slots::MOST_SLOTS;
 

@@ -5,7 +5,7 @@ use Rattle.span_schema.specs.declared.table.Table.{Table}
 use Rattle.span_keycode.specs.declared.range.KeyRange.{KeyRange}
 use Rattle.span_keycode.specs.Parts.{part_between, lowest_gap, tiles, place_among}
 use Rattle.span_mutate.specs.declared.mutation.CheckedMutation.{CheckedMutation}
-use Rattle.span_mutate.specs.RootKeys.{root_key}
+use Rattle.span_checking.specs.RootKeys.{root_key}
 use Rattle.span_value.specs.declared.value.Value.{Value}
 use Rattle.span_machine.specs.declared.transaction.Commit.{Commit}
 use Rattle.span_value.specs.Results.{first_cause, and_then}

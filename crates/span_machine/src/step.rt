@@ -1,6 +1,6 @@
 //! Steps, and the replies to them.
+use span_checking::transaction::Transaction;
 use span_gather::rows::Rows;
-use span_mutate::transaction::Transaction;
 use span_params::params::Params;
 use span_truetime::bound::Bound;
 use span_truetime::interval::Interval;

@@ -5,8 +5,8 @@ use Rattle.span_schema.specs.declared.table.Table.{Table}
 use Rattle.span_value.specs.declared.refusal.Refusal.{Refusal}
 use Rattle.span_query.specs.declared.query.Statement.{Statement}
 use Rattle.span_mutate.specs.Directories.{Root}
-use Rattle.span_mutate.specs.RootKeys.{root_key}
-use Rattle.span_mutate.proofs.RootKeyLaws.{root_key_coded}
+use Rattle.span_checking.specs.RootKeys.{root_key}
+use Rattle.span_checking.proofs.RootKeyLaws.{root_key_coded}
 use Rattle.span_schema.specs.Lineages.{MeetsRules}
 use Rattle.span_truetime.specs.declared.interval.Interval.{Interval}
 use Rattle.span_machine.specs.declared.slot.SlotState.{SlotState}

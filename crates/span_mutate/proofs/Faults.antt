@@ -6,7 +6,7 @@ use Rattle.span_value.specs.Results.{first_cause, and_then}
 use Rattle.span_schema.specs.declared.table.Table.{Table}
 use Rattle.span_mutate.specs.declared.mutation.CheckedMutation.{CheckedMutation}
 use Rattle.span_mutate.specs.declared.row.TableRow.{TableRow}
-use Rattle.span_mutate.specs.Checking.{unless}
+use Rattle.span_mutate.specs.Database.{unless}
 use Rattle.span_mutate.specs.Rows.{row_at}
 use Rattle.span_mutate.specs.Database.{causes, changed, apply_one, apply}
 use Rattle.span_mutate.specs.Faults.{is_mutation_fault}

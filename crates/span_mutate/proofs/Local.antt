@@ -15,8 +15,8 @@ use Rattle.span_rowcode.specs.Rows.{row_code}
 use Rattle.span_rowcode.specs.Limits.{longest_row}
 use Rattle.span_mutate.specs.declared.mutation.CheckedMutation.{CheckedMutation}
 use Rattle.span_mutate.specs.declared.row.TableRow.{TableRow}
-use Rattle.span_mutate.specs.Columns.{is_delete}
-use Rattle.span_mutate.specs.Checking.{unless}
+use Rattle.span_mutate.specs.Kinds.{is_delete}
+use Rattle.span_mutate.specs.Database.{unless}
 use Rattle.span_mutate.specs.Rows.{begins, is_same_key, is_at, row_at, with_row}
 use Rattle.span_mutate.specs.Database.{is_at_or_below, cascades, blocks_delete, tables_under, tables_blocking_delete, all_tables, is_in, is_under, is_delete_blocked, lacks_parent, is_insert, is_update, cells_after, causes, row_after, without_rows, changed, apply_to, apply_one}
 use Rattle.span_mutate.specs.Directories.{Root, is_in_directory, directory, key_len, IsKeyed, rows_cmp, IsInOrder, IsDatabase}

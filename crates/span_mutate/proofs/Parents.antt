@@ -20,7 +20,7 @@ use Rattle.span_keycode.proofs.Levels.{back}
 use Rattle.span_keycode.proofs.LevelLaws.{path_child}
 use Rattle.span_mutate.specs.declared.mutation.CheckedMutation.{CheckedMutation}
 use Rattle.span_mutate.specs.declared.row.TableRow.{TableRow}
-use Rattle.span_mutate.specs.Columns.{is_delete}
+use Rattle.span_mutate.specs.Kinds.{is_delete}
 use Rattle.span_mutate.specs.Rows.{begins, is_same_key, is_at, row_at, with_row}
 use Rattle.span_mutate.specs.Database.{is_at_or_below, all_tables, tables_under, is_under, is_delete_blocked, lacks_parent, is_insert, is_update, cells_after, causes, row_after, without_rows, changed, apply_one, apply}
 use Rattle.span_mutate.specs.Directories.{key_len, IsKeyed, rows_cmp, IsDatabase, HasParents, ParentsStay}
@@ -31,9 +31,8 @@ use Rattle.span_mutate.proofs.Filters.{filter_yes, filter_no, find_kept, found_p
 use Rattle.span_mutate.proofs.Orders.{rows_equal}
 use Rattle.span_mutate.proofs.Placing.{put, put_all}
 use Rattle.span_mutate.proofs.Local.{step_database}
-use Rattle.span_mutate.proofs.Runs.{run_on, run_faults}
-use Rattle.span_mutate.proofs.Keyed.{unless_none}
-use Rattle.span_mutate.proofs.NamedKinds.{all_map}
+use Rattle.span_mutate.proofs.Runs.{run_on, run_faults, all_map}
+use Rattle.span_mutate.proofs.Causes.{unless_none}
 
 -- a number of a range is found in it
 pub in_range : (a n t : ℕ) → a ≤ t → t < a + n → list_any (λ (k : ℕ). k == t) (range_with_len a n) ≡ true

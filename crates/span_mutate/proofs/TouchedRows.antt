@@ -10,7 +10,7 @@ use Rattle.span_value.specs.Results.{first_cause, and_then}
 use Rattle.span_schema.specs.Numbers.{key_columns, root_of}
 use Rattle.span_mutate.specs.declared.mutation.CheckedMutation.{CheckedMutation}
 use Rattle.span_mutate.specs.declared.row.TableRow.{TableRow}
-use Rattle.span_mutate.specs.Columns.{is_delete}
+use Rattle.span_mutate.specs.Kinds.{is_delete}
 use Rattle.span_mutate.specs.Rows.{begins, row_at, with_row}
 use Rattle.span_mutate.specs.Database.{is_at_or_below, tables_under, all_tables, is_under, causes, row_after, without_rows, changed, apply_one, apply}
 use Rattle.span_mutate.specs.Directories.{Root, is_in_directory, directory, IsKeyed, AreKeyed, root_row, rows_cmp, IsInOrder, IsDatabase}

@@ -16,16 +16,15 @@ use Rattle.span_rowcode.specs.Rows.{AreCells, row_code}
 use Rattle.span_rowcode.specs.Limits.{longest_row}
 use Rattle.span_mutate.specs.declared.mutation.CheckedMutation.{CheckedMutation}
 use Rattle.span_mutate.specs.declared.row.TableRow.{TableRow}
-use Rattle.span_mutate.specs.Columns.{is_delete}
+use Rattle.span_mutate.specs.Kinds.{is_delete}
 use Rattle.span_mutate.specs.Rows.{is_same_key, is_at, row_at, with_row}
 use Rattle.span_mutate.specs.Database.{is_insert, is_update, is_delete_blocked, lacks_parent, is_under, merge_cells, cells_after, causes, row_after, without_rows, changed, apply_one, apply}
 use Rattle.span_mutate.specs.Directories.{rows_cmp}
 use Rattle.span_mutate.specs.Typed.{IsTyped, AreTyped, AreNamed, IsTypedMutation, TypedStay}
 use Rattle.span_mutate.proofs.Begins.{same_number}
 use Rattle.std.proofs.lemmas.Bool.{and_parts}
-use Rattle.span_mutate.proofs.Keyed.{first_none, unless_none}
+use Rattle.span_mutate.proofs.Causes.{first_none, unless_none, rest_none}
 use Rattle.span_mutate.proofs.Placing.{put_all, all_filter}
-use Rattle.span_mutate.proofs.NamedKinds.{rest_none}
 
 -- a cell that is named fits, or else the old one does
 over_fits : (k : Kind) (o : Option Value) (v : Value) → IfSome o (Fits k) → Fits k v → Fits k (unwrap_or o v)

@@ -4,17 +4,14 @@ use Rattle.span_value.specs.declared.value.Value.{Value}
 use Rattle.span_value.specs.declared.value.Value.TheVariants.{Null, Int, Bool as Flag}
 use Rattle.span_value.specs.declared.value.ColumnType.{ColumnType}
 use Rattle.span_value.specs.declared.value.ColumnType.TheVariants as type
-use Rattle.span_value.specs.declared.refusal.Refusal.TheVariants.{Exists, Missing, ParentMissing, HasChildren, NoColumn, NoTable, WrongType, NullNotAllowed, EmptyTransaction}
+use Rattle.span_value.specs.declared.refusal.Refusal.TheVariants.{Exists, Missing, ParentMissing, HasChildren}
 use Rattle.span_schema.specs.declared.table.Table.{Table}
 use Rattle.span_schema.specs.declared.table.Column.{Column}
 use Rattle.span_schema.specs.declared.table.KeyColumn.{KeyColumn}
 use Rattle.span_mutate.specs.declared.mutation.MutationKind.{MutationKind}
 use Rattle.span_mutate.specs.declared.mutation.MutationKind.TheVariants.{Insert, Update, InsertOrUpdate, Delete}
-use Rattle.span_mutate.specs.declared.mutation.NamedValue.{NamedValue}
-use Rattle.span_mutate.specs.declared.mutation.Mutation.{Mutation}
 use Rattle.span_mutate.specs.declared.mutation.CheckedMutation.{CheckedMutation}
 use Rattle.span_mutate.specs.declared.row.TableRow.{TableRow}
-use Rattle.span_mutate.specs.Checking.{checked_transaction}
 use Rattle.span_mutate.specs.Database.{apply, rows_of}
 use Rattle.span_mutate.specs.Directories.{directory, root_row}
 
@@ -48,16 +45,16 @@ table_c cascading = record {
 }
 
 -- the schema, B and C being with ON DELETE CASCADE or not
-abbrev schema : Bool → Bool → List Table
+abbrev pub schema : Bool → Bool → List Table
 schema b c = table_a ∷ table_b b ∷ table_c c ∷ []
 
 abbrev row : ℕ → List Value → List Value → TableRow
 row n vs ws = record { table = n; key = vs; cells = ws }
 
-abbrev mutation : MutationKind → ℕ → List Value → List (Option Value) → CheckedMutation
+abbrev pub mutation : MutationKind → ℕ → List Value → List (Option Value) → CheckedMutation
 mutation kind n vs cs = record { kind = kind; table = n; key = vs; cells = cs }
 
-abbrev one : Value
+abbrev pub one : Value
 one = Int (pos 1)
 
 abbrev two : Value
@@ -137,42 +134,6 @@ in_order = refl
 -- the first mutation that has a fault, and its first fault
 first_fault : apply (schema true true) (a1 ∷ []) (mutation Insert 2 (two ∷ one ∷ []) [] ∷ mutation Insert 1 (one ∷ []) (None ∷ None ∷ []) ∷ []) ≡ Err ParentMissing
 first_fault = refl
-
-abbrev asked : MutationKind → ℕ → List Value → List NamedValue → Mutation
-asked kind name key cells = record { kind = kind; table = name ∷ []; key = key; cells = cells }
-
-abbrev cell : ℕ → Value → NamedValue
-cell name v = record { column = name ∷ []; value = v }
-
--- names of either case; the cells in the order of declaration
-accepted : checked_transaction (schema true true) (asked Update 97 (one ∷ []) (cell 86 (Flag true) ∷ []) ∷ []) ≡ Ok (mutation Update 1 (one ∷ []) (None ∷ Some (Flag true) ∷ []) ∷ [])
-accepted = refl
-
-empty : checked_transaction (schema true true) [] ≡ Err EmptyTransaction
-empty = refl
-
-no_table : checked_transaction (schema true true) (asked Insert 68 [] [] ∷ []) ≡ Err NoTable
-no_table = refl
-
--- the whole key is checked before the cells, its types before NULL
-short_key : checked_transaction (schema true true) (asked Insert 65 [] (cell 97 Null ∷ []) ∷ []) ≡ Err WrongType
-short_key = refl
-
-null_key : checked_transaction (schema true true) (asked Insert 65 (Null ∷ []) (cell 97 Null ∷ []) ∷ []) ≡ Err NullNotAllowed
-null_key = refl
-
-key_as_cell : checked_transaction (schema true true) (asked Insert 65 (one ∷ []) (cell 97 one ∷ []) ∷ []) ≡ Err NoColumn
-key_as_cell = refl
-
-named_twice : checked_transaction (schema true true) (asked Insert 65 (one ∷ []) (cell 117 Null ∷ cell 85 Null ∷ []) ∷ []) ≡ Err NoColumn
-named_twice = refl
-
-delete_with_cell : checked_transaction (schema true true) (asked Delete 65 (one ∷ []) (cell 117 Null ∷ []) ∷ []) ≡ Err NoColumn
-delete_with_cell = refl
-
--- the second mutation is checked where nothing refuses the first
-second : checked_transaction (schema true true) (asked Delete 65 (one ∷ []) [] ∷ asked Insert 65 (one ∷ []) (cell 117 one ∷ []) ∷ []) ≡ Err WrongType
-second = refl
 
 -- the rows of a table, and those of a directory
 rows_of_b : rows_of 2 family ≡ b11 ∷ []

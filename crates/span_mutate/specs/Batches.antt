@@ -1,15 +1,10 @@
 -- Batches of mutations, whose kind, table and names of columns are written once.
-use Rattle.std.specs.Prelude.{◌≡◌, ℕ, Bool, true, false, ◌==◌, ◌&&◌, List, [], ◌∷◌, ◌++◌, map, length, Option, Some, None, is_some}
-use Rattle.std.specs.List.{list_all}
+use Rattle.std.specs.Prelude.{ℕ, List, [], ◌∷◌, ◌++◌, map, Option, Some, None}
 use Rattle.span_value.specs.declared.value.Value.{Value}
-use Rattle.span_schema.specs.declared.table.Table.{Table}
-use Rattle.span_schema.specs.Numbers.{IsTable, number_named, columns_of, other_places}
 use Rattle.span_mutate.specs.declared.mutation.NamedValue.{NamedValue}
 use Rattle.span_mutate.specs.declared.mutation.Mutation.{Mutation}
 use Rattle.span_mutate.specs.declared.batch.Heading.{Heading}
 use Rattle.span_mutate.specs.declared.batch.BatchRow.{BatchRow}
-use Rattle.span_mutate.specs.Columns.{is_delete}
-use Rattle.span_mutate.specs.InOrder.{are_names_at}
 
 -- with a cell of the column in front, where there is a value
 abbrev pub with_cell : List ℕ → Option Value → List NamedValue → List NamedValue
@@ -39,17 +34,3 @@ row_mutations heading rows = map (row_mutation heading) rows
 abbrev pub batch_mutations : List (List Mutation) → List Mutation
 batch_mutations [] = []
 batch_mutations (batch ∷ batches) = batch ++ batch_mutations batches
-
--- ---- words of the code alone
-
--- a value for each of the names
-abbrev pub is_full : List (List ℕ) → List (Option Value) → Bool
-is_full names cells = (length names == length cells) && list_all is_some cells
-
--- A batch of the table with this number that removes no row. Its columns are those outside the key, one for each, letter
--- by letter and in the order of declaration.
-pub record IsBound (tables : List Table) (heading : Heading) (n : ℕ) : Type 0 where
-  pub table : IsTable tables n
-  pub named : number_named tables heading.table ≡ Some n
-  pub put : is_delete heading.kind ≡ false
-  pub order : are_names_at (columns_of tables n) (other_places tables n) heading.columns ≡ true

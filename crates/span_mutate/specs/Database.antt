@@ -2,7 +2,7 @@
 --
 -- A database is the list of the rows of all tables: those of table 1 in the order of its primary key, then those of
 -- table 2, and so on.
-use Rattle.std.specs.Prelude.{ℕ, ◌==◌, not, ◌&&◌, nat_lt, Bool, true, false, List, [], ◌∷◌, length, take, filter, Option, Some, None, is_some, is_none, Result, Ok, if◌then◌else◌}
+use Rattle.std.specs.Prelude.{ℕ, ◌==◌, not, ◌&&◌, nat_lt, Bool, true, false, List, [], ◌∷◌, length, take, filter, Option, Some, None, is_some, is_none, Result, Ok, Err, if◌then◌else◌}
 use Rattle.std.specs.List.{list_any, range_with_len}
 use Rattle.std.specs.Option.{unwrap_or}
 use Rattle.span_value.specs.declared.value.Value.{Value}
@@ -19,9 +19,13 @@ use Rattle.span_mutate.specs.declared.mutation.MutationKind.{MutationKind}
 use Rattle.span_mutate.specs.declared.mutation.MutationKind.TheVariants.{Insert, Update}
 use Rattle.span_mutate.specs.declared.mutation.CheckedMutation.{CheckedMutation}
 use Rattle.span_mutate.specs.declared.row.TableRow.{TableRow}
-use Rattle.span_mutate.specs.Columns.{is_delete}
-use Rattle.span_mutate.specs.Checking.{unless}
+use Rattle.span_mutate.specs.Kinds.{is_delete}
 use Rattle.span_mutate.specs.Rows.{begins, row_at, with_row}
+
+-- the value, unless something refuses it
+abbrev pub unless : {A : Type 0} → Option Refusal → A → Result A Refusal
+unless None x = Ok x
+unless (Some why) x = Err why
 
 -- the rows of table n, in the order of its primary key
 abbrev pub rows_of : ℕ → List TableRow → List TableRow

@@ -1,9 +1,5 @@
-pub mod Columns
-pub mod Checking
-pub mod InOrder
+pub mod Kinds
 pub mod Batches
-pub mod NamedBatches
-pub mod RootKeys
 pub mod Rows
 pub mod Database
 pub mod Faults

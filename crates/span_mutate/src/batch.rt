@@ -54,7 +54,7 @@ impl MutationBatch {
     }
 
     /// What the mutations have in common, and the rows.
-    pub(crate) fn into_parts(self) -> (Heading, Vec<BatchRow>)
+    pub fn into_parts(self) -> (Heading, Vec<BatchRow>)
         ensures { self ≡ row_mutations result.0 result.1.items }
     {
         let MutationBatch { heading, rows } = self;

@@ -90,7 +90,7 @@ fn copy_of_cells(alloc: Global, cells: &[NamedValue]) -> Result<Vec<NamedValue>,
 }
 
 /// Equal mutations, or `OutOfMemory`.
-pub(crate) fn copy_of_mutations(
+pub fn copy_of_mutations(
     alloc: Global,
     mutations: &[CheckedMutation],
 ) -> Result<Vec<CheckedMutation>, Refusal>

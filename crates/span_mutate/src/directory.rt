@@ -1,10 +1,14 @@
-//! Which mutations are of one directory.
+//! Which mutations are of one directory, and which of the directories in a range of keys.
 ghost use Rattle.std.specs.Prelude.{◌≡◌};
 ghost use Rattle.span_schema.specs.Numbers.{root_of};
+ghost use Rattle.span_keycode.specs.Keys.{key_code};
+ghost use Rattle.span_keycode.specs.Parts.{is_from, is_upto, is_between};
 ghost use Rattle.span_mutate.specs.Directories.{is_in_directory, key_len, root_row};
 
 use super::mutation::CheckedMutation;
 use super::row::{begins, first_values};
+use span_keycode::key::Key;
+use span_keycode::root_order::compare_root;
 use span_schema::schema::Schema;
 
 /// Whether a mutation is in the directory of another one's root row: their tables have one root table, and their keys begin with the
@@ -45,4 +49,53 @@ fn key_length(schema: &Schema, table: usize) -> usize
         return schema.key_columns(place + 1).len();
     }
     0
+}
+
+/// Whether the coded key of a mutation's root row is from `lo` on and before `hi`; None is an end that no key is outside of. No memory
+/// is taken.
+pub fn is_in_range(
+    schema: &Schema,
+    mutation: &CheckedMutation,
+    lo: &Option<Key>,
+    hi: &Option<Key>,
+) -> bool
+    ensures { result ≡ (let root = root_row schema.now mutation.now.table mutation.now.key in
+        is_between lo.now hi.now (key_code schema.now root.table root.key)) }
+{
+    if !is_from(schema, mutation, lo) {
+        return false;
+    }
+    is_upto(schema, mutation, hi)
+}
+
+fn is_from(schema: &Schema, mutation: &CheckedMutation, lo: &Option<Key>) -> bool
+    ensures { result ≡ (let root = root_row schema.now mutation.now.table mutation.now.key in
+        is_from lo.now (key_code schema.now root.table root.key)) }
+{
+    match lo {
+        None => true,
+        Some(low) => !compare_root(
+            schema,
+            mutation.table,
+            mutation.key.as_slice(),
+            low.as_slice(),
+        )
+        .is_lt(),
+    }
+}
+
+fn is_upto(schema: &Schema, mutation: &CheckedMutation, hi: &Option<Key>) -> bool
+    ensures { result ≡ (let root = root_row schema.now mutation.now.table mutation.now.key in
+        is_upto hi.now (key_code schema.now root.table root.key)) }
+{
+    match hi {
+        None => true,
+        Some(high) => compare_root(
+            schema,
+            mutation.table,
+            mutation.key.as_slice(),
+            high.as_slice(),
+        )
+        .is_lt(),
+    }
 }

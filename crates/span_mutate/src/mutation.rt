@@ -1,6 +1,6 @@
 //! What a transaction does to rows.
 ghost use Rattle.std.specs.Prelude.{◌≡◌};
-ghost use Rattle.span_mutate.specs.Columns.{is_delete, may_insert};
+ghost use Rattle.span_mutate.specs.Kinds.{is_delete, may_insert};
 
 use span_value::seq::Seq;
 use span_value::text::Text;
@@ -60,7 +60,7 @@ pub fn is_delete(kind: MutationKind) -> bool
 }
 
 /// Whether the mutation may make a new row.
-pub(crate) fn may_insert(kind: MutationKind) -> bool
+pub fn may_insert(kind: MutationKind) -> bool
     ensures { result ≡ may_insert kind }
 {
     match kind {

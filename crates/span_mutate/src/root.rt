@@ -7,7 +7,7 @@ ghost use Rattle.std.specs.Option.{option_copied, unwrap_or};
 ghost use Rattle.span_schema.specs.Numbers.{IsTable, parent_of};
 ghost use Rattle.span_rowcode.specs.Rows.{row_code};
 ghost use Rattle.span_rowcode.specs.Limits.{longest_row};
-ghost use Rattle.span_mutate.specs.Columns.{is_delete};
+ghost use Rattle.span_mutate.specs.Kinds.{is_delete};
 ghost use Rattle.span_mutate.specs.Rows.{row_at};
 ghost use Rattle.span_mutate.specs.Database.{is_at_or_below, tables_under, cascades, blocks_delete, tables_blocking_delete, is_in, is_under, is_delete_blocked, lacks_parent, cells_of, merge_cells, apply_one, apply};
 

@@ -7,7 +7,7 @@ use Rattle.span_value.specs.declared.refusal.Refusal.TheVariants as refusal
 use Rattle.span_value.specs.declared.value.Value.{Value}
 use Rattle.span_schema.specs.declared.table.Table.{Table}
 use Rattle.span_keycode.specs.Coding.{AreValues}
-use Rattle.span_mutate.specs.RootKeys.{root_key}
+use Rattle.span_checking.specs.RootKeys.{root_key}
 use Rattle.span_shard.specs.KeyVersions.{KeyVersions}
 use Rattle.span_shard.specs.Shard.{IsIdle, keys_before, keys_from}
 use Rattle.span_machine.specs.Limits.{most_slots}

@@ -9,7 +9,7 @@ use Rattle.span_keycode.specs.Coding.{AreValues}
 use Rattle.span_keycode.specs.declared.range.KeyRange.{KeyRange}
 use Rattle.span_mutate.specs.declared.mutation.CheckedMutation.{CheckedMutation}
 use Rattle.span_mutate.specs.declared.row.TableRow.{TableRow}
-use Rattle.span_mutate.specs.RootKeys.{root_key}
+use Rattle.span_checking.specs.RootKeys.{root_key}
 use Rattle.span_mutate.specs.Typed.{AreTyped}
 use Rattle.span_arena.specs.Limits.{most_nodes}
 use Rattle.span_shard.specs.KeyVersions.{KeyVersions}

@@ -9,9 +9,9 @@ ghost use Rattle.span_parts.specs.Replies.{as_reply};
 ghost use Rattle.span_parts.specs.Whole.{IsWhole, BelongsAt, CodesRootKey, IsCutAt};
 
 use super::shards::cut_at;
+use span_checking::root_key::root_key;
 use span_journal::journal::Journal;
 use span_keycode::key::Key;
-use span_mutate::root_key::root_key;
 use span_schema::schema::Schema;
 use span_shard::shard::Shard;
 use span_value::refusal::Refusal;

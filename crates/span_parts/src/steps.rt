@@ -10,11 +10,11 @@ ghost use Rattle.span_parts.specs.Whole.{Shards, IsWhole, GoesWith, IsWritten};
 
 use super::read::read_gap;
 use super::shards::{apply_at, prepare_at, trim_at};
+use span_checking::transaction::Transaction;
 use span_gather::finish::finish as finish_pieces;
 use span_gather::rows::Rows;
 use span_journal::journal::{Journal, Opened};
 use span_machine::step::Verdict;
-use span_mutate::transaction::Transaction;
 use span_params::params::Params;
 use span_query::query::Statement;
 use span_schema::schema::Schema;

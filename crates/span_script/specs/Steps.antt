@@ -6,7 +6,7 @@ use Rattle.span_value.specs.declared.refusal.Refusal.TheVariants.{OutOfMemory}
 use Rattle.span_truetime.specs.declared.interval.Interval.{Interval}
 use Rattle.span_schema.specs.declared.table.Table.{Table}
 use Rattle.span_mutate.specs.declared.mutation.Mutation.{Mutation}
-use Rattle.span_mutate.specs.Checking.{checked_transaction}
+use Rattle.span_checking.specs.Checking.{checked_transaction}
 use Rattle.span_machine.specs.declared.step.Step.{Step}
 use Rattle.span_machine.specs.declared.step.Step.TheVariants as step
 use Rattle.span_machine.specs.declared.step.Reply.{Reply}

@@ -1,7 +1,7 @@
 //! What keeps slots small and answers possible: a slot is cut in two, its old versions go, its floor rises.
 ghost use Rattle.std.specs.Prelude.{◌≡◌, ◌≤◌, ◌<◌, [], ◌∷◌, IfOk, IfErr, IfSome, OnOk, MatchOption};
 ghost use Rattle.span_keycode.specs.Coding.{AreValues};
-ghost use Rattle.span_mutate.specs.RootKeys.{root_key};
+ghost use Rattle.span_checking.specs.RootKeys.{root_key};
 ghost use Rattle.span_truetime.specs.declared.interval.Interval.{Interval};
 ghost use Rattle.span_arena.specs.Limits.{most_nodes};
 ghost use Rattle.span_machine.specs.Limits.{most_slots};
@@ -12,10 +12,10 @@ ghost use Rattle.span_parts.specs.Whole.{CodesRootKey};
 ghost use Rattle.span_locks.specs.Replies.{RepliesOnce, MayReplyOnce, RepliesAt, IsAmong, IsErrAmong, split_refusals, trim_refusals};
 
 use crate::db::Db;
+use span_checking::root_key::root_key;
 use span_keycode::key::Key;
 use span_locks::board::Naming;
 use span_locks::session::Session;
-use span_mutate::root_key::root_key;
 use span_truetime::clock::Clock;
 use span_value::refusal::Refusal;
 use span_value::value::Value;

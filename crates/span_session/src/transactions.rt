@@ -11,10 +11,10 @@ ghost use Rattle.span_locks.specs.Replies.{IsAmong, IsPrepareRefusal, begin_refu
 ghost use Rattle.span_locks.specs.Rule.{Decides, Forgets, IsBegunAt, with_begun};
 
 use crate::db::Db;
+use span_checking::transaction::Transaction;
 use span_locks::board::Naming;
 use span_locks::session::Session;
 use span_machine::step::Verdict;
-use span_mutate::transaction::Transaction;
 use span_truetime::clock::Clock;
 use span_truetime::interval::Interval;
 use span_value::refusal::Refusal;

@@ -2,9 +2,9 @@
 ghost use Rattle.std.specs.Prelude.{◌≡◌, IfOk};
 ghost use Rattle.span_mutate.specs.Typed.{AreTypedMutations};
 
+use span_checking::transaction::Transaction;
 use span_gather::rows::Rows;
 use span_mutate::mutation::{Mutation, MutationKind};
-use span_mutate::transaction::Transaction;
 use span_schema::schema::Schema;
 use span_schematext::text::parse_schema;
 use span_value::refusal::Refusal;

@@ -18,8 +18,7 @@ use Rattle.span_mutate.specs.declared.mutation.MutationKind.{MutationKind}
 use Rattle.span_mutate.specs.declared.mutation.MutationKind.TheVariants.{Insert, Update, InsertOrUpdate, Delete}
 use Rattle.span_mutate.specs.Database.{is_insert, is_update, merge_cells}
 use Rattle.span_mutate.specs.Faults.{is_mutation_fault}
-use Rattle.span_mutate.proofs.NamedKinds.{rest_none}
-use Rattle.span_mutate.proofs.Keyed.{first_none}
+use Rattle.span_mutate.proofs.Causes.{rest_none, first_none}
 use Rattle.span_maderows.specs.Made.{made_at}
 use Rattle.span_shard.specs.KeyVersions.{KeyVersions}
 use Rattle.span_shard.specs.Shard.{row_now}

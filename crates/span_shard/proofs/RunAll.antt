@@ -16,7 +16,7 @@ use Rattle.span_keycode.proofs.KeyLaws.{one_key}
 use Rattle.span_rowcode.specs.Rows.{IsRow, IsNoRow}
 use Rattle.span_mutate.specs.declared.mutation.CheckedMutation.{CheckedMutation}
 use Rattle.span_mutate.specs.declared.row.TableRow.{TableRow}
-use Rattle.span_mutate.specs.Columns.{is_delete}
+use Rattle.span_mutate.specs.Kinds.{is_delete}
 use Rattle.span_mutate.specs.Database.{blocks_delete, apply}
 use Rattle.span_mutate.specs.Directories.{IsDatabase}
 use Rattle.span_mutate.specs.Touched as rows

@@ -12,8 +12,8 @@ use Rattle.span_mutate.specs.declared.mutation.CheckedMutation.{CheckedMutation}
 use Rattle.span_mutate.specs.declared.mutation.MutationKind.{MutationKind}
 use Rattle.span_mutate.specs.declared.mutation.MutationKind.TheVariants.{Insert, Update, InsertOrUpdate, Delete}
 use Rattle.span_mutate.specs.declared.row.TableRow.{TableRow}
-use Rattle.span_mutate.specs.Columns.{is_delete}
-use Rattle.span_mutate.specs.Checking.{unless}
+use Rattle.span_mutate.specs.Kinds.{is_delete}
+use Rattle.span_mutate.specs.Database.{unless}
 use Rattle.span_mutate.specs.Rows.{with_row}
 use Rattle.span_mutate.specs.Database.{is_insert, is_update, is_under, is_delete_blocked, row_after, changed, apply_to, apply_one}
 use Rattle.span_mutate.specs.Directories.{IsDatabase}

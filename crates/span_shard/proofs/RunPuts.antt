@@ -18,8 +18,8 @@ use Rattle.span_mutate.specs.declared.mutation.CheckedMutation.{CheckedMutation}
 use Rattle.span_mutate.specs.declared.mutation.MutationKind.{MutationKind}
 use Rattle.span_mutate.specs.declared.mutation.MutationKind.TheVariants.{Insert, Update, InsertOrUpdate, Delete}
 use Rattle.span_mutate.specs.declared.row.TableRow.{TableRow}
-use Rattle.span_mutate.specs.Columns.{is_delete}
-use Rattle.span_mutate.specs.Checking.{unless}
+use Rattle.span_mutate.specs.Kinds.{is_delete}
+use Rattle.span_mutate.specs.Database.{unless}
 use Rattle.span_mutate.specs.Rows.{row_at, with_row}
 use Rattle.span_mutate.specs.Database.{is_insert, is_update, lacks_parent, is_delete_blocked, merge_cells, cells_of, cells_after, row_after, changed, without_rows, apply_one}
 use Rattle.span_mutate.specs.Directories.{IsDatabase, key_len}
@@ -37,8 +37,7 @@ use Rattle.span_mutate.proofs.Begins.{number_itself, front_of_taken, taken_begin
 use Rattle.std.proofs.lemmas.Bool.{and_from}
 use Rattle.span_mutate.proofs.ByRoots.{in_own}
 use Rattle.span_mutate.proofs.Families.{parent_family, root_short}
-use Rattle.span_mutate.proofs.NamedKinds.{rest_none}
-use Rattle.span_mutate.proofs.Keyed.{first_none}
+use Rattle.span_mutate.proofs.Causes.{rest_none, first_none}
 use Rattle.span_shard.proofs.Touching.{touched_by}
 use Rattle.span_shard.proofs.OverRows.{cells, row_at_code, put_there, put_elsewhere, parent_key}
 

@@ -2,7 +2,7 @@
 ghost use Rattle.std.specs.Prelude.{◌≡◌, ◌⊎◌, ◌<◌, ◌&&◌, not, is_some, true, false, IfOk, IfErr, IfSome, IsTrue, OnOk, MatchResult};
 ghost use Rattle.std.specs.Option.{option_copied};
 ghost use Rattle.span_schema.specs.Numbers.{IsTable, parent_of};
-ghost use Rattle.span_mutate.specs.Columns.{is_delete};
+ghost use Rattle.span_mutate.specs.Kinds.{is_delete};
 ghost use Rattle.span_mutate.specs.Database.{is_insert};
 ghost use Rattle.span_mutate.specs.Typed.{IsTypedMutation, AreTypedMutations};
 ghost use Rattle.span_maderows.specs.Made.{made_at};

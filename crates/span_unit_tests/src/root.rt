@@ -1,8 +1,8 @@
 //! Mutations on the rows of a root, given as a list: the program has them as versions.
+use span_checking::transaction::Transaction;
 use span_mutate::mutation::{Mutation, MutationKind};
 use span_mutate::root::check_root;
 use span_mutate::row::TableRow;
-use span_mutate::transaction::Transaction;
 use span_schema::schema::Schema;
 use span_schematext::text::parse_schema;
 use span_value::refusal::Refusal;

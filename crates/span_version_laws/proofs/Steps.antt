@@ -26,7 +26,7 @@ use Rattle.span_machine.specs.declared.transaction.Decision.{Decision}
 use Rattle.span_machine.specs.declared.transaction.Decision.TheVariants as decision
 use Rattle.span_machine.specs.declared.transaction.Prepared.{Prepared}
 use Rattle.span_machine.specs.Slots.{root_code, slot_of}
-use Rattle.span_mutate.specs.RootKeys.{root_key}
+use Rattle.span_checking.specs.RootKeys.{root_key}
 use Rattle.span_params.specs.declared.params.Parameter.{Parameter}
 use Rattle.span_machine_laws.proofs.Splits.{part_below, part_from, split_other}
 use Rattle.span_machine.specs.Machine.{Machine, Answer, answer, start, first_slot, has_key, holds, begin, begun, prepare, prepared, add_prepared, prepare_timestamp, decide, apply_step, applied, applied_at, without_prepared, advance, trim, trimmed, with_horizon, open_query, scan, finish, close, split_in_two, is_transaction, is_undecided, is_prepared_at, is_all_prepared, is_prepared_for, commit_timestamp, commit_of, committed, aborted, with_decision, coordinator_slot, changed_first, without_first, refused}

@@ -1,6 +1,6 @@
 use Rattle.std.proofs.Common.{◌≡◌, ◌<◌, ◌∷◌, [], length, sym, ap, ◌∙◌, subst}
 use Rattle.std.proofs.lemmas.Option.{slice_get_within}
-use Rattle.span_mutate.specs.RootKeys.{root_key}
+use Rattle.span_checking.specs.RootKeys.{root_key}
 use Rattle.span_locks.specs.declared.board.Role.TheVariants.{Holder, Keeper}
 use Rattle.span_locks.specs.Known.{kept, restated}
 use Rattle.span_locks.specs.Rule.{number_of, versions_of, known_at}

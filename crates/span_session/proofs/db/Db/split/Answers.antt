@@ -6,7 +6,7 @@ use Rattle.span_machine.specs.Machine.{split_at}
 use Rattle.span_machine.specs.declared.step.Reply.TheVariants.{Refused}
 use Rattle.span_locks.specs.Replies.{IsAmong, MayReplyOnce}
 use Rattle.span_locks.proofs.Replying.{key_replies, key_refused, no_key_refusal}
-use Rattle.span_mutate.specs.RootKeys.{root_key}
+use Rattle.span_checking.specs.RootKeys.{root_key}
 use Rattle.span_session.proofs.db.Db.split.Goals as goal
 
 pub split_at-requires : goal.split_at-requires

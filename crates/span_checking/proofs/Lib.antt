@@ -1,0 +1,12 @@
+pub mod Batched
+pub mod Breaks
+pub mod Chars
+pub mod Finding
+pub mod Fronts
+pub mod InOrder
+pub mod Keyed
+pub mod NamedKinds
+pub mod NamedRows
+pub mod RootKeyLaws
+pub mod Taking
+pub mod Worked

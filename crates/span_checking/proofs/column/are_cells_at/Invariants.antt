@@ -1,0 +1,6 @@
+use Rattle.std.proofs.Common.{◌≡◌, drop}
+use Rattle.span_checking.specs.InOrder.{are_cells_at}
+use Rattle.span_checking.proofs.column.are_cells_at.Given as goal
+
+abbrev pub invariant-loop-i : goal.invariant-loop-i
+invariant-loop-i l = are_cells_at l.columns l.places l.cells ≡ are_cells_at l.columns (drop l.i l.places) (drop l.i l.cells)
