@@ -9,7 +9,7 @@ use Rattle.span_query.specs.Groups.{are_equal, columns_at, distinct}
 use Rattle.span_rows.specs.Columns.{distinct_at}
 use Rattle.span_rows.specs.RowPlaces.{rows_at}
 use Rattle.span_rows.proofs.Firsts.{distinct-inserted}
-use Rattle.span_rows.proofs.Indexing.{taken_more}
+use Rattle.span_rows.proofs.Gathering.{taken_more}
 use Rattle.span_algebra.proofs.MergedGroups.{distinct_at-both}
 
 module _ (columns : List ℕ) (rows : List Row) (i : ℕ) (row : Row) (within : i < length rows) (is : row ≡ get_or rows i row) where

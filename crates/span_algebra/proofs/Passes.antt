@@ -12,7 +12,7 @@ use Rattle.span_algebra.specs.declared.aggregate.State.{State}
 use Rattle.span_algebra.specs.declared.group.GroupLists.{GroupLists}
 use Rattle.span_rows.specs.RowPlaces.{rows_at}
 use Rattle.span_rows.specs.Answers.{Gives}
-use Rattle.span_rows.specs.Joining.{holds_where}
+use Rattle.span_rows.specs.Filtering.{holds_where}
 use Rattle.span_algebra.specs.States.{operand_at}
 use Rattle.span_algebra.specs.GroupStates.{keys_at, AreGroupLists, AreGroupsWhere, CanCountRow, HaveKeys}
 use Rattle.span_rows.proofs.Gathering.{drop_at, gathered_at, nil-append_results, one_more, one_less, one_fails, then_fails}

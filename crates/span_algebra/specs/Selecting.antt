@@ -3,7 +3,7 @@ use Rattle.std.specs.Prelude.{List, [], Option, Some, if◌then◌else◌}
 use Rattle.std.specs.Option.{option_map}
 use Rattle.span_expr.specs.declared.expr.Expr.{Expr}
 use Rattle.span_query.specs.Rows.{Row, Rows, ◌>>=◌, singleton, values}
-use Rattle.span_rows.specs.Joining.{holds_where}
+use Rattle.span_rows.specs.Filtering.{holds_where}
 
 -- what one row gives
 abbrev pub project_row : Option Expr → List Expr → Row → Rows

@@ -8,7 +8,7 @@ use Rattle.span_expr.specs.declared.cell.Failure.{Failure}
 use Rattle.span_query.specs.Rows.{Row, Rows, append_results, filter_rows}
 use Rattle.span_query.proofs.Results.{append_results-nil}
 use Rattle.span_rows.specs.Answers.{Gives}
-use Rattle.span_rows.specs.Joining.{filter_row}
+use Rattle.span_rows.specs.Filtering.{filter_row}
 use Rattle.span_rows.proofs.Gathering.{concat_map-append, one_fails}
 
 -- what the iterator of a vector has given is a front of its items

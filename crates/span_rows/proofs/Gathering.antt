@@ -1,6 +1,6 @@
 -- Lists gathered by a loop: what was gathered so far, and what the rest gives.
-use Rattle.std.proofs.Common.{◌≡◌, ℕ, ◌+◌, ◌<◌, suc, length, get_or, drop, List, [], ◌∷◌, ◌++◌, Some, None, Err, refl, ap, sym, ◌∙◌, append_assoc, replicate, arith}
-use Rattle.std.proofs.Math.Seq.{drop-cons}
+use Rattle.std.proofs.Common.{◌≡◌, ℕ, ◌+◌, ◌<◌, suc, length, get_or, take, drop, List, [], ◌∷◌, ◌++◌, Some, None, Err, refl, ap, sym, ◌∙◌, append_assoc, replicate, arith}
+use Rattle.std.proofs.Math.Seq.{drop-cons, take-suc}
 use Rattle.std.proofs.lemmas.List.{replicate-append-replicate}
 use Rattle.span_expr.specs.declared.cell.Failure.{Failure}
 use Rattle.span_expr.specs.declared.cell.Failure.TheVariants.{Fault, OutOfMemory}
@@ -23,6 +23,11 @@ nil-append_results None = refl
 pub concat_map-append : {A B : Type 0} (f : A → OrFault (List B)) (xs ys : List A) → concat_map f (xs ++ ys) ≡ append_results (concat_map f xs) (concat_map f ys)
 concat_map-append f [] ys = sym (nil-append_results (concat_map f ys))
 concat_map-append f (x ∷ xs) ys = ap (append_results (f x)) (concat_map-append f xs ys) ∙ sym (append_results-assoc (f x) (concat_map f xs) (concat_map f ys))
+
+-- the items up to a place, and the one there
+pub taken_more : {A : Type 0} (xs : List A) (k : ℕ) (x : A) → k < length xs → x ≡ get_or xs k x → take k xs ++ x ∷ [] ≡ take (k + 1) xs
+taken_more xs k x below is =
+    ap (λ (y : _). take k xs ++ y ∷ []) is ∙ sym (take-suc xs k x below) ∙ ap (λ (n : ℕ). take n xs) {x = suc k} {y = k + 1} (omega arith)
 
 -- the item at a place, and the rest after it
 pub drop_at : {A : Type 0} (xs : List A) (k : ℕ) (x : A) → k < length xs → x ≡ get_or xs k x → drop k xs ≡ x ∷ drop (k + 1) xs

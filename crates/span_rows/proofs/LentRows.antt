@@ -8,7 +8,7 @@ use Rattle.span_query.specs.Rows.{Row}
 use Rattle.span_query.specs.Sorting.{insert_sorted}
 use Rattle.span_rows.specs.LentRows.{lent_rows}
 use Rattle.span_rows.proofs.Gathering.{drop_at}
-use Rattle.span_rows.proofs.Indexing.{taken_more}
+use Rattle.span_rows.proofs.Gathering.{taken_more}
 
 pub lent_count : (xs : List (Bor Row)) → length (lent_rows xs) ≡ length xs
 lent_count xs = length-map xs (λ (r : Bor Row). r.now)

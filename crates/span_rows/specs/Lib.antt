@@ -1,12 +1,10 @@
 pub mod Answers
 pub mod Cuts
-pub mod Joining
 pub mod Keys
 pub mod Hashes
 pub mod EqualRows
-pub mod Candidates
 pub mod LentRows
-pub mod RowIndexes
-pub mod KeyRuns
 pub mod Columns
 pub mod RowPlaces
+pub mod RowOrders
+pub mod Filtering

@@ -2,7 +2,7 @@
 ghost use Rattle.std.specs.Prelude.{◌≡◌};
 ghost use Rattle.span_query.specs.Rows.{filter_rows, filter_where};
 ghost use Rattle.span_rows.specs.Answers.{Adds, Gives};
-ghost use Rattle.span_rows.specs.Joining.{filter_row, holds_where};
+ghost use Rattle.span_rows.specs.Filtering.{filter_row, holds_where};
 
 use super::row::is_met;
 use super::row_list::RowList;

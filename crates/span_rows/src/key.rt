@@ -5,7 +5,7 @@ ghost use Rattle.span_value.specs.Orders.{value_order};
 ghost use Rattle.span_expr.specs.Operators.{column_of};
 ghost use Rattle.span_query.specs.Groups.{is_equal, are_equal, columns_at};
 ghost use Rattle.span_rows.specs.Hashes.{value_writes, row_writes};
-ghost use Rattle.span_rows.specs.KeyRuns.{values_order};
+ghost use Rattle.span_rows.specs.RowOrders.{values_order};
 
 use super::columns::put_columns;
 use super::distinct::{are_equal, is_equal};
@@ -100,7 +100,7 @@ fn compare_at(left: &[Value], left_place: usize, right: &[Value], right_place: u
 }
 
 /// The order of two rows by their values at some places of each.
-pub(crate) fn compare_columns(
+pub fn compare_columns(
     left: &[Value],
     left_places: &[usize],
     right: &[Value],
@@ -225,14 +225,14 @@ impl<'a> LentKey<'a> {
     }
 
     /// Whether these values are those of a row at some places.
-    pub(crate) fn is_of(&self, row: &[Value], places: &[usize]) -> bool
+    pub fn is_of(&self, row: &[Value], places: &[usize]) -> bool
         ensures { result ≡ are_equal self.now (columns_at places.now row.now) }
     {
         have_equal_columns(self.row, self.places, row, places)
     }
 
     /// Whether these values come after those of a row at some places.
-    pub(crate) fn comes_after(&self, row: &[Value], places: &[usize]) -> bool
+    pub fn comes_after(&self, row: &[Value], places: &[usize]) -> bool
         ensures { result ≡ is_gt (values_order self.now (columns_at places.now row.now)) }
     {
         compare_columns(self.row, self.places, row, places).is_gt()

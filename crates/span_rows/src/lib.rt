@@ -1,12 +1,9 @@
-//! Lists of rows: conditions at rows, joins, filters, each row once.
+//! Lists of rows: conditions at rows, filters, keys, each row once.
 #![tactic(auto)]
 
-mod candidates;
 pub mod columns;
 pub mod distinct;
 pub mod filter;
-pub mod join;
 pub mod key;
 pub mod row;
 pub mod row_list;
-mod runs;

@@ -70,7 +70,7 @@ fn non_null_at(row: &[Value], place: usize) -> Option<&Value>
 }
 
 /// The same of a row that lies in two parts.
-#[tactic(auto, using(crate::proofs::Skipping::left_column, crate::proofs::Skipping::from_front))]
+#[tactic(auto, using(crate::proofs::PairColumns::left_column, crate::proofs::PairColumns::from_front))]
 fn known_in<'a>(left: &'a [Value], right: &'a [Value], place: usize) -> Option<&'a Value>
     ensures { IfSome result
         (λ known. (operators.column_of (left.now ++ right.now) place ≡ known.now) × (is_null known.now ≡ false)) }
@@ -121,7 +121,7 @@ fn are_all_met(first: &Expr, more: &[Expr], left: &[Value], right: &[Value]) -> 
 }
 
 /// Whether a comparison, or an AND of some, is TRUE at a row in two parts, which is not put together.
-pub(crate) fn are_comparisons_met(condition: &Expr, left: &[Value], right: &[Value]) -> Option<bool>
+pub fn are_comparisons_met(condition: &Expr, left: &[Value], right: &[Value]) -> Option<bool>
     ensures { IfSome result (λ met. val (left.now ++ right.now) condition.now ≡ Val (value.Bool met)) }
 {
     match condition {
@@ -131,7 +131,7 @@ pub(crate) fn are_comparisons_met(condition: &Expr, left: &[Value], right: &[Val
 }
 
 /// Whether the condition is TRUE at the row, by a walk over its tree.
-pub(crate) fn is_true(alloc: Global, condition: &Expr, row: &[Value]) -> Result<bool, Failure>
+pub fn is_true(alloc: Global, condition: &Expr, row: &[Value]) -> Result<bool, Failure>
     ensures holds { Gives result (holds condition.now row.now) }
     ensures memory { RunsOutOnlyIf result (has_concatenation condition.now) }
 {
@@ -197,11 +197,7 @@ fn add_copy(alloc: Global, row: &mut Vec<Value>, value: &Value) -> Result<(), Al
 }
 
 /// Adds copies of values at the end. An error leaves some of them added.
-pub(crate) fn extend_row(
-    alloc: Global,
-    row: &mut Vec<Value>,
-    more: &[Value],
-) -> Result<(), AllocError>
+pub fn extend_row(alloc: Global, row: &mut Vec<Value>, more: &[Value]) -> Result<(), AllocError>
     ensures ok { OnOk result (row.new.items ≡ row.old.items ++ more.now) }
     ensures kept { take (length row.old.items) row.new.items ≡ row.old.items }
 {
@@ -223,7 +219,7 @@ pub fn copy_row(alloc: Global, row: &[Value]) -> Result<Row, AllocError>
 
 /// Adds `width` NULLs at the end.
 #[tactic(auto, using(crate::proofs::Gathering::row_steps))]
-pub(crate) fn pad_row(row: &mut Vec<Value>, width: usize) -> Result<(), AllocError>
+pub fn pad_row(row: &mut Vec<Value>, width: usize) -> Result<(), AllocError>
     ensures { OnOk result (row.new.items ≡ row.old.items ++ replicate width Value.Null) }
 {
     for _ in 0..width {

@@ -6,7 +6,7 @@ use Rattle.span_rows.specs.RowPlaces.{rows_at}
 use Rattle.span_algebra.specs.declared.aggregate.State.{State}
 use Rattle.span_algebra.specs.declared.group.GroupLists.{GroupLists}
 use Rattle.span_algebra.specs.GroupStates.{AreGroupLists, HaveKeys}
-use Rattle.span_rows.specs.Joining.{holds_where}
+use Rattle.span_rows.specs.Filtering.{holds_where}
 use Rattle.span_algebra.proofs.GroupSteps.{read_there}
 use Rattle.span_algebra.proofs.Passes.{HavePassed, passed_none, pass_fails, take_fails, pass_keeps, pass_drops, groups_passed}
 use Rattle.span_algebra.proofs.group.groups_where.Goals.{then-branch+in_ok-take_row_at, else-branch}

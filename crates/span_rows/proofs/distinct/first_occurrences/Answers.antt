@@ -3,7 +3,7 @@ use Rattle.indexmap.specs.IndexSet.{insert_key}
 use Rattle.span_query.specs.Rows.{Row}
 use Rattle.span_query.specs.Groups.{are_equal, distinct}
 use Rattle.span_rows.proofs.Firsts.{distinct-inserted}
-use Rattle.span_rows.proofs.Indexing.{taken_more}
+use Rattle.span_rows.proofs.Gathering.{taken_more}
 use Rattle.span_rows.proofs.distinct.first_occurrences.Goals as goal
 
 pub loop-at-preserved : goal.loop-at-preserved

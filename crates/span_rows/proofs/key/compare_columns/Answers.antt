@@ -1,5 +1,5 @@
 use Rattle.std.proofs.Common.{◌∙◌, sym, arith}
-use Rattle.span_rows.proofs.KeyRuns.{more_left, more_right}
+use Rattle.span_rows.proofs.RowOrders.{more_left, more_right}
 use Rattle.span_rows.proofs.key.compare_columns.Goals as goal
 
 pub returns-then-at-right_places : goal.returns-then-at-right_places

@@ -1,6 +1,6 @@
 use Rattle.std.proofs.Common.{◌≡◌, drop}
 use Rattle.span_query.specs.Groups.{columns_at}
-use Rattle.span_rows.specs.KeyRuns.{values_order}
+use Rattle.span_rows.specs.RowOrders.{values_order}
 use Rattle.span_rows.proofs.key.compare_columns.Given as goal
 
 -- the values so far are equal
