@@ -9,7 +9,7 @@ use Rattle.span_value.specs.Cells.{hex_pairs}
 use Rattle.span_machine.specs.declared.step.Reply.{Reply}
 use Rattle.span_machine.specs.declared.step.Reply.TheVariants as reply
 use Rattle.span_value.specs.declared.value.Value.{Value}
-use Rattle.span_command.specs.Record.{row_records}
+use Rattle.span_records.specs.Record.{row_records}
 use Rattle.span_machine.specs.declared.slot.SlotState.{SlotState}
 use Rattle.span_machine.specs.Kept.{live}
 

@@ -10,11 +10,11 @@ ghost use Rattle.span_answers.specs.declared.answer.TheConstants.{MOST_KEPT};
 
 use itoa::Buffer;
 use span_command::device::Output;
-use span_command::record_writer::rows_text;
 use span_core::database::Core;
 use span_core::slot::SlotView;
 use span_core::{Refusal, Reply};
 use span_keycode::key::Key;
+use span_records::record_writer::rows_text;
 use span_rows::row_list::RowList;
 use std::alloc::Global;
 use std::marker::Model;

@@ -1,15 +1,6 @@
-pub mod Marks
-pub mod Named
 pub mod Next
-pub mod Outside
 pub mod Ranges
-pub mod Rows
 pub mod Spaces
 pub mod Steps
-pub mod Within
-pub mod Zips
-pub mod Plain
 pub mod Refusing
-pub mod Commas
-pub mod Lent
 pub mod Numerals

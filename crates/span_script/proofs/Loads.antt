@@ -12,9 +12,9 @@ use Rattle.span_mutate.specs.declared.mutation.MutationKind.{MutationKind}
 use Rattle.span_mutate.specs.declared.mutation.MutationKind.TheVariants.{Insert}
 use Rattle.span_mutate.specs.declared.batch.BatchRow.{BatchRow}
 use Rattle.span_mutate.specs.Batches.{batch_mutations, row_mutation, row_mutations}
-use Rattle.span_command.specs.declared.layout.Layout.{Layout}
-use Rattle.span_command.specs.Layouts.{HasNoLayout, IsLayoutOf, IsRowOf, heading_of}
-use Rattle.span_command.specs.Record.{record_fields}
+use Rattle.span_records.specs.declared.layout.Layout.{Layout}
+use Rattle.span_records.specs.Layouts.{HasNoLayout, IsLayoutOf, IsRowOf, heading_of}
+use Rattle.span_records.specs.Record.{record_fields}
 use Rattle.span_script.specs.declared.report.Refused.{Refused}
 use Rattle.span_script.specs.declared.load.Load.{Load}
 use Rattle.span_script.specs.declared.load.Records.{Records}

@@ -24,11 +24,11 @@ use Rattle.span_binder.specs.Understands.{Understands}
 use Rattle.span_core.specs.Explanations.{IsExplanation}
 use Rattle.span_command.specs.declared.command.Command.{Command}
 use Rattle.span_command.specs.declared.command.Command.TheVariants as command
-use Rattle.span_command.specs.declared.layout.Layout.{Layout}
+use Rattle.span_records.specs.declared.layout.Layout.{Layout}
 use Rattle.span_command.specs.Commands.{IsReadAs}
-use Rattle.span_command.specs.Layouts.{IsOfRecord, IsLayoutOf, IsKeyLayoutOf, HasNoLayout}
+use Rattle.span_records.specs.Layouts.{IsOfRecord, IsLayoutOf, IsKeyLayoutOf, HasNoLayout}
 use Rattle.span_command.specs.Limits.{longest_line}
-use Rattle.span_command.specs.Record.{record_fields}
+use Rattle.span_records.specs.Record.{record_fields}
 use Rattle.span_command.specs.Texts.{NextLine}
 use Rattle.span_answers.specs.Lines.{shards_text, number_line, word_line, refused_line, reply_text}
 use Rattle.span_script.specs.Steps.{Takes, IsBegun, IsQueried}

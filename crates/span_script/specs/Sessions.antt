@@ -13,9 +13,9 @@ use Rattle.span_mutate.specs.Batches.{batch_mutations, row_mutation, row_mutatio
 use Rattle.span_machine.specs.Machine.{Machine}
 use Rattle.span_command.specs.declared.line.Line.{Line}
 use Rattle.span_command.specs.declared.line.Line.TheVariants.{Text, Unreadable}
-use Rattle.span_command.specs.declared.layout.Layout.{Layout}
-use Rattle.span_command.specs.Layouts.{IsOfRecord, heading_of}
-use Rattle.span_command.specs.Record.{record_fields}
+use Rattle.span_records.specs.declared.layout.Layout.{Layout}
+use Rattle.span_records.specs.Layouts.{IsOfRecord, heading_of}
+use Rattle.span_records.specs.Record.{record_fields}
 use Rattle.span_script.specs.declared.report.Refused.{Refused}
 use Rattle.span_script.specs.declared.load.Load.{Load}
 use Rattle.span_script.specs.declared.load.Records.{Records}

@@ -5,9 +5,9 @@ ghost use Rattle.span_script.specs.Sessions.{AddsRow};
 
 use super::report::Refused;
 use csv::StringRecord;
-use span_command::layout::Layout;
 use span_core::{MutationKind, Refusal};
 use span_mutate::batch::BatchRow;
+use span_records::layout::Layout;
 use std::alloc::Global;
 
 /// A load between its first line and its `end`.

@@ -6,8 +6,8 @@ ghost use Rattle.span_script.specs.Reports.{AreAnswered};
 ghost use Rattle.span_script.specs.Steps.{Takes, IsQueried, IsBegun};
 ghost use Rattle.span_script.specs.Scripts.{BeginsLoad, Deletes, EndsLoad, Gathers, IsAnswered, IsCommandLine, IsDeletion, IsDone, IsDoneIfRead, IsExplained, IsFirst, IsLoadLine, IsReplied, IsSplit, LoadsRecord, RefusesClock, RefusesDelete, RefusesParam, RefusesRecord, RefusesWrite, SetsClock, SetsParam, Writes, end_answer, is_passed_over, refused_load};
 ghost use Rattle.span_mutate.specs.Batches.{row_mutations};
-ghost use Rattle.span_command.specs.Layouts.{IsOfRecord, heading_of};
-ghost use Rattle.span_command.specs.Record.{record_fields};
+ghost use Rattle.span_records.specs.Layouts.{IsOfRecord, heading_of};
+ghost use Rattle.span_records.specs.Record.{record_fields};
 ghost use Rattle.span_script.specs.Sessions.{Adds, AddsAt, AddsLine, Changes, Gathered, count_of, load_of, state_in, state_of, text_of};
 
 use super::load::{Load, Records, one_row};
@@ -16,7 +16,6 @@ use super::steps::{OWNER, read, split_refusal, step_of, take_step};
 use csv::StringRecord;
 use span_answers::answer::Answers;
 use span_command::command::{Command, read_command};
-use span_command::layout::Layout;
 use span_command::line::Line;
 use span_core::database::Core;
 use span_core::{
@@ -24,6 +23,7 @@ use span_core::{
     Transaction,
 };
 use span_mutate::batch::{BatchRow, MutationBatch};
+use span_records::layout::Layout;
 use span_value::cell::read_cell;
 use std::alloc::Global;
 use std::mem;

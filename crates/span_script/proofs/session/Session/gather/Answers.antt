@@ -2,7 +2,7 @@ use Rattle.std.proofs.Common.{◌∙◌, ◌++◌, [], ◌∷◌, List, ap}
 use Rattle.span_mutate.specs.declared.mutation.Mutation.{Mutation}
 use Rattle.span_mutate.specs.declared.batch.Heading.{Heading}
 use Rattle.span_mutate.specs.Batches.{row_mutations}
-use Rattle.span_command.specs.Layouts.{heading_of}
+use Rattle.span_records.specs.Layouts.{heading_of}
 use Rattle.span_script.proofs.Loads.{more_gathered}
 use Rattle.span_script.proofs.session.Session.gather.Goals as goal
 

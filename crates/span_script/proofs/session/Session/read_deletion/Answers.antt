@@ -2,8 +2,8 @@ use Rattle.std.proofs.Common.{◌≡◌, ◌⊎◌, inl, inr, ⊎_elim}
 use Rattle.std.proofs.lemmas.Result.{IfOk-weaker, IfErr-weaker}
 use Rattle.span_value.specs.declared.refusal.Refusal.TheVariants.{OutOfMemory}
 use Rattle.span_mutate.specs.declared.mutation.MutationKind.TheVariants as mutation
-use Rattle.span_command.specs.Layouts.{IsOfRecord}
-use Rattle.span_command.specs.Record.{record_fields}
+use Rattle.span_records.specs.Layouts.{IsOfRecord}
+use Rattle.span_records.specs.Record.{record_fields}
 use Rattle.span_script.specs.Scripts.{IsDeletion, RefusesRecord, RefusesDelete}
 use Rattle.span_script.proofs.session.Session.read_deletion.Goals as goal
 

@@ -1,0 +1,9 @@
+pub mod Marks
+pub mod Named
+pub mod Outside
+pub mod Rows
+pub mod Within
+pub mod Zips
+pub mod Plain
+pub mod Commas
+pub mod Lent

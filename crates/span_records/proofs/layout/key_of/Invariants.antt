@@ -1,0 +1,14 @@
+use Rattle.std.proofs.Common.{◌≡◌, ◌≤◌, take, length, vec_len}
+use Rattle.std.specs.Prelude.{vec_capacity}
+use Rattle.std.specs.List.{AllZip}
+use Rattle.span_records.specs.Record.{texts}
+use Rattle.span_records.specs.Layouts.{IsKeyCell}
+use Rattle.span_records.proofs.layout.key_of.Given as goal
+
+-- one to each part so far, and capacity for one to each part
+abbrev pub invariant-loop-part : goal.invariant-loop-part
+invariant-loop-part l = record {
+  read : AllZip (IsKeyCell (texts l.fields)) (take l.part-index l.parts) l.key.items;
+  count : vec_len l.key ≡ l.part-index;
+  room : length l.parts ≤ vec_capacity l.key;
+}
