@@ -1,17 +1,4 @@
 pub mod Selecting
-pub mod Taking
-pub mod Together
 pub mod Derived
 pub mod Blocks
 pub mod InOrder
-pub mod StateLists
-pub mod Absorbed
-pub mod Shown
-pub mod Passes
-pub mod FirstRows
-pub mod Merging
-pub mod MergedGroups
-pub mod Measuring
-pub mod Parting
-pub mod AddedStates
-pub mod GroupSteps

@@ -1,10 +1,4 @@
 pub mod Selecting
-pub mod States
 pub mod BlockMeaning
 pub mod Sources
 pub mod ColumnOrders
-pub mod StateLists
-pub mod GroupStates
-pub mod MergedGroups
-pub mod FirstRows
-pub mod Parts

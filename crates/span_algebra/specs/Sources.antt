@@ -10,7 +10,7 @@ use Rattle.span_algebra.specs.declared.source.Source.{Source}
 use Rattle.span_algebra.specs.declared.source.Source.TheVariants.{Lent, Made}
 use Rattle.span_algebra.specs.declared.source.TableSource.{TableSource}
 use Rattle.span_algebra.specs.declared.source.TableSource.TheVariants as table
-use Rattle.span_algebra.specs.Parts.{all_rows}
+use Rattle.span_groups.specs.Parts.{all_rows}
 
 abbrev pub source_rows : Source → List Row
 source_rows (Lent rows) = rows.now

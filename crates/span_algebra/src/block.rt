@@ -6,9 +6,9 @@ ghost use Rattle.span_query.specs.Meaning.{distinct_if};
 ghost use Rattle.span_rows.specs.Answers.{Gives};
 ghost use Rattle.span_algebra.specs.BlockMeaning.{outputs_of, project_block, project_groups};
 
-use super::group::group_rows;
 use super::select::select_rows;
 use span_expr::cell::Failure;
+use span_groups::group::group_rows;
 use span_query::query::{Block, BoundQuery, Grouping};
 use span_rows::distinct::distinct;
 use span_rows::row_list::RowList;

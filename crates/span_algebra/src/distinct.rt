@@ -3,7 +3,7 @@ ghost use Rattle.std.specs.Prelude.{◌≡◌, IfOk, IfSome};
 ghost use Rattle.span_algebra.specs.BlockMeaning.{TakesDistinct};
 
 use super::ordered::only_table;
-use super::part_rows::PartRows;
+use span_groups::part_rows::PartRows;
 use span_query::query::{Block, BoundQuery};
 use span_rows::row_list::RowList;
 use span_sorting::columns::columns_of;

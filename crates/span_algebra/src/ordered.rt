@@ -7,7 +7,7 @@ ghost use Rattle.span_query.specs.Sorting.{sorted};
 ghost use Rattle.span_rows.specs.LentRows.{lent_rows};
 ghost use Rattle.span_algebra.specs.ColumnOrders.{IsColumnOrder, IsTable, TakesAllRows};
 
-use super::part_rows::PartRows;
+use span_groups::part_rows::PartRows;
 use span_query::query::{Block, BoundQuery, Item, Limit, SortKey};
 use span_rows::row_list::{RowList, lent_rows};
 use span_sorting::columns::{columns_of, keys_over};

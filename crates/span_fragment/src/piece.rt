@@ -2,7 +2,7 @@
 ghost use Rattle.std.specs.Prelude.{◌≡◌};
 ghost use Rattle.std.specs.Option.{option_copied};
 
-use span_algebra::part_rows::PartRows;
+use span_groups::part_rows::PartRows;
 
 /// The rows of a leaf in a part of its range, with their groups where the query above groups them, or none where joining or filtering them was an
 /// arithmetic error. Only `run_leaf` makes it.

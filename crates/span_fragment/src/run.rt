@@ -15,7 +15,7 @@ use super::piece::Piece;
 use super::short::leaf_entries;
 use span_algebra::distinct::{distinct_part, distinct_table};
 use span_algebra::ordered::{order_part, ordered_table};
-use span_algebra::part_rows::PartRows;
+use span_groups::part_rows::PartRows;
 use span_algebra::plain::grouped_table;
 use span_columns::leaf::Leaf;
 use span_expr::cell::Failure;

@@ -1,11 +1,11 @@
 //! The rows of a query from the pieces of its leaves.
 ghost use Rattle.std.specs.Prelude.{◌≡◌, ◌⊎◌, ◌++◌, ◌∷◌, [], map, MatchResult, IfOk, OnOk, Some, None};
 ghost use Rattle.std.specs.Option.{option_map};
-ghost use Rattle.span_algebra.specs.Parts.{all_rows};
+ghost use Rattle.span_groups.specs.Parts.{all_rows};
 ghost use Rattle.span_gather.specs.Gathered.{joined_pieces, gathered};
 
 use super::rows::Rows;
-use span_algebra::part_rows::PartRows;
+use span_groups::part_rows::PartRows;
 use span_algebra::plain::eval_plain;
 use span_algebra::source::Tables;
 use span_fragment::piece::Piece;

@@ -4,8 +4,8 @@ use Rattle.span_query.specs.Sorting.{comes_before, sorted}
 use Rattle.span_rows.specs.LentRows.{lent_rows}
 use Rattle.span_sorting.proofs.RowOrder.{rows_ranked}
 use Rattle.span_sorting.proofs.Sorting.{sorted_both}
-use Rattle.span_algebra.specs.Parts.{all_rows}
-use Rattle.span_algebra.proofs.Parting.{rows_more, rows_all}
+use Rattle.span_groups.specs.Parts.{all_rows}
+use Rattle.span_groups.proofs.Parting.{rows_more, rows_all}
 use Rattle.span_algebra.proofs.source.lend_parts.Goals as goal
 
 pub loop-part-preserved : goal.loop-part-preserved

@@ -1,5 +1,0 @@
-use Rattle.span_algebra.proofs.AddedStates.{AreAddedTo}
-use Rattle.span_algebra.proofs.states.add_states.Given as goal
-
-abbrev pub invariant-loop-aggregate : goal.invariant-loop-aggregate
-invariant-loop-aggregate l = AreAddedTo l.aggregates l.aggregate-index l.fn.states.items l.states.items

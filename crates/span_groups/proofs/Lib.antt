@@ -1,0 +1,14 @@
+pub mod Taking
+pub mod Together
+pub mod StateLists
+pub mod Absorbed
+pub mod Shown
+pub mod Passes
+pub mod FirstRows
+pub mod Merging
+pub mod MergedGroups
+pub mod Measuring
+pub mod Parting
+pub mod AddedStates
+pub mod GroupSteps
+mod GroupPlaces

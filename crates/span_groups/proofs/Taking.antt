@@ -1,0 +1,72 @@
+-- States that take one more row.
+use Rattle.std.proofs.Common.{◌≡◌, ℕ, ℤ, ◌+◌, ◌+ℤ◌, Bool, true, false, cond, not, List, [], ◌∷◌, ◌++◌, length, Some, sym, ap, ◌∙◌, subst, arith}
+use Rattle.std.specs.Option.{option_map}
+use Rattle.std.proofs.lemmas.Int.{ints}
+use Rattle.std.proofs.lemmas.List.{append-nil, length-append}
+use Rattle.std.proofs.lemmas.List.Elements.{filter-append}
+use Rattle.span_value.specs.declared.value.Value.{Value}
+use Rattle.span_expr.specs.declared.expr.Expr.{Expr}
+use Rattle.span_expr.specs.Meaning.{val}
+use Rattle.span_expr.specs.Outcomes.{is_null}
+use Rattle.span_query.specs.declared.query.Aggregate.{Aggregate}
+use Rattle.span_query.specs.declared.query.Aggregate.TheVariants.{CountRows, Of}
+use Rattle.span_query.specs.declared.query.Function.{Function}
+use Rattle.span_query.specs.declared.query.Function.TheVariants as function
+use Rattle.span_query.specs.Rows.{Row, OrFault, value_of, append_results, concat_map, singleton, each}
+use Rattle.span_query.specs.Groups.{int_of, total, without_nulls}
+use Rattle.span_groups.specs.declared.sum.Sum.{Sum}
+use Rattle.span_groups.specs.declared.aggregate.State.{State}
+use Rattle.span_groups.specs.declared.aggregate.State.TheVariants as state
+use Rattle.span_groups.specs.States.{HasCounted, HasTaken, IsStateOf}
+use Rattle.span_rows.proofs.Gathering.{concat_map-append}
+
+total-push : (vs : List Value) (v : Value) → total (vs ++ v ∷ []) ≡ total vs +ℤ int_of v
+total-push [] v = omega (arith, ints)
+total-push (w ∷ vs) v = let rest = total-push vs v in ap (λ (z : ℤ). int_of w +ℤ z) rest ∙ omega (arith, ints)
+
+sum_steps : (s t : Sum) (v : Value) (n : ℤ) → n ≡ int_of v → t.values ≡ s.values + 1 → t.total ≡ s.total +ℤ n
+    → (f : Function) (vs : List Value) → HasTaken f vs (state.Sum s) → HasTaken f (vs ++ v ∷ []) (state.Sum t)
+sum_steps s t v n is values sums function.Count vs h = absurd h
+sum_steps s t v n is values sums function.Sum vs h =
+    (omega (arith, length-append vs (v ∷ [])), sums ∙ ap (λ (z : ℤ). z +ℤ n) h.1 ∙ ap (λ (z : ℤ). total vs +ℤ z) is ∙ sym (total-push vs v))
+sum_steps s t v n is values sums function.Min vs h = absurd h
+sum_steps s t v n is values sums function.Max vs h = absurd h
+
+pub sum_takes : (was : State) (s t : Sum) (v : Value) (n : ℤ) → was ≡ state.Sum s → n ≡ int_of v → t.values ≡ s.values + 1 → t.total ≡ s.total +ℤ n
+    → (f : Function) (vs : List Value) → HasTaken f vs was → HasTaken f (vs ++ v ∷ []) (state.Sum t)
+sum_takes was s t v n is same values sums f vs h = sum_steps s t v n same values sums f vs (subst (λ (x : State). HasTaken f vs x) is h)
+
+-- ---- rows
+
+-- what each gives, and what one more does
+pub each-push : {A B : Type 0} (f : A → OrFault B) (xs : List A) (x : A) (ys : List B) (y : B) → each f xs ≡ Some ys → f x ≡ Some y → each f (xs ++ x ∷ []) ≡ Some (ys ++ y ∷ [])
+each-push f xs x ys y is gives =
+    concat_map-append (λ x. option_map singleton (f x)) xs (x ∷ [])
+    ∙ ap (λ o. append_results o (concat_map (λ x. option_map singleton (f x)) (x ∷ []))) is
+    ∙ ap (λ o. append_results (Some ys) (append_results (option_map singleton o) (Some []))) gives
+
+without_nulls-push : (vs : List Value) (v : Value) (b : Bool) → is_null v ≡ b → without_nulls (vs ++ v ∷ []) ≡ without_nulls vs ++ cond (not b) (v ∷ []) []
+without_nulls-push vs v b is = filter-append (λ (w : Value). not (is_null w)) vs (v ∷ []) ∙ ap (λ c. without_nulls vs ++ cond (not c) (v ∷ []) []) is
+
+module _ (a : Aggregate) (row : Row) (old new : State) where
+  pub counts_row : a ≡ CountRows → ((n : ℕ) → HasCounted n old → HasCounted (n + 1) new)
+      → (rows : List Row) → IsStateOf a rows old → IsStateOf a (rows ++ row ∷ []) new
+  counts_row is step rows h =
+      let counted : HasCounted (length rows) old = subst (λ (b : Aggregate). IsStateOf b rows old) is h in
+      let more : length rows + 1 ≡ length (rows ++ row ∷ []) = omega (arith, length-append rows (row ∷ [])) in
+      subst (λ (b : Aggregate). IsStateOf b (rows ++ row ∷ []) new) (sym is) (subst (λ (n : ℕ). HasCounted n new) more (step (length rows) counted))
+
+  module _ (f : Function) (e : Expr) (v : Value) (is : a ≡ Of f e) (gives : value_of (val row e) ≡ Some v) where
+    pub takes_value : is_null v ≡ false → ((f : Function) (vs : List Value) → HasTaken f vs old → HasTaken f (vs ++ v ∷ []) new)
+        → (rows : List Row) → IsStateOf a rows old → IsStateOf a (rows ++ row ∷ []) new
+    takes_value some step rows h =
+        let was : IsStateOf (Of f e) rows old = subst (λ (b : Aggregate). IsStateOf b rows old) is h in
+        let now : IsStateOf (Of f e) (rows ++ row ∷ []) new = (was.0 ++ v ∷ [], each-push (λ (r : Row). value_of (val r e)) rows row was.0 v was.1 gives, subst (λ (vs : List Value). HasTaken f vs new) (sym (without_nulls-push was.0 v false some)) (step f (without_nulls was.0) was.2)) in
+        subst (λ (b : Aggregate). IsStateOf b (rows ++ row ∷ []) new) (sym is) now
+
+    pub passes_null : is_null v ≡ true → old ≡ new → (rows : List Row) → IsStateOf a rows old → IsStateOf a (rows ++ row ∷ []) new
+    passes_null none same rows h =
+        let was : IsStateOf (Of f e) rows old = subst (λ (b : Aggregate). IsStateOf b rows old) is h in
+        let vs : without_nulls was.0 ≡ without_nulls (was.0 ++ v ∷ []) = sym (without_nulls-push was.0 v true none ∙ append-nil (without_nulls was.0)) in
+        let now : IsStateOf (Of f e) (rows ++ row ∷ []) new = (was.0 ++ v ∷ [], each-push (λ (r : Row). value_of (val r e)) rows row was.0 v was.1 gives, subst (λ (s : State). HasTaken f (without_nulls (was.0 ++ v ∷ [])) s) same (subst (λ (ws : List Value). HasTaken f ws old) vs was.2)) in
+        subst (λ (b : Aggregate). IsStateOf b (rows ++ row ∷ []) new) (sym is) now

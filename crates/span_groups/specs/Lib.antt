@@ -1,0 +1,6 @@
+pub mod States
+pub mod StateLists
+pub mod GroupStates
+pub mod MergedGroups
+pub mod FirstRows
+pub mod Parts

@@ -1,0 +1,12 @@
+//! Groups of rows with their aggregates, of one list or of rows in parts.
+#![tactic(auto)]
+
+mod aggregate;
+mod firsts;
+pub mod group;
+mod lent;
+mod merge;
+pub mod part_rows;
+pub mod parts;
+mod states;
+mod sum;
