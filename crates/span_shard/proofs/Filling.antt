@@ -1,4 +1,4 @@
--- When no more versions are kept.
+-- How many versions are kept with some writes more.
 use Rattle.std.proofs.Common.{◌≡◌, ℕ, ◌+◌, ◌≤◌, Bool, true, false, cond, List, [], ◌∷◌, ◌++◌, Option, Some, None, length, refl, ap, arith, inl, inr}
 use Rattle.std.specs.Prelude.{find, is_some}
 use Rattle.std.specs.declared.cmp.Ordering.{Ordering}
