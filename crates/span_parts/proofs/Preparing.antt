@@ -12,7 +12,7 @@ use Rattle.span_mutate.specs.declared.row.TableRow.{TableRow}
 use Rattle.span_mutate.specs.Database.{apply}
 use Rattle.span_mutate.specs.Directories.{IsDatabase}
 use Rattle.span_mutate.specs.Typed.{AreTyped, AreTypedMutations}
-use Rattle.span_shard.specs.declared.write.Write.{Write}
+use Rattle.span_store.specs.declared.write.Write.{Write}
 use Rattle.span_shard.specs.KeyVersions.{KeyVersions}
 use Rattle.span_shard.specs.Rows.{is_touched, AreChanges}
 use Rattle.span_shard.specs.Reading.{IsFault, IsFull}

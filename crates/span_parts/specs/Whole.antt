@@ -13,7 +13,7 @@ use Rattle.span_checking.specs.RootKeys.{root_key}
 use Rattle.span_mutate.specs.Typed.{AreTyped}
 use Rattle.span_arena.specs.Limits.{most_nodes}
 use Rattle.span_shard.specs.KeyVersions.{KeyVersions}
-use Rattle.span_shard.specs.declared.write.Write.{Write}
+use Rattle.span_store.specs.declared.write.Write.{Write}
 use Rattle.span_shard.specs.Reading.{AreWrites}
 use Rattle.span_shard.specs.Shard.{KeyRow, snapshot, with_writes, live}
 use Rattle.span_columns.specs.declared.leaf.Leaf.{Leaf}

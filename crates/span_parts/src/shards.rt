@@ -4,7 +4,7 @@ ghost use Rattle.span_arena.specs.Limits.{most_nodes};
 ghost use Rattle.span_mutate.specs.Typed.{AreTypedMutations};
 ghost use Rattle.span_shard.specs.Reading.{AreWrites, IsFault, IsFull};
 ghost use Rattle.span_shard.specs.Shard.{with_writes, applied, trimmed, live, IsFree, IsIdle, HasNoneOf, IsLaterCommit, keys_before, keys_from};
-ghost use Rattle.span_shard.specs.declared.write.Write.{Write};
+ghost use Rattle.span_store.specs.declared.write.Write.{Write};
 
 use span_mutate::mutation::CheckedMutation;
 use span_schema::schema::Schema;

@@ -8,7 +8,7 @@ ghost use Rattle.span_mutate.specs.Typed.{AreTypedMutations};
 ghost use Rattle.span_shard.specs.KeyVersions.{KeyVersions};
 ghost use Rattle.span_shard.specs.Reading.{AreWrites, IsFault, IsFull};
 ghost use Rattle.span_shard.specs.Shard.{with_writes, live, IsFree, HasNoneOf};
-ghost use Rattle.span_shard.specs.declared.write.Write.{Write};
+ghost use Rattle.span_store.specs.declared.write.Write.{Write};
 ghost use Rattle.span_machine.specs.Machine.{Answers, IsAnswer, prepare, apply_step, trim, scan};
 ghost use Rattle.span_machine.specs.Pieces.{machine_of};
 ghost use Rattle.span_machine.specs.declared.step.Reply.TheVariants as reply_of;

@@ -7,7 +7,7 @@ use Rattle.span_schema.specs.Numbers.{IsTable}
 use Rattle.span_mutate.specs.declared.row.TableRow.{TableRow}
 use Rattle.span_mutate.specs.Typed.{IsTyped, AreTyped}
 use Rattle.span_shard.specs.Shard.{KeyRow}
-use Rattle.span_shard.specs.declared.shard.Entry.{Entry}
+use Rattle.span_store.specs.declared.snapshot.Entry.{Entry}
 use Rattle.span_shard.specs.Reading.{entry_row, IsNoTableRow}
 use Rattle.span_rowreader.specs.Entries.{key_row, AreNoRows}
 

@@ -20,8 +20,8 @@ use Rattle.span_mutate.specs.Database.{is_insert, is_update, merge_cells}
 use Rattle.span_mutate.specs.Faults.{is_mutation_fault}
 use Rattle.span_mutate.proofs.Causes.{rest_none, first_none}
 use Rattle.span_maderows.specs.Made.{made_at}
-use Rattle.span_shard.specs.KeyVersions.{KeyVersions}
-use Rattle.span_shard.specs.Shard.{row_now}
+use Rattle.span_store.specs.KeyVersions.{KeyVersions}
+use Rattle.span_store.specs.KeyLists.{row_now}
 use Rattle.span_keycode.specs.Order.{is_same}
 use Rattle.span_shard.specs.Overlay.{Changes, change_of, changed_at, row_over, own_code, row_before, lacks_parent_over, AreCellsOf, IsAddedAt, IsPutAt, IsPutRow, IsNoPut, IsRowAlone, HasPutRow, HasParent, HasFront}
 use Rattle.span_shard.proofs.RunPuts.{put_answer}

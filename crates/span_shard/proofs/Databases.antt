@@ -24,7 +24,7 @@ use Rattle.span_mutate.proofs.Orders.{rows_total}
 use Rattle.span_maderows.proofs.Lists.{all_map}
 use Rattle.span_maderows.proofs.Bytes.{same_bytes, bytes_same}
 use Rattle.span_shard.specs.Rows.{code_of, is_coded, row_coded, is_touched}
-use Rattle.span_shard.proofs.Lists.{all_both, found_all, none_any, any_none}
+use Rattle.span_store.proofs.Lists.{all_both, found_all, none_any, any_none}
 use Rattle.span_shard.proofs.Touching.{touched_code}
 
 itself : (tables : List Table) (r : TableRow) → is_coded tables (code_of tables r) r ≡ true

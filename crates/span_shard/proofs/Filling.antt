@@ -1,43 +1,18 @@
--- When no more versions are kept.
-use Rattle.std.proofs.Common.{◌≡◌, ℕ, ◌+◌, ◌≤◌, Bool, true, false, cond, List, [], ◌∷◌, ◌++◌, Option, Some, None, length, refl, sym, ap, ◌∙◌, arith, inl, inr}
+-- How many versions are kept with some writes more.
+use Rattle.std.proofs.Common.{◌≡◌, ℕ, ◌+◌, ◌≤◌, Bool, true, false, cond, List, [], ◌∷◌, ◌++◌, Option, Some, None, length, refl, ap, arith, inl, inr}
 use Rattle.std.specs.Prelude.{find, is_some}
-use Rattle.std.specs.List.{AllByRecursion}
 use Rattle.std.specs.declared.cmp.Ordering.{Ordering}
 use Rattle.std.specs.declared.cmp.Ordering.TheVariants.{Less, Equal, Greater}
 use Rattle.std.specs.Ordering.{is_eq}
 use Rattle.std.proofs.lemmas.List.Sums.{sum_by-cons}
 use Rattle.span_value.specs.declared.refusal.Refusal.{Refusal}
 use Rattle.span_keycode.specs.Order.{byte_order}
-use Rattle.span_arena.specs.Limits.{most_nodes}
-use Rattle.span_arena.specs.declared.token.Chain.{Chain}
-use Rattle.span_arena.specs.Content.{Content}
-use Rattle.span_keytree.specs.Arenas.{IsArenaOf}
-use Rattle.span_keytree.specs.Entries.{Entry}
-use Rattle.span_shard.specs.declared.chain.PreparedWrite.{PreparedWrite}
-use Rattle.span_shard.specs.declared.node.PreparedNode.{PreparedNode}
-use Rattle.span_shard.specs.declared.write.Write.{Write}
-use Rattle.span_shard.specs.KeyVersions.{KeyVersions}
-use Rattle.span_shard.specs.Versions.{with_prepared}
-use Rattle.span_shard.specs.Shard.{IsInUse, is_key, prepared_of, prepared_at, by_order, new_key, prepared_write, with_write, with_writes, kept_of, live, IsPutRefused, ArePutsRefused}
-use Rattle.span_shard.specs.Stored.{all_kept, IsStored, IsRefusedFor}
-use Rattle.span_shard.proofs.Slots.{IsSlot}
-use Rattle.span_shard.proofs.Counting.{live_is}
-use Rattle.span_shard.proofs.Horizons.{live_used}
-
--- what the arena refuses, by the keys
-pub refused_there : (es fs : List Entry) (a b : Content) (ps : List PreparedNode) (key : List ℕ) (chain : Chain) → IsSlot es fs a b ps key chain → IsArenaOf fs b → a.most ≡ most_nodes → AllByRecursion IsInUse (all_kept a ps es)
-    → (why : Refusal) → IsRefusedFor b chain.number why → IsPutRefused (all_kept a ps es) key why
-refused_there es fs a b ps key chain slot own most used why refused = elim refused [
-  | inl memory ↦ inl memory
-  | inr full ↦ (
-      let stored : IsStored fs b ps = record { own = own; owned = slot.owned; most = slot.most ∙ most } in
-      let count : live (all_kept b ps fs) ≡ live (all_kept a ps es) = sym (live_used (all_kept b ps fs)) ∙ ap live (slot.undone used) in
-      inr (
-        full.0,
-        slot.vacant (sym (slot.owned.counted chain.number) ∙ full.1),
-        sym count ∙ sym (live_is fs b ps stored full.2) ∙ full.3 ∙ slot.most ∙ most,
-      ))
-]
+use Rattle.span_store.specs.declared.chain.PreparedWrite.{PreparedWrite}
+use Rattle.span_store.specs.declared.write.Write.{Write}
+use Rattle.span_store.specs.KeyVersions.{KeyVersions}
+use Rattle.span_store.specs.Versions.{with_prepared}
+use Rattle.span_store.specs.KeyLists.{is_key, prepared_of, prepared_at, by_order, new_key, prepared_write, with_write, kept_of, live, IsPutRefused}
+use Rattle.span_shard.specs.Shard.{with_writes, ArePutsRefused}
 
 -- ---- how many there are with a write more
 

@@ -1,15 +1,15 @@
 -- A trim changes nothing that is seen at or above its horizon.
-use Rattle.std.proofs.Common.{◌≡◌, ℕ, ◌+◌, ◌≤◌, Bool, true, false, cond, not, ◌||◌, List, [], ◌∷◌, Option, Some, None, length, refl, sym, ap, ◌∙◌, arith}
+use Rattle.std.proofs.Common.{◌≡◌, ℕ, ◌≤◌, Bool, true, false, cond, not, ◌||◌, List, [], ◌∷◌, Option, Some, None, refl, sym, ap, ◌∙◌, arith}
 use Rattle.std.specs.Prelude.{filter, nat_le, option_and_then, option_map, is_some}
 use Rattle.std.specs.List.{filter_map, cons_option}
 use Rattle.std.proofs.lemmas.Bool.Decides.{nat_tests}
-use Rattle.std.proofs.lemmas.List.Sums.{sum_by-cons}
 use Rattle.span_keycode.specs.declared.range.KeyRange.{KeyRange}
-use Rattle.span_shard.specs.declared.chain.Version.{Version}
-use Rattle.span_shard.specs.declared.chain.PreparedWrite.{PreparedWrite}
-use Rattle.span_shard.specs.KeyVersions.{KeyVersions}
-use Rattle.span_shard.specs.Versions.{newest_at, row_at, is_empty, is_used, kept_version, kept_upto}
-use Rattle.span_shard.specs.Shard.{KeyRow, is_within, seen_at, snapshot, kept_of, live, trimmed, trimmed_key}
+use Rattle.span_store.specs.declared.chain.Version.{Version}
+use Rattle.span_store.specs.KeyVersions.{KeyVersions}
+use Rattle.span_store.specs.Versions.{newest_at, row_at, is_empty, is_used, kept_version, kept_upto}
+use Rattle.span_store.specs.Reads.{KeyRow, is_within, seen_at, snapshot}
+use Rattle.span_store.specs.KeyLists.{trimmed_key}
+use Rattle.span_shard.specs.Shard.{trimmed}
 
 -- the row of a key at or above the horizon
 pub row_kept : (h s : ℕ) (vs : List Version) → h ≤ s → row_at (kept_upto h vs) s ≡ row_at vs s
@@ -72,21 +72,3 @@ snapshot_trimmed range h s (c ∷ cs) le = cases (is_used (trimmed_key h c)) ref
     cases false is again =
         let none : seen_at s c ≡ None = sym (seen_kept h s c le) ∙ unused_seen s (trimmed_key h c) is in
         again ∙ sym (snapshot-cons range s c cs ∙ ap (λ (o : Option KeyRow). cond (is_within range c.key) (cons_option o (snapshot range s cs)) (snapshot range s cs)) none ∙ same (is_within range c.key))
-
--- ---- how many
-
-unused_kept : (c : KeyVersions) → is_used c ≡ false → kept_of c ≡ 0
-unused_kept c e = by c.versions refl c.prepared refl e
-  where
-    by : (vs : List Version) → c.versions ≡ vs → (p : Option PreparedWrite) → c.prepared ≡ p → (not (is_empty vs) || is_some p) ≡ false → kept_of c ≡ 0
-    by [] is None at f = ap (λ (l : List Version). length l + cond (is_some c.prepared) 1 0) is ∙ ap (λ (o : Option PreparedWrite). 0 + cond (is_some o) 1 0) at
-    by [] is (Some w) at f = absurd (let g : true ≡ false = f in cc)
-    by (v ∷ vs) is p at f = absurd (let g : true ≡ false = f in cc)
-
-pub live_used : (cs : List KeyVersions) → live (filter is_used cs) ≡ live cs
-live_used [] = refl
-live_used (c ∷ cs) = cases (is_used c) refl (live_used cs)
-  where
-    cases : (b : Bool) → is_used c ≡ b → live (filter is_used cs) ≡ live cs → live (cond b (c ∷ filter is_used cs) (filter is_used cs)) ≡ live (c ∷ cs)
-    cases true is again = sum_by-cons kept_of c (filter is_used cs) ∙ ap (λ n. kept_of c + n) again ∙ sym (sum_by-cons kept_of c cs)
-    cases false is again = again ∙ sym (sum_by-cons kept_of c cs ∙ ap (λ n. n + live cs) (unused_kept c is) ∙ (let e : 0 + live cs ≡ live cs = omega arith in e))

@@ -7,11 +7,12 @@ use Rattle.std.specs.Ordering.{ordering_reverse}
 use Rattle.span_keycode.specs.Order.{byte_order}
 use Rattle.span_mutate.proofs.Placing.{rising_filter}
 use Rattle.span_maderows.proofs.Bytes.{bytes_total}
-use Rattle.span_shard.specs.declared.chain.PreparedWrite.{PreparedWrite}
-use Rattle.span_shard.specs.declared.write.Write.{Write}
-use Rattle.span_shard.specs.KeyVersions.{KeyVersions}
-use Rattle.span_shard.specs.Versions.{is_used, with_prepared, with_version, applied_write, applied_to_key}
-use Rattle.span_shard.specs.Shard.{keys_cmp, AreInOrder, by_order, new_key, prepared_write, with_write, with_writes, applied, trimmed_key, trimmed}
+use Rattle.span_store.specs.declared.chain.PreparedWrite.{PreparedWrite}
+use Rattle.span_store.specs.declared.write.Write.{Write}
+use Rattle.span_store.specs.KeyVersions.{KeyVersions}
+use Rattle.span_store.specs.Versions.{is_used, with_prepared, with_version, applied_write, applied_to_key}
+use Rattle.span_store.specs.KeyLists.{keys_cmp, AreInOrder, by_order, new_key, prepared_write, with_write, trimmed_key}
+use Rattle.span_shard.specs.Shard.{with_writes, applied, trimmed}
 
 -- ---- prepare
 

@@ -35,7 +35,7 @@ use Rattle.span_maderows.specs.Made.{begins_with}
 use Rattle.span_maderows.proofs.Lists.{all_map}
 use Rattle.span_maderows.proofs.Bytes.{same_bytes, bytes_same}
 use Rattle.span_shard.specs.Rows.{code_of, is_coded, row_coded}
-use Rattle.span_shard.proofs.Lists.{all_both, any_none}
+use Rattle.span_store.proofs.Lists.{all_both, any_none}
 use Rattle.span_shard.proofs.Touching.{same_truth}
 use Rattle.span_shard.proofs.Databases.{one_code, keyed_equal, own_row, row_there, find_kept, find_lost}
 use Rattle.span_shard.proofs.Under.{begins_under, under_code, blocks_code}

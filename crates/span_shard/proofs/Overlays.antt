@@ -13,13 +13,14 @@ use Rattle.span_mutate.proofs.Placing.{all_filter}
 use Rattle.span_maderows.specs.Made.{begins_with, made_at, AddsMade}
 use Rattle.span_maderows.proofs.Bytes.{bytes_total, same_bytes, turned}
 use Rattle.span_maderows.proofs.Lists.{all_map, all_append, all_filter_itself}
-use Rattle.span_shard.specs.KeyVersions.{KeyVersions}
-use Rattle.span_shard.specs.Shard.{AreInOrder, keys_cmp, is_key, versions_of, end_of_time, row_now}
-use Rattle.span_shard.specs.Reading.{versions_alone, row_of}
+use Rattle.span_store.specs.KeyVersions.{KeyVersions}
+use Rattle.span_store.specs.KeyLists.{AreInOrder, keys_cmp, is_key, versions_of, end_of_time, row_now}
+use Rattle.span_store.specs.Reads.{versions_alone}
+use Rattle.span_shard.specs.Reading.{row_of}
 use Rattle.span_shard.specs.Overlay.{Changes, changed_at, row_over, is_unchanged, change_of, AreUnchangedUnder, AreChangedUnder, AreCleared, AddsCleared, HasSameCleared, IsPutAt, AreUnder, AreRemoved, without_if}
-use Rattle.span_shard.proofs.Lists.{all_both, all_whole, found_all}
+use Rattle.span_store.proofs.Lists.{all_both, all_whole, found_all}
 use Rattle.span_shard.proofs.Databases.{find_kept}
-use Rattle.span_shard.specs.Versions.{row_at}
+use Rattle.span_store.specs.Versions.{row_at}
 
 -- ---- a row that is made
 

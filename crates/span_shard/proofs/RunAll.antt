@@ -29,15 +29,16 @@ use Rattle.span_mutate.proofs.TypedRows.{step_typed, typed_stay}
 use Rattle.span_maderows.specs.Made.{begins_with, made_at}
 use Rattle.span_maderows.proofs.Lists.{all_map, all_append}
 use Rattle.span_maderows.proofs.Bytes.{same_bytes, bytes_same}
-use Rattle.span_shard.specs.declared.write.Write.{Write}
-use Rattle.span_shard.specs.KeyVersions.{KeyVersions}
+use Rattle.span_store.specs.declared.write.Write.{Write}
+use Rattle.span_store.specs.KeyVersions.{KeyVersions}
 use Rattle.span_shard.specs.Writes.{IsWrite, is_of}
 use Rattle.span_shard.specs.Rows.{row_coded, root_code, is_touched}
-use Rattle.span_shard.specs.Shard.{row_now, IsNow}
+use Rattle.span_store.specs.KeyLists.{row_now}
+use Rattle.span_shard.specs.Shard.{IsNow}
 use Rattle.span_shard.specs.Reading.{is_same_row, is_prepare_refusal, AreUnreadable, IsPrepareRefusal, IsFault, AreWrites}
 use Rattle.span_keycode.specs.Order.{is_same}
 use Rattle.span_shard.specs.Overlay.{Changes, changed_at, own_code, row_before, IsUnpacked, IsStray, IsOver, HasDirectory, IsTableRow, AreTableRows, IsNoPut, IsNoDelete, BlocksDelete, IsRunOf, IsRunFault, AreRunsOf, AreCleared, no_change, change_of, changes_of, write_new, write_if, write_at, IsWrittenAt, AreWrittenFrom, AreWritesAt}
-use Rattle.span_shard.proofs.Lists.{all_at}
+use Rattle.span_store.proofs.Lists.{all_at}
 use Rattle.span_shard.proofs.Touching.{typed_keyed}
 use Rattle.span_shard.proofs.Databases.{untouched_there}
 use Rattle.span_shard.proofs.Refused.{fault_number}

@@ -28,9 +28,9 @@ use Rattle.span_mutate.specs.Typed.{IsTyped, AreTyped, IsTypedMutation}
 use Rattle.span_mutate.proofs.TypedRows.{IsTypedOf, found_typed, over_none, over_typed}
 use Rattle.span_maderows.specs.Made.{begins_with}
 use Rattle.span_maderows.proofs.Bytes.{same_bytes, bytes_same, begins_front, front_begins}
-use Rattle.span_shard.specs.KeyVersions.{KeyVersions}
+use Rattle.span_store.specs.KeyVersions.{KeyVersions}
 use Rattle.span_shard.specs.Rows.{row_coded, root_code}
-use Rattle.span_shard.specs.Shard.{row_now}
+use Rattle.span_store.specs.KeyLists.{row_now}
 use Rattle.span_keycode.specs.Order.{is_same}
 use Rattle.span_shard.specs.Overlay.{Changes, changed_at, row_over, own_code, row_before, lacks_parent_over, put_cause, cause_over, AreCellsOf, IsUnpacked, IsPutRow, IsPutFault, IsNoPut, IsOver, HasDirectory, IsTableRow, AreTableRows, IsRunOf}
 use Rattle.span_mutate.proofs.Begins.{number_itself, front_of_taken, taken_begins}

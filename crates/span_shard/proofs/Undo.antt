@@ -1,4 +1,4 @@
-use Rattle.std.proofs.Common.{◌≡◌, ◌≢◌, ℕ, Bool, true, false, cond, ◌==◌, ◌||◌, List, [], ◌∷◌, ◌++◌, Option, Some, None, refl, ap, sym, ◌∙◌, subst, arith}
+use Rattle.std.proofs.Common.{◌≡◌, ◌≢◌, ℕ, Bool, true, false, cond, ◌==◌, List, [], ◌∷◌, ◌++◌, Option, Some, None, refl, ap, sym, ◌∙◌, subst, arith}
 use Rattle.std.specs.Prelude.{filter, map, is_some, not}
 use Rattle.std.specs.List.{AllByRecursion}
 use Rattle.span_keycode.specs.Order.{byte_order}
@@ -7,14 +7,15 @@ use Rattle.std.proofs.lemmas.Bool.Decides.{nat_tests}
 use Rattle.std.proofs.lemmas.Map.Lookups.{exact_bytes}
 use Rattle.span_schema.specs.declared.table.Table.{Table}
 use Rattle.span_maderows.proofs.Lists.{all_map}
-use Rattle.span_shard.specs.declared.chain.PreparedWrite.{PreparedWrite}
+use Rattle.span_store.specs.declared.chain.PreparedWrite.{PreparedWrite}
 use Rattle.span_mutate.specs.declared.mutation.CheckedMutation.{CheckedMutation}
-use Rattle.span_shard.specs.declared.write.Write.{Write}
+use Rattle.span_store.specs.declared.write.Write.{Write}
 use Rattle.span_shard.specs.Rows.{is_touched}
-use Rattle.span_shard.specs.KeyVersions.{KeyVersions}
-use Rattle.span_shard.specs.Versions.{is_empty, is_used, with_prepared, with_version, applied_write, applied_to_key}
-use Rattle.span_shard.specs.Shard.{by_order, with_write, with_writes, new_key, prepared_write, applied, IsInUse, IsNotOf, HasNoneOf, HasSomeOf, IsFree}
-use Rattle.span_shard.proofs.Owned.{all_back_of}
+use Rattle.span_store.specs.KeyVersions.{KeyVersions}
+use Rattle.span_store.specs.Versions.{is_empty, is_used, with_prepared, with_version, applied_write, applied_to_key}
+use Rattle.span_store.specs.KeyLists.{by_order, with_write, new_key, prepared_write, IsInUse}
+use Rattle.span_shard.specs.Shard.{with_writes, applied, IsNotOf, HasNoneOf, HasSomeOf, IsFree}
+use Rattle.span_store.proofs.Owned.{all_back_of}
 use Rattle.std.proofs.Math.Bool.{or-true}
 
 same_number : (n : ℕ) → (n == n) ≡ true

@@ -1,10 +1,8 @@
-pub mod KeyVersions
-pub mod Versions
-pub mod Stored
-pub mod Writes
+pub mod EmptyRanges
+pub mod Overlay
+pub mod Reading
 pub mod Rows
 pub mod Shard
-pub mod Reading
-pub mod Overlay
-pub mod EmptyRanges
-pub mod Ledgers
+pub mod Writes
+pub use Rattle.span_store.specs.KeyVersions
+pub use Rattle.span_store.specs.Versions

@@ -21,10 +21,11 @@ use Rattle.span_mutate.specs.Directories.{IsDatabase}
 use Rattle.span_mutate.specs.Faults.{is_mutation_fault}
 use Rattle.span_mutate.specs.Typed.{IsTyped, AreTyped}
 use Rattle.span_maderows.specs.Made.{begins_with, made_at}
-use Rattle.span_shard.specs.declared.write.Write.{Write}
-use Rattle.span_shard.specs.KeyVersions.{KeyVersions}
+use Rattle.span_store.specs.declared.write.Write.{Write}
+use Rattle.span_store.specs.KeyVersions.{KeyVersions}
 use Rattle.span_shard.specs.Rows.{code_of, row_coded, root_code, is_touched}
-use Rattle.span_shard.specs.Shard.{row_now, IsNow}
+use Rattle.span_store.specs.KeyLists.{row_now}
+use Rattle.span_shard.specs.Shard.{IsNow}
 use Rattle.span_shard.specs.Writes.{is_of}
 use Rattle.span_shard.specs.Reading.{row_of, is_same_row, is_prepare_refusal, AreUnreadable}
 

@@ -1,12 +1,10 @@
 -- What is read of a shard to prepare mutations, and what is made of it.
-use Rattle.std.specs.Prelude.{◌≡◌, ℕ, Bool, true, false, ◌⊎◌, List, length, filter, Option, Some, None, Ok, Err, ◌<◌, nat_le}
-use Rattle.std.specs.List.{AllByRecursion, filter_map}
+use Rattle.std.specs.Prelude.{◌≡◌, ℕ, Bool, true, false, ◌⊎◌, List, Option, Some, None, Ok, Err, ◌<◌}
+use Rattle.std.specs.List.{AllByRecursion}
 use Rattle.std.specs.Str.{bytes_eq}
 use Rattle.span_value.specs.declared.refusal.Refusal.{Refusal}
 use Rattle.span_value.specs.declared.refusal.Refusal.TheVariants.{OutOfMemory, ShardFull, BadKey, BadRow}
 use Rattle.span_arena.specs.Limits.{most_nodes}
-use Rattle.span_arena.specs.Content.{Content}
-use Rattle.span_keytree.specs.Entries.{Entry as IndexEntry}
 use Rattle.span_schema.specs.declared.table.Table.{Table}
 use Rattle.span_rowcode.specs.Rows.{row_code}
 use Rattle.span_mutate.specs.declared.mutation.CheckedMutation.{CheckedMutation}
@@ -15,36 +13,13 @@ use Rattle.span_mutate.specs.Database.{apply}
 use Rattle.span_mutate.specs.Directories.{IsDatabase}
 use Rattle.span_mutate.specs.Faults.{is_mutation_fault}
 use Rattle.span_mutate.specs.Typed.{IsTyped, AreTyped}
-use Rattle.span_shard.specs.declared.write.Write.{Write}
-use Rattle.span_shard.specs.declared.shard.Entry.{Entry}
-use Rattle.span_shard.specs.KeyVersions.{KeyVersions}
-use Rattle.span_shard.specs.Versions.{row_at}
+use Rattle.span_store.specs.declared.write.Write.{Write}
+use Rattle.span_store.specs.KeyVersions.{KeyVersions}
+use Rattle.span_store.specs.Versions.{row_at}
+pub use Rattle.span_store.specs.Reads.{entry_row, has_short_key}
 use Rattle.span_shard.specs.Rows.{code_of, is_touched, AreChanges}
-use Rattle.span_shard.specs.Stored.{chain_versions}
-use Rattle.span_shard.specs.Shard.{KeyRow, end_of_time, row_now, seen_at, IsNow, with_writes, live}
-
--- the key and row that an entry lends
-abbrev pub entry_row : Entry → KeyRow
-entry_row e = record { key = e.key.now; row = e.row.now }
-
--- a key with its versions alone
-abbrev pub versions_alone : KeyVersions → KeyVersions
-versions_alone c = record { key = c.key; versions = c.versions; prepared = None }
-
-abbrev pub versions_alone_at : Content → IndexEntry → KeyVersions
-versions_alone_at a e = record { key = e.key; versions = chain_versions a e.chain.number; prepared = None }
-
--- the row that is seen of a key at s, if there is one
-abbrev pub seen_entry : Content → ℕ → IndexEntry → Option KeyRow
-seen_entry a s e = seen_at s (versions_alone_at a e)
-
--- the row has a key of at most `most` bytes
-abbrev pub has_short_key : ℕ → KeyRow → Bool
-has_short_key most r = nat_le (length r.key) most
-
--- the rows that are seen at s of keys of at most `most` bytes
-abbrev pub short_rows : Content → ℕ → ℕ → List IndexEntry → List KeyRow
-short_rows a s most es = filter (has_short_key most) (filter_map (seen_entry a s) es)
+use Rattle.span_store.specs.KeyLists.{end_of_time, row_now, live}
+use Rattle.span_shard.specs.Shard.{IsNow, with_writes}
 
 -- the row at a key by all that was applied
 abbrev pub row_of : KeyVersions → Option (List ℕ)

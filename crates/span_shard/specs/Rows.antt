@@ -11,7 +11,7 @@ use Rattle.span_mutate.specs.declared.mutation.CheckedMutation.{CheckedMutation}
 use Rattle.span_mutate.specs.declared.row.TableRow.{TableRow}
 use Rattle.span_mutate.specs.Directories.{root_row}
 use Rattle.span_maderows.specs.Made.{begins_with}
-use Rattle.span_shard.specs.declared.write.Write.{Write}
+use Rattle.span_store.specs.declared.write.Write.{Write}
 use Rattle.span_shard.specs.Writes.{IsWrite, is_of}
 
 -- the coding of a row's key

@@ -2,7 +2,7 @@
 use Rattle.std.specs.Prelude.{◌≡◌, ◌≢◌, ℕ, Bool, List, Option, Some, None}
 use Rattle.std.specs.Ordering.{eq_by_cmp}
 use Rattle.span_keycode.specs.Order.{byte_order}
-use Rattle.span_shard.specs.declared.write.Write.{Write}
+use Rattle.span_store.specs.declared.write.Write.{Write}
 
 -- what is written at a key is its new row, where that is another one
 abbrev pub IsWrite : List ℕ → Option (List ℕ) → Option (List ℕ) → Option Write → Type 0

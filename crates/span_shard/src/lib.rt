@@ -4,18 +4,11 @@
 #![tactic(auto)]
 
 mod ahead;
-mod chain;
 mod change;
 mod lookups;
 mod merge;
-mod node;
 mod overlay;
-mod place;
 mod run;
-mod search;
 pub mod shard;
-pub mod snapshot;
-mod split;
-mod store;
-mod trim;
-mod write;
+
+pub use span_store::snapshot;

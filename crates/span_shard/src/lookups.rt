@@ -3,19 +3,19 @@ ghost use Rattle.std.specs.Prelude.{◌≡◌, ◌++◌, IfOk, OnOk, map, filter
 ghost use Rattle.std.specs.Option.{option_copied};
 ghost use Rattle.span_mutate.specs.Typed.{AreTypedMutations, IsTypedMutation};
 ghost use Rattle.span_maderows.specs.Made.{begins_with};
-ghost use Rattle.span_shard.specs.EmptyRanges.{HasNoRowFrom, is_before_end, is_from_to, is_in_empty, is_in_range};
-ghost use Rattle.span_shard.specs.Reading.{versions_alone};
-ghost use Rattle.span_shard.specs.Shard.{AreInOrder, row_now};
+ghost use Rattle.span_store.specs.Ends.{HasNoRowFrom, is_before_end, is_from_to};
+ghost use Rattle.span_shard.specs.EmptyRanges.{is_in_empty, is_in_range};
+ghost use Rattle.span_store.specs.Reads.{versions_alone};
+ghost use Rattle.span_store.specs.KeyLists.{AreInOrder, row_now};
 
-use super::place::{StoredKey, near_keys, push_beginning, row_near, row_now};
-use super::search::walk_from;
-use super::store::Store;
 use span_keycode::compare::order_of_bytes;
 use span_keycode::encode::encode_key;
 use span_keycode::key::Key;
 use span_keyindex::near::SEARCH_LANES;
 use span_mutate::mutation::CheckedMutation;
 use span_schema::schema::Schema;
+use span_store::place::{StoredKey, first_from, near_keys, push_beginning, row_near, row_now};
+use span_store::store::Store;
 use span_value::seq::Seq;
 use std::alloc::{AllocError, Global};
 use std::marker::Model;
@@ -40,7 +40,7 @@ pub(crate) struct Lookups<'a> {
 
 impl<'a> Model for Lookups<'a> {
     ghost use Rattle.std.specs.Prelude.{List};
-    ghost use Rattle.span_shard.specs.KeyVersions.{KeyVersions};
+    ghost use Rattle.span_store.specs.KeyVersions.{KeyVersions};
     ghost use Rattle.span_shard.specs.EmptyRanges.{HasNoRowIn};
 
     ghost Value = { List KeyVersions };
@@ -133,17 +133,6 @@ pub(crate) fn key_of(alloc: Global, schema: &Schema, mutation: &CheckedMutation)
     requires { IsTypedMutation schema.now mutation.now }
 {
     encode_key(alloc, schema, mutation.table, mutation.key.as_slice()).ok()
-}
-
-// A copy of the first key of a store that is not below another.
-fn first_from(alloc: Global, store: &Store, low: &[u8]) -> Result<Option<Key>, AllocError>
-    ensures { IfOk result (λ high. HasNoRowFrom store.now low.now high) }
-{
-    let mut walk = walk_from(&store.index, &store.arena, low);
-    match walk.next() {
-        None => Ok(None),
-        Some((key, _chain)) => Ok(Some(Key::from_slice(alloc, key)?)),
-    }
 }
 
 fn is_in_empty(empty: &Option<EmptyRange>, key: &[u8]) -> bool

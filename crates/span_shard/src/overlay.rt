@@ -2,13 +2,13 @@
 ghost use Rattle.std.specs.Prelude.{◌≡◌, map, filter, is_none, is_some, IfOk, OnOk};
 ghost use Rattle.std.specs.Option.{option_copied};
 ghost use Rattle.span_maderows.specs.Made.{made_at};
-ghost use Rattle.span_shard.specs.Shard.{AreInOrder};
+ghost use Rattle.span_store.specs.KeyLists.{AreInOrder};
 ghost use Rattle.span_shard.specs.Overlay.{no_change, changed_at, row_over, row_under, is_unchanged, AreCleared, HasSameCleared, AddsCleared, AreUnder, AreUnchangedUnder, IsPutAt, AreRemoved};
 
 use super::lookups::Lookups;
-use super::place::StoredKey;
 use span_keycode::key::Key;
 use span_maderows::made::MadeRows;
+use span_store::place::StoredKey;
 use span_value::seq::Seq;
 use std::alloc::{AllocError, Global};
 use std::collections::BTreeSet;

@@ -6,7 +6,7 @@ ghost use Rattle.span_mutate.specs.Kinds.{is_delete};
 ghost use Rattle.span_mutate.specs.Database.{is_insert};
 ghost use Rattle.span_mutate.specs.Typed.{IsTypedMutation, AreTypedMutations};
 ghost use Rattle.span_maderows.specs.Made.{made_at};
-ghost use Rattle.span_shard.specs.Shard.{AreInOrder};
+ghost use Rattle.span_store.specs.KeyLists.{AreInOrder};
 ghost use Rattle.span_shard.specs.Overlay.{lacks_parent_over, own_code, HasFront, HasParent, HasPutRow, HasSameCleared, IsAddedAt, IsRowAlone, AreCellsOf, IsMergedRow, IsMergeRefused, IsPresenceRight, IsPresenceRefused, IsUnpacked, IsBlocked, HasNoKey, IsPutRow, IsNoPut, row_over, AreCleared, AreUnder, HasDeleted, IsNoDelete, AreTableRows, IsRunOf, IsRunFault, AreRunsOf};
 ghost use Rattle.span_shard.specs.Reading.{IsFault, IsPrepareRefusal};
 

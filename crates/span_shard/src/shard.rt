@@ -5,29 +5,23 @@ ghost use Rattle.span_keycode.specs.declared.range.KeyRange.{KeyRange};
 ghost use Rattle.span_mutate.specs.Typed.{AreTypedMutations};
 ghost use Rattle.span_shard.specs.Reading.{AreWrites, IsFault, IsFull, IsPrepareRefusal};
 ghost use Rattle.std.specs.List.{AllByRecursion};
-ghost use Rattle.span_shard.specs.Shard.{with_writes, applied, trimmed, trimmed_key, snapshot, live, IsFree, IsIdle, HasNoneOf, HasSomeOf, HaveFallingVersions, ReadLastVersions, ArePutsRefused, AreInOrder, IsInUse, IsLaterCommit, keys_before, keys_from};
-ghost use Rattle.span_shard.specs.declared.write.Write.{Write};
+ghost use Rattle.span_shard.specs.Shard.{with_writes, applied, trimmed, IsFree, HasNoneOf, HasSomeOf, ArePutsRefused};
+ghost use Rattle.span_store.specs.KeyLists.{trimmed_key, live, IsIdle, HaveFallingVersions, ReadLastVersions, AreInOrder, IsInUse, IsLaterCommit, keys_before, keys_from};
+ghost use Rattle.span_store.specs.Reads.{snapshot};
+ghost use Rattle.span_store.specs.declared.write.Write.{Write};
 
 use super::change::writes_of;
-use super::snapshot::{Snapshot, snapshot_of};
-use super::store::Store;
-use super::write::NearWrite;
 use span_keycode::range::KeyRange;
 use span_keyindex::near::SEARCH_LANES;
 use span_mutate::mutation::CheckedMutation;
 use span_schema::schema::Schema;
+pub use span_store::snapshot::Entry;
+use span_store::snapshot::{Snapshot, snapshot_of};
+use span_store::store::Store;
+use span_store::write::NearWrite;
 use span_value::refusal::Refusal;
 use std::alloc::Global;
 use std::marker::Model;
-
-/// A row, lent by the shard.
-#[derive(Clone, Copy, Debug)]
-pub struct Entry<'a> {
-    /// The coded key.
-    pub key: &'a [u8],
-    /// The packed cells.
-    pub row: &'a [u8],
-}
 
 /// A shard. Contracts see what it has of each key, in order of the keys.
 #[derive(Debug, Drop)]
@@ -37,14 +31,14 @@ pub struct Shard {
 
 impl Model for Shard {
     ghost use Rattle.std.specs.Prelude.{List};
-    ghost use Rattle.span_shard.specs.KeyVersions.{KeyVersions};
+    ghost use Rattle.span_store.specs.KeyVersions.{KeyVersions};
 
     ghost Value = { List KeyVersions };
 
     ghost view = { λ a. a.store };
 
     ghost use Rattle.std.specs.List.{AllByRecursion};
-    ghost use Rattle.span_shard.specs.Shard.{IsInUse, AreInOrder};
+    ghost use Rattle.span_store.specs.KeyLists.{IsInUse, AreInOrder};
 
     ghost invariant = { λ a. AllByRecursion IsInUse a.store × AreInOrder a.store };
 }

@@ -27,11 +27,11 @@ use Rattle.span_mutate.proofs.Orders.{rows_total}
 use Rattle.span_mutate.proofs.TypedRows.{typed_stay}
 use Rattle.span_maderows.proofs.Bytes.{same_bytes}
 use Rattle.span_maderows.proofs.Lists.{all_map, all_append, filter_none}
-use Rattle.span_shard.specs.declared.chain.Version.{Version}
+use Rattle.span_store.specs.declared.chain.Version.{Version}
 use Rattle.span_shard.specs.Rows.{code_of, is_coded, row_coded}
 use Rattle.span_shard.specs.Reading.{is_same_row}
 use Rattle.span_shard.proofs.Databases.{one_code}
-use Rattle.span_shard.proofs.Lists.{all_both, all_whole}
+use Rattle.span_store.proofs.Lists.{all_both, all_whole}
 use Rattle.span_machine.specs.declared.transaction.Commit.{Commit}
 use Rattle.span_machine.specs.Sorting.{in_order}
 use Rattle.span_machine.specs.Tables.{is_before, mutations_of}

@@ -14,11 +14,11 @@ use Rattle.std.proofs.lemmas.Slice.Eq.{bytes_eq-Decides}
 use Rattle.span_keycode.specs.Order.{byte_order}
 use Rattle.span_maderows.proofs.Bytes.{same_bytes, bytes_same}
 use Rattle.span_maderows.proofs.Lists.{all_map, all_filter_itself}
-use Rattle.span_shard.specs.declared.chain.Version.{Version}
+use Rattle.span_store.specs.declared.chain.Version.{Version}
 use Rattle.span_shard.specs.KeyVersions.{KeyVersions}
 use Rattle.span_shard.specs.Versions.{kept_version, kept_upto}
 use Rattle.span_shard.specs.Shard.{AreInOrder, is_key}
-use Rattle.span_shard.proofs.Lists.{all_whole}
+use Rattle.span_store.proofs.Lists.{all_whole}
 use Rattle.span_machine_laws.proofs.Lists.{filter_swap}
 use Rattle.span_machine_laws.proofs.Tests.{first_true}
 use Rattle.span_machine.specs.Kept.{Change, hides, is_kept, kept}

@@ -4,9 +4,9 @@ use Rattle.std.specs.List.{AllByRecursion}
 use Rattle.std.specs.Ordering.{eq_by_cmp, is_eq}
 use Rattle.std.specs.declared.cmp.Ordering.TheVariants.{Less, Equal, Greater}
 use Rattle.span_maderows.proofs.Bytes.{bytes_total, same_bytes}
-use Rattle.span_shard.specs.declared.chain.Version.{Version}
-use Rattle.span_shard.specs.declared.chain.PreparedWrite.{PreparedWrite}
-use Rattle.span_shard.specs.declared.write.Write.{Write}
+use Rattle.span_store.specs.declared.chain.Version.{Version}
+use Rattle.span_store.specs.declared.chain.PreparedWrite.{PreparedWrite}
+use Rattle.span_store.specs.declared.write.Write.{Write}
 use Rattle.span_shard.specs.KeyVersions.{KeyVersions}
 use Rattle.span_shard.specs.Versions.{is_used, with_prepared, with_version, applied_write, applied_to_key, kept_upto}
 use Rattle.span_shard.specs.Writes.{is_of}

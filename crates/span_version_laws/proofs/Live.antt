@@ -20,14 +20,14 @@ use Rattle.span_mutate.proofs.TypedRows.{typed_stay}
 use Rattle.span_maderows.specs.Made.{begins_with}
 use Rattle.span_maderows.proofs.Bytes.{same_bytes, bytes_same, front_begins}
 use Rattle.span_maderows.proofs.Lists.{all_append, all_map, all_filter_itself, filter_none}
-use Rattle.span_shard.specs.declared.chain.Version.{Version}
-use Rattle.span_shard.specs.declared.chain.PreparedWrite.{PreparedWrite}
+use Rattle.span_store.specs.declared.chain.Version.{Version}
+use Rattle.span_store.specs.declared.chain.PreparedWrite.{PreparedWrite}
 use Rattle.span_shard.specs.KeyVersions.{KeyVersions}
 use Rattle.span_shard.specs.Rows.{code_of, row_coded}
 use Rattle.span_shard.specs.Reading.{is_same_row}
 use Rattle.span_shard.specs.Versions.{kept_version, kept_upto}
 use Rattle.span_shard.specs.Shard.{AreInOrder, is_key, versions_of, prepared_of, versions_at, prepared_at, kept_of, live}
-use Rattle.span_shard.proofs.Lists.{any_all, none_any}
+use Rattle.span_store.proofs.Lists.{any_all, none_any}
 use Rattle.span_machine.specs.declared.slot.SlotState.{SlotState}
 use Rattle.span_machine.specs.declared.transaction.Commit.{Commit}
 use Rattle.span_machine.specs.declared.transaction.OpenTransaction.{OpenTransaction}

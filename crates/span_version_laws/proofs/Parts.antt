@@ -7,8 +7,8 @@ use Rattle.span_mutate.specs.Directories.{Root}
 use Rattle.span_mutate.proofs.Placing.{rising_filter}
 use Rattle.span_maderows.proofs.Bytes.{same_bytes}
 use Rattle.span_maderows.proofs.Lists.{all_filter_itself}
-use Rattle.span_shard.specs.declared.chain.Version.{Version}
-use Rattle.span_shard.specs.declared.chain.PreparedWrite.{PreparedWrite}
+use Rattle.span_store.specs.declared.chain.Version.{Version}
+use Rattle.span_store.specs.declared.chain.PreparedWrite.{PreparedWrite}
 use Rattle.span_shard.specs.KeyVersions.{KeyVersions}
 use Rattle.span_shard.specs.Shard.{is_key, versions_of, prepared_of, versions_at, prepared_at, keys_cmp, IsInUse}
 use Rattle.span_machine.specs.declared.slot.SlotState.{SlotState}

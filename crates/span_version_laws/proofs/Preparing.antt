@@ -18,8 +18,8 @@ use Rattle.span_mutate.proofs.TypedRows.{typed_stay}
 use Rattle.span_maderows.specs.Made.{begins_with}
 use Rattle.span_maderows.proofs.Bytes.{bytes_same}
 use Rattle.span_maderows.proofs.Lists.{all_append}
-use Rattle.span_shard.specs.declared.chain.PreparedWrite.{PreparedWrite}
-use Rattle.span_shard.specs.declared.write.Write.{Write}
+use Rattle.span_store.specs.declared.chain.PreparedWrite.{PreparedWrite}
+use Rattle.span_store.specs.declared.write.Write.{Write}
 use Rattle.span_shard.specs.KeyVersions.{KeyVersions}
 use Rattle.span_shard.specs.Rows.{row_coded, root_code, is_touched, AreChanges}
 use Rattle.span_shard.specs.Writes.{IsWrite, is_of}

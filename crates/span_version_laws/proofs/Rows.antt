@@ -13,8 +13,8 @@ use Rattle.span_mutate.specs.Database.{apply}
 use Rattle.span_mutate.specs.Directories.{Root, directory}
 use Rattle.span_mutate.specs.Typed.{AreTyped}
 use Rattle.span_maderows.proofs.Lists.{all_filter_itself}
-use Rattle.span_shard.specs.declared.chain.Version.{Version}
-use Rattle.span_shard.specs.declared.chain.PreparedWrite.{PreparedWrite}
+use Rattle.span_store.specs.declared.chain.Version.{Version}
+use Rattle.span_store.specs.declared.chain.PreparedWrite.{PreparedWrite}
 use Rattle.span_shard.specs.KeyVersions.{KeyVersions}
 use Rattle.span_shard.specs.Rows.{row_coded}
 use Rattle.span_shard.specs.Versions.{row_at}

@@ -47,7 +47,7 @@ use Rattle.span_machine_laws.proofs.Reached.{IsReached}
 use Rattle.span_version_laws.specs.Kept.{IsCodedRoot, IsCodedCoding, is_under, IsKeptUnder, IsKeptBy, AreKept, key_row, HasRowsOf, HasRows, has_row, row_within}
 use Rattle.span_version_laws.specs.Kept as versions
 use Rattle.span_machine.specs.declared.transaction.Commit.{Commit}
-use Rattle.span_shard.specs.declared.chain.Version.{Version}
+use Rattle.span_store.specs.declared.chain.Version.{Version}
 use Rattle.span_version_laws.proofs.Slots.{state_is}
 use Rattle.span_version_laws.proofs.Cuts.{held_by_key}
 use Rattle.span_version_laws.proofs.Trimming.{row_kept_above}

@@ -8,7 +8,7 @@ use Rattle.span_schema.specs.declared.table.Table.{Table}
 use Rattle.span_mutate.specs.declared.row.TableRow.{TableRow}
 use Rattle.span_mutate.specs.Database.{apply}
 use Rattle.span_mutate.specs.Directories.{Root}
-use Rattle.span_shard.specs.declared.chain.Version.{Version}
+use Rattle.span_store.specs.declared.chain.Version.{Version}
 use Rattle.span_shard.specs.Reading.{is_same_row}
 use Rattle.span_shard.specs.Rows.{row_coded}
 use Rattle.span_shard.specs.Versions.{row_at, kept_version, kept_upto}

@@ -15,8 +15,8 @@ use Rattle.span_mutate.specs.Database.{apply, rows_of}
 use Rattle.span_mutate.specs.Typed.{AreTyped}
 use Rattle.span_mutate.specs.Directories.{Root}
 use Rattle.span_maderows.specs.Made.{begins_with}
-use Rattle.span_shard.specs.declared.chain.Version.{Version}
-use Rattle.span_shard.specs.declared.chain.PreparedWrite.{PreparedWrite}
+use Rattle.span_store.specs.declared.chain.Version.{Version}
+use Rattle.span_store.specs.declared.chain.PreparedWrite.{PreparedWrite}
 use Rattle.span_shard.specs.KeyVersions.{KeyVersions}
 use Rattle.span_shard.specs.Rows.{code_of, row_coded}
 use Rattle.span_shard.specs.Reading.{is_same_row}

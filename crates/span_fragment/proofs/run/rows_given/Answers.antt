@@ -3,7 +3,7 @@ use Rattle.std.specs.Prelude.{IfOk, IfErr}
 use Rattle.span_value.specs.declared.refusal.Refusal.TheVariants.{OutOfMemory}
 use Rattle.span_shard.specs.Reading.{entry_row}
 use Rattle.span_shard.specs.Shard.{KeyRow}
-use Rattle.span_shard.specs.declared.shard.Entry.{Entry}
+use Rattle.span_store.specs.declared.snapshot.Entry.{Entry}
 use Rattle.span_rowreader.specs.Entries.{AreNoRows}
 use Rattle.span_tablescan.specs.Given.{IsGivenOn}
 use Rattle.span_rowreader.specs.Longest.{HaveShortKeys}

@@ -2,7 +2,7 @@ use Rattle.std.proofs.Common.{◌≡◌, ◌∙◌, ◌++◌, ◌∷◌, [], Lis
 use Rattle.std.proofs.lemmas.List.{map-append}
 use Rattle.span_shard.specs.Shard.{KeyRow}
 use Rattle.span_shard.specs.Reading.{entry_row}
-use Rattle.span_shard.specs.declared.shard.Entry.{Entry}
+use Rattle.span_store.specs.declared.snapshot.Entry.{Entry}
 use Rattle.span_fragment.proofs.short.leaf_entries.Goals as goal
 
 pub loop-entry-init : goal.loop-entry-init

@@ -3,7 +3,7 @@ use Rattle.std.proofs.lemmas.List.{length-replicate}
 use Rattle.std.specs.List.{AllByRecursion}
 use Rattle.std.proofs.lemmas.Result.{err_from_is_err_and}
 use Rattle.span_query.specs.Rows.{Row}
-use Rattle.span_shard.specs.declared.shard.Entry.{Entry}
+use Rattle.span_store.specs.declared.snapshot.Entry.{Entry}
 use Rattle.span_rowreader.specs.declared.reader.TableReader.{TableReader}
 use Rattle.span_rowreader.specs.LeafReaders.{AreReadersOf, IsTableReader}
 use Rattle.span_rowreader.proofs.Entries.{not_rows}

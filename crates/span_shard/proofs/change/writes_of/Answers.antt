@@ -1,5 +1,5 @@
 use Rattle.std.proofs.Common.{◌≡◌, List, subst}
-use Rattle.span_shard.specs.KeyVersions.{KeyVersions}
+use Rattle.span_store.specs.KeyVersions.{KeyVersions}
 use Rattle.span_shard.specs.Overlay.{AreRunsOf, AreWritesAt}
 use Rattle.span_shard.proofs.RunAll.{writes_made}
 use Rattle.span_shard.proofs.change.writes_of.Goals as goal

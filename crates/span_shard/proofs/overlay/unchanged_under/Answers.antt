@@ -1,9 +1,9 @@
 use Rattle.std.proofs.Common.{◌≡◌, ◌++◌, ℕ, List, map, ap, sym, subst, ◌∙◌}
 use Rattle.std.specs.List.{filter}
 use Rattle.span_maderows.specs.Made.{begins_with}
-use Rattle.span_shard.specs.KeyVersions.{KeyVersions}
+use Rattle.span_store.specs.KeyVersions.{KeyVersions}
 use Rattle.span_shard.specs.Overlay.{is_unchanged, AreUnchangedUnder}
-use Rattle.span_shard.specs.Reading.{versions_alone}
+use Rattle.span_store.specs.Reads.{versions_alone}
 use Rattle.std.proofs.lemmas.Result.{IfOk-weaker}
 use Rattle.span_shard.proofs.Overlays.{unchanged_found}
 use Rattle.span_shard.proofs.overlay.unchanged_under.Goals as goal

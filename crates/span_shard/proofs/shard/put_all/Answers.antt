@@ -2,7 +2,7 @@ use Rattle.std.proofs.Common.{◌≡◌, ◌∷◌, [], ◌++◌, refl, sym, ap,
 use Rattle.std.specs.List.{AllByRecursion}
 use Rattle.std.proofs.lemmas.List.{append-nil}
 use Rattle.std.proofs.lemmas.Result.{err_from_is_err_and}
-use Rattle.span_shard.specs.Shard.{with_write, AreInOrder, IsInUse}
+use Rattle.span_store.specs.KeyLists.{with_write, AreInOrder, IsInUse}
 use Rattle.span_shard.proofs.InOrder.{in_order_with_write}
 use Rattle.span_shard.proofs.Undo.{used_with_write}
 use Rattle.span_shard.proofs.Filling.{puts_refused}

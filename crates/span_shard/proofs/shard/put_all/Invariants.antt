@@ -1,6 +1,7 @@
 use Rattle.std.proofs.Common.{◌≡◌, vec_len}
 use Rattle.std.specs.List.{AllByRecursion}
-use Rattle.span_shard.specs.Shard.{HasSomeOf, AreInOrder, IsInUse}
+use Rattle.span_shard.specs.Shard.{HasSomeOf}
+use Rattle.span_store.specs.KeyLists.{AreInOrder, IsInUse}
 use Rattle.span_shard.proofs.shard.put_all.Given as goal
 
 -- those after what is left are prepared

@@ -1,6 +1,6 @@
 use Rattle.std.proofs.Common.{List, sym, ap, ◌∙◌}
-use Rattle.span_shard.specs.KeyVersions.{KeyVersions}
-use Rattle.span_shard.specs.Shard.{row_now}
+use Rattle.span_store.specs.KeyVersions.{KeyVersions}
+use Rattle.span_store.specs.KeyLists.{row_now}
 use Rattle.span_shard.proofs.NoRows.{in_empty}
 use Rattle.span_shard.proofs.lookups.Lookups.row_now.Goals as goal
 

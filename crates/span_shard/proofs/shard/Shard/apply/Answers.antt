@@ -1,8 +1,9 @@
 use Rattle.std.proofs.Common.{◌∙◌, map, sym, ap, subst}
 use Rattle.std.specs.Prelude.{filter}
 use Rattle.std.specs.List.{AllByRecursion}
-use Rattle.span_shard.specs.Versions.{is_used, applied_to_key}
-use Rattle.span_shard.specs.Shard.{IsInUse, AreInOrder, IsLaterCommit, applied}
+use Rattle.span_store.specs.Versions.{is_used, applied_to_key}
+use Rattle.span_store.specs.KeyLists.{IsInUse, AreInOrder, IsLaterCommit}
+use Rattle.span_shard.specs.Shard.{applied}
 use Rattle.span_shard.proofs.Undo.{used_filtered, applied-committed}
 use Rattle.span_shard.proofs.InOrder.{in_order_applied}
 use Rattle.span_shard.proofs.shard.Shard.apply.Goals as goal

@@ -1,5 +1,5 @@
 use Rattle.std.proofs.Common.{subst}
-use Rattle.span_shard.specs.Shard.{AreInOrder}
+use Rattle.span_store.specs.KeyLists.{AreInOrder}
 use Rattle.span_shard.proofs.shard.Shard.keys_are_in_order.Goals as goal
 
 pub returns : goal.returns

@@ -1,6 +1,7 @@
 use Rattle.std.proofs.Common.{◌∙◌, sym, subst}
 use Rattle.std.specs.List.{AllByRecursion}
-use Rattle.span_shard.specs.Shard.{IsInUse, AreInOrder, HasNoneOf, IsFree}
+use Rattle.span_store.specs.KeyLists.{IsInUse, AreInOrder}
+use Rattle.span_shard.specs.Shard.{HasNoneOf, IsFree}
 use Rattle.span_shard.proofs.InOrder.{in_order_with_writes}
 use Rattle.span_shard.proofs.Undo.{given_back, used_with_writes}
 use Rattle.span_shard.proofs.shard.Shard.prepare.Goals as goal

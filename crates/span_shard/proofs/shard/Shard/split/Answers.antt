@@ -2,9 +2,9 @@ use Rattle.std.proofs.Common.{not, sym, subst}
 use Rattle.std.specs.List.{AllByRecursion}
 use Rattle.std.specs.Ordering.{is_lt}
 use Rattle.span_keycode.specs.Order.{byte_order}
-use Rattle.span_shard.specs.KeyVersions.{KeyVersions}
-use Rattle.span_shard.specs.Shard.{IsInUse, AreInOrder}
-use Rattle.span_shard.proofs.Parting.{kept_in_use, kept_in_order}
+use Rattle.span_store.specs.KeyVersions.{KeyVersions}
+use Rattle.span_store.specs.KeyLists.{IsInUse, AreInOrder}
+use Rattle.span_store.proofs.Parting.{kept_in_use, kept_in_order}
 use Rattle.span_shard.proofs.shard.Shard.split.Goals as goal
 
 pub invariant_of-result : goal.invariant_of-result

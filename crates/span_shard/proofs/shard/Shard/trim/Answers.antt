@@ -1,8 +1,8 @@
 use Rattle.std.proofs.Common.{sym, ap, subst, ◌∙◌}
 use Rattle.std.specs.Prelude.{filter}
 use Rattle.std.specs.List.{AllByRecursion}
-use Rattle.span_shard.specs.Versions.{is_used}
-use Rattle.span_shard.specs.Shard.{IsInUse, AreInOrder}
+use Rattle.span_store.specs.Versions.{is_used}
+use Rattle.span_store.specs.KeyLists.{IsInUse, AreInOrder}
 use Rattle.span_shard.proofs.Undo.{used_filtered}
 use Rattle.span_shard.proofs.InOrder.{in_order_trimmed}
 use Rattle.span_shard.proofs.shard.Shard.trim.Goals as goal

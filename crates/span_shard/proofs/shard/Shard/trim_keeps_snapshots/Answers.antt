@@ -1,6 +1,7 @@
 use Rattle.std.specs.Prelude.{map}
-use Rattle.span_shard.specs.Shard.{trimmed_key}
-use Rattle.span_shard.proofs.Horizons.{snapshot_trimmed, live_used}
+use Rattle.span_store.specs.KeyLists.{trimmed_key}
+use Rattle.span_shard.proofs.Horizons.{snapshot_trimmed}
+use Rattle.span_store.proofs.Full.{live_used}
 use Rattle.span_shard.proofs.shard.Shard.trim_keeps_snapshots.Goals as goal
 
 pub returns-clause-seen : goal.returns-clause-seen

@@ -1,6 +1,6 @@
 use Rattle.std.proofs.Common.{subst}
-use Rattle.span_shard.specs.Shard.{HaveFallingVersions, ReadLastVersions}
-use Rattle.span_shard.proofs.Later.{last_is_read}
+use Rattle.span_store.specs.KeyLists.{HaveFallingVersions, ReadLastVersions}
+use Rattle.span_store.proofs.Later.{last_is_read}
 use Rattle.span_shard.proofs.shard.Shard.versions_are_in_order.Goals as goal
 
 pub returns-clause-falling : goal.returns-clause-falling

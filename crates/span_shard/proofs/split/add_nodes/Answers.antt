@@ -1,8 +1,0 @@
-use Rattle.span_shard.proofs.Moving.{no_room, room_node}
-use Rattle.span_shard.proofs.split.add_nodes.Goals as goal
-
-pub loop-node-init : goal.loop-node-init
-loop-node-init c = no_room c.args.room.now
-
-pub loop-node-preserved : goal.loop-node-preserved
-loop-node-preserved c = room_node c.loop-node._node c.args.room.now c.loop-node.room c.add_free_node.new.self c.loop-node.invariant c.in-Ok.ensures.ok

@@ -1,5 +1,0 @@
-use Rattle.span_shard.specs.Stored.{HasRoom}
-use Rattle.span_shard.proofs.split.add_nodes.Given as goal
-
-abbrev pub invariant-loop-node : goal.invariant-loop-node
-invariant-loop-node l = HasRoom l._node l.fn.room l.room

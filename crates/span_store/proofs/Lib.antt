@@ -1,0 +1,14 @@
+pub mod Apart
+pub mod Counting
+pub mod Cutting
+pub mod Ending
+pub mod Full
+pub mod Later
+pub mod Lists
+pub mod Moving
+pub mod Owned
+pub mod Parting
+pub mod Preparing
+pub mod Seeing
+pub mod Slots
+pub mod Unused

@@ -1,0 +1,7 @@
+use Rattle.span_store.proofs.search.walk_from.Given as goal
+
+abbrev pub ghosts-counted_walk_from-C-Ledger : goal.ghosts-counted_walk_from-C-Ledger
+ghosts-counted_walk_from-C-Ledger a = record { name = a.compared.name; parts = a.compared.parts }
+
+abbrev pub ghosts-counted_walk_from-W-Ledger : goal.ghosts-counted_walk_from-W-Ledger
+ghosts-counted_walk_from-W-Ledger a = record { name = a.written.name; parts = a.written.parts }
