@@ -11,8 +11,8 @@ ghost use Rattle.span_binder.specs.Understands.{Understands};
 
 use crate::binding::bind;
 use span_params::params::Params;
-use span_parser::parse::parse_select;
 use span_query::query::Statement;
+use span_querytext::parse::parse_select;
 use span_schema::schema::Schema;
 use span_value::refusal::Refusal;
 use std::alloc::Global;

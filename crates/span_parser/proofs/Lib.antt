@@ -1,3 +1,2 @@
 pub mod Falling
 pub mod Querying
-pub mod Sublevels

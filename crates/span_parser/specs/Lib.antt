@@ -1,3 +1,2 @@
 pub mod Queries
 pub mod QueryTexts
-pub mod Subqueries

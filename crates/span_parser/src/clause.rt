@@ -33,7 +33,7 @@ fn as_name<'a>(
 
 /// `[[AS] name]`
 #[tactic(auto, unfolding(crate::specs::Queries::alias))]
-pub(crate) fn alias<'a>(
+pub fn alias<'a>(
     alloc: Global,
     text: &[u8],
     tokens: &'a [Lexeme],
@@ -53,7 +53,7 @@ pub(crate) fn alias<'a>(
 
 /// `[AS] name`
 #[tactic(auto, unfolding(crate::specs::Queries::required_alias))]
-pub(crate) fn required_alias<'a>(
+pub fn required_alias<'a>(
     alloc: Global,
     text: &[u8],
     tokens: &'a [Lexeme],
@@ -68,7 +68,7 @@ pub(crate) fn required_alias<'a>(
 
 /// `[ALL | DISTINCT]`: whether it is DISTINCT.
 #[tactic(auto, unfolding(crate::specs::Queries::quantifier))]
-pub(crate) fn quantifier(tokens: &[Lexeme]) -> Result<(bool, &[Lexeme]), SyntaxError>
+pub fn quantifier(tokens: &[Lexeme]) -> Result<(bool, &[Lexeme]), SyntaxError>
     ensures { Gives result (spec.quantifier.read tokens.now) }
 {
     if next_is(Sort::Word(Word::All), tokens) {
@@ -193,7 +193,7 @@ fn order_by<'a>(
 
 /// The keys of an ORDER BY, if there is one.
 #[tactic(auto, unfolding(crate::specs::Queries::maybe_order_by))]
-pub(crate) fn maybe_order_by<'a>(
+pub fn maybe_order_by<'a>(
     alloc: Global,
     text: &[u8],
     tokens: &'a [Lexeme],
@@ -241,7 +241,7 @@ fn limit_clause(tokens: &[Lexeme]) -> Result<(Limit, &[Lexeme]), SyntaxError>
 
 /// A LIMIT, if there is one.
 #[tactic(auto, unfolding(crate::specs::Queries::maybe_limit))]
-pub(crate) fn maybe_limit(tokens: &[Lexeme]) -> Result<(Option<Limit>, &[Lexeme]), SyntaxError>
+pub fn maybe_limit(tokens: &[Lexeme]) -> Result<(Option<Limit>, &[Lexeme]), SyntaxError>
     ensures { Gives result (spec.maybe_limit.read tokens.now) }
 {
     if !goes_on(Part::Limit, tokens) {
@@ -364,7 +364,7 @@ fn left_join(tokens: &[Lexeme]) -> Result<(bool, &[Lexeme]), SyntaxError>
 
 /// Whether a join is a LEFT JOIN.
 #[tactic(auto, unfolding(crate::specs::Queries::join_kind))]
-pub(crate) fn join_kind(tokens: &[Lexeme]) -> Result<(bool, &[Lexeme]), SyntaxError>
+pub fn join_kind(tokens: &[Lexeme]) -> Result<(bool, &[Lexeme]), SyntaxError>
     ensures { Gives result (spec.join_kind.read tokens.now) }
 {
     if goes_on(Part::InnerJoin, tokens) {
@@ -379,7 +379,7 @@ pub(crate) fn join_kind(tokens: &[Lexeme]) -> Result<(bool, &[Lexeme]), SyntaxEr
 
 /// `[";"]`
 #[tactic(auto, unfolding(crate::specs::Queries::maybe_semicolon))]
-pub(crate) fn maybe_semicolon(tokens: &[Lexeme]) -> Result<(bool, &[Lexeme]), SyntaxError>
+pub fn maybe_semicolon(tokens: &[Lexeme]) -> Result<(bool, &[Lexeme]), SyntaxError>
     ensures { Gives result (spec.maybe_semicolon.read tokens.now) }
 {
     if !next_is(Sort::AnySemicolon, tokens) {
@@ -390,11 +390,11 @@ pub(crate) fn maybe_semicolon(tokens: &[Lexeme]) -> Result<(bool, &[Lexeme]), Sy
 }
 
 /// The conditions of a block: WHERE, the columns of GROUP BY, and HAVING.
-pub(crate) type Conditions = (Option<Expr>, (Items<Column>, Option<Expr>));
+pub type Conditions = (Option<Expr>, (Items<Column>, Option<Expr>));
 
 /// Reads the clauses that have expressions, with `left` openings left.
 #[derive(Drop)]
-pub(crate) struct Clauses<'t> {
+pub struct Clauses<'t> {
     pub alloc: Global,
     /// The bytes of the text.
     pub text: &'t [u8],
@@ -415,7 +415,7 @@ impl<'t> Model for Clauses<'t> {
 
 impl<'t> Clauses<'t> {
     /// An expression.
-    pub(crate) fn expr<'a>(&self, tokens: &'a [Lexeme]) -> Result<(Expr, &'a [Lexeme]), SyntaxError>
+    pub fn expr<'a>(&self, tokens: &'a [Lexeme]) -> Result<(Expr, &'a [Lexeme]), SyntaxError>
         ensures { Reads self.now spec.expr tokens.now result }
     {
         read_expression(self.alloc, self.text, self.left, tokens)
@@ -526,7 +526,7 @@ impl<'t> Clauses<'t> {
 
     /// `out {"," out}`
     #[tactic(auto, unfolding(crate::specs::Queries::outputs))]
-    pub(crate) fn outputs<'a>(
+    pub fn outputs<'a>(
         &self,
         tokens: &'a [Lexeme],
     ) -> Result<(Items<Output>, &'a [Lexeme]), SyntaxError>
@@ -539,10 +539,7 @@ impl<'t> Clauses<'t> {
 
     /// `ON expr`
     #[tactic(auto, unfolding(crate::specs::Queries::join_on))]
-    pub(crate) fn join_on<'a>(
-        &self,
-        tokens: &'a [Lexeme],
-    ) -> Result<(Expr, &'a [Lexeme]), SyntaxError>
+    pub fn join_on<'a>(&self, tokens: &'a [Lexeme]) -> Result<(Expr, &'a [Lexeme]), SyntaxError>
         ensures { Reads self.now spec.join_on tokens.now result }
     {
         let (_, rest) = take(Sort::Word(Word::On), tokens)?;
@@ -563,7 +560,7 @@ impl<'t> Clauses<'t> {
 
     /// The conditions of a block.
     #[tactic(auto, unfolding(crate::specs::Queries::block_filter))]
-    pub(crate) fn block_filter<'a>(
+    pub fn block_filter<'a>(
         &self,
         tokens: &'a [Lexeme],
     ) -> Result<(Conditions, &'a [Lexeme]), SyntaxError>

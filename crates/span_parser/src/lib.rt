@@ -1,7 +1,5 @@
-//! The parser of queries: from a query text to its tree.
+//! The trees of queries, and their clauses, read from tokens.
 #![tactic(auto)]
 
-mod clause;
-pub mod parse;
-mod query;
+pub mod clause;
 pub mod tree;

@@ -6,7 +6,7 @@ ghost use Rattle.span_report.specs.declared.place.Place.{Place};
 
 use super::place::Place;
 use span_grammar::judge::Goal;
-use span_parser::parse::parse_select;
+use span_querytext::parse::parse_select;
 use span_schematext::text::parse_tables;
 use span_value::refusal::Refusal;
 use std::alloc::Global;

@@ -5,17 +5,17 @@ ghost use Rattle.std.specs.Prelude.{◌<◌, ◌≤◌};
 ghost use Rattle.span_grammar.specs.Rules.{limit};
 ghost use Rattle.span_primary.specs.Pieces.{Gives};
 ghost use Rattle.span_parser.specs.Queries as spec;
-ghost use Rattle.span_parser.specs.Subqueries.{NestsQueries, ReadsNested, ReadsQuery, ReadsEachQuery};
+ghost use Rattle.span_querytext.specs.Subqueries.{NestsQueries, ReadsNested, ReadsQuery, ReadsEachQuery};
 
-use super::clause::{
-    Clauses, Conditions, alias, join_kind, maybe_limit, maybe_order_by, maybe_semicolon,
-    quantifier, required_alias,
-};
-use super::tree::{Block, Item, Join, Limit, Query, SortKey};
 use span_grammar::class::{Lexeme, Sort};
 use span_grammar::grammar::Part;
 use span_grammar::reader::goes_on;
 use span_lexer::token::{Sign, Word};
+use span_parser::clause::{
+    Clauses, Conditions, alias, join_kind, maybe_limit, maybe_order_by, maybe_semicolon,
+    quantifier, required_alias,
+};
+use span_parser::tree::{Block, Item, Join, Limit, Query, SortKey};
 use span_primary::fault::SyntaxError;
 use span_primary::token::{close_parenthesis, enter, pair_with, spelling, take};
 use sqlite_items::{Boxed, Items};
@@ -57,7 +57,7 @@ impl<
     }
 
     /// `"(" query ")"`
-    #[tactic(auto, unfolding(crate::specs::Queries::subquery))]
+    #[tactic(auto, unfolding(span_parser::specs::Queries::subquery))]
     fn subquery<'a>(&self, tokens: &'a [Lexeme]) -> Result<(Query, &'a [Lexeme]), SyntaxError>
         requires nests { NestsQueries F.Fn self.now }
         ensures { ReadsQuery self.now spec.subquery tokens.now result }
@@ -68,7 +68,7 @@ impl<
     }
 
     /// `name [[AS] name]`
-    #[tactic(auto, unfolding(crate::specs::Queries::named_item))]
+    #[tactic(auto, unfolding(span_parser::specs::Queries::named_item))]
     fn named_item<'a>(&self, tokens: &'a [Lexeme]) -> Result<(Item, &'a [Lexeme]), SyntaxError>
         requires nests { NestsQueries F.Fn self.now }
         ensures { ReadsQuery self.now spec.named_item tokens.now result }
@@ -79,7 +79,7 @@ impl<
     }
 
     /// `"(" query ")" [AS] name`
-    #[tactic(auto, unfolding(crate::specs::Queries::derived_item))]
+    #[tactic(auto, unfolding(span_parser::specs::Queries::derived_item))]
     fn derived_item<'a>(&self, tokens: &'a [Lexeme]) -> Result<(Item, &'a [Lexeme]), SyntaxError>
         requires nests { NestsQueries F.Fn self.now }
         ensures { ReadsQuery self.now spec.derived_item tokens.now result }
@@ -94,7 +94,7 @@ impl<
     }
 
     /// `item`
-    #[tactic(auto, unfolding(crate::specs::Queries::item))]
+    #[tactic(auto, unfolding(span_parser::specs::Queries::item))]
     fn item<'a>(&self, tokens: &'a [Lexeme]) -> Result<(Item, &'a [Lexeme]), SyntaxError>
         requires nests { NestsQueries F.Fn self.now }
         ensures { ReadsQuery self.now spec.item tokens.now result }
@@ -106,7 +106,7 @@ impl<
     }
 
     /// `join`
-    #[tactic(auto, unfolding(crate::specs::Queries::join, crate::specs::Queries::join_of))]
+    #[tactic(auto, unfolding(span_parser::specs::Queries::join, span_parser::specs::Queries::join_of))]
     fn join<'a>(&self, tokens: &'a [Lexeme]) -> Result<(Join, &'a [Lexeme]), SyntaxError>
         requires nests { NestsQueries F.Fn self.now }
         ensures { ReadsQuery self.now spec.join tokens.now result }
@@ -118,7 +118,7 @@ impl<
     }
 
     /// `{join}`
-    #[tactic(auto, using(crate::proofs::Falling::loop_steps))]
+    #[tactic(auto, using(span_parser::proofs::Falling::loop_steps))]
     fn joins<'a>(&self, tokens: &'a [Lexeme]) -> Result<(Items<Join>, &'a [Lexeme]), SyntaxError>
         requires nests { NestsQueries F.Fn self.now }
         ensures { ReadsEachQuery self.now Part.Join spec.join tokens.now result }
@@ -134,7 +134,7 @@ impl<
     }
 
     /// The joins of a block, and what is after them.
-    #[tactic(auto, unfolding(crate::specs::Queries::block_joins))]
+    #[tactic(auto, unfolding(span_parser::specs::Queries::block_joins))]
     fn block_joins<'a>(
         &self,
         tokens: &'a [Lexeme],
@@ -147,7 +147,7 @@ impl<
     }
 
     /// FROM, and what is after it.
-    #[tactic(auto, unfolding(crate::specs::Queries::block_from))]
+    #[tactic(auto, unfolding(span_parser::specs::Queries::block_from))]
     fn block_from<'a>(
         &self,
         tokens: &'a [Lexeme],
@@ -161,7 +161,7 @@ impl<
     }
 
     /// What is after SELECT.
-    #[tactic(auto, unfolding(crate::specs::Queries::block_body, crate::specs::Queries::block_of))]
+    #[tactic(auto, unfolding(span_parser::specs::Queries::block_body, span_parser::specs::Queries::block_of))]
     fn block_body<'a>(&self, tokens: &'a [Lexeme]) -> Result<(Block, &'a [Lexeme]), SyntaxError>
         requires nests { NestsQueries F.Fn self.now }
         ensures { ReadsQuery self.now spec.block_body tokens.now result }
@@ -186,7 +186,7 @@ impl<
     }
 
     /// `block`
-    #[tactic(auto, unfolding(crate::specs::Queries::block))]
+    #[tactic(auto, unfolding(span_parser::specs::Queries::block))]
     fn block<'a>(&self, tokens: &'a [Lexeme]) -> Result<(Block, &'a [Lexeme]), SyntaxError>
         requires nests { NestsQueries F.Fn self.now }
         ensures { ReadsQuery self.now spec.block tokens.now result }
@@ -196,7 +196,7 @@ impl<
     }
 
     /// `UNION ALL block`
-    #[tactic(auto, unfolding(crate::specs::Queries::union_more))]
+    #[tactic(auto, unfolding(span_parser::specs::Queries::union_more))]
     fn union_more<'a>(&self, tokens: &'a [Lexeme]) -> Result<(Block, &'a [Lexeme]), SyntaxError>
         requires nests { NestsQueries F.Fn self.now }
         ensures { ReadsQuery self.now spec.union_more tokens.now result }
@@ -207,7 +207,7 @@ impl<
     }
 
     /// `{UNION ALL block}`
-    #[tactic(auto, using(crate::proofs::Falling::loop_steps))]
+    #[tactic(auto, using(span_parser::proofs::Falling::loop_steps))]
     fn union_rest<'a>(
         &self,
         tokens: &'a [Lexeme],
@@ -226,7 +226,7 @@ impl<
     }
 
     /// The other blocks, and what is after them.
-    #[tactic(auto, unfolding(crate::specs::Queries::unions))]
+    #[tactic(auto, unfolding(span_parser::specs::Queries::unions))]
     fn unions<'a>(
         &self,
         tokens: &'a [Lexeme],
@@ -246,7 +246,7 @@ impl<
     }
 
     /// `query`
-    #[tactic(auto, unfolding(crate::specs::Queries::query, crate::specs::Queries::query_of))]
+    #[tactic(auto, unfolding(span_parser::specs::Queries::query, span_parser::specs::Queries::query_of))]
     fn query<'a>(&self, tokens: &'a [Lexeme]) -> Result<(Query, &'a [Lexeme]), SyntaxError>
         requires nests { NestsQueries F.Fn self.now }
         ensures { ReadsQuery self.now spec.query tokens.now result }
@@ -264,7 +264,7 @@ impl<
 }
 
 /// ORDER BY and LIMIT.
-#[tactic(auto, unfolding(crate::specs::Queries::order_and_limit))]
+#[tactic(auto, unfolding(span_parser::specs::Queries::order_and_limit))]
 fn order_and_limit<'a>(
     alloc: Global,
     text: &[u8],
@@ -296,7 +296,7 @@ fn read_query<'a>(
 }
 
 /// A query, with or without a semicolon at its end.
-#[tactic(auto, unfolding(crate::specs::Queries::statement))]
+#[tactic(auto, unfolding(span_parser::specs::Queries::statement))]
 pub(crate) fn statement<'a>(
     alloc: Global,
     text: &[u8],

@@ -4,7 +4,7 @@ use Rattle.span_grammar.specs.Rules.{limit}
 use Rattle.span_parser.specs.Queries.{statement}
 use Rattle.span_syntax.specs.Parsed.{read_to_end}
 use Rattle.span_syntax.proofs.Parsing.{reports}
-use Rattle.span_parser.proofs.parse.query_of.Goals as goal
+use Rattle.span_querytext.proofs.parse.query_of.Goals as goal
 
 pub returns : goal.returns
 returns c =

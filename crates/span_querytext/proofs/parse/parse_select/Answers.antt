@@ -10,7 +10,7 @@ use Rattle.span_parser.specs.Queries.{statement}
 use Rattle.span_syntax.specs.Parsed.{read_to_end, Reports}
 use Rattle.span_syntax.proofs.Parsing.{text_value, text_value_all, text_refused, text_refused_all, misread_value, misread_refuses}
 use Rattle.span_parser.proofs.Querying.{statement_good}
-use Rattle.span_parser.proofs.parse.parse_select.Goals as goal
+use Rattle.span_querytext.proofs.parse.parse_select.Goals as goal
 
 pub returns-in-Ok-clause-read : goal.returns-in-Ok-clause-read
 returns-in-Ok-clause-read c =

@@ -8,13 +8,13 @@ ghost use Rattle.span_syntax.specs.Parsed.{GivesToEnd, read_to_end, Reports, Ref
 ghost use Rattle.span_parser.specs.Queries.{IsQuery};
 
 use super::query::statement;
-use super::tree::Query;
 use span_grammar::class::Lexeme;
 use span_grammar::classify::lexemes;
 use span_grammar::judge::Goal;
 use span_grammar::reader::DEEPEST;
 use span_lexer::lexer::{ReadError, tokens};
 use span_lexer::token::Token;
+use span_parser::tree::Query;
 use span_primary::fault::SyntaxError;
 use span_syntax::ending::{before_star, read_error, reported_place, require_end};
 use span_value::refusal::Refusal;

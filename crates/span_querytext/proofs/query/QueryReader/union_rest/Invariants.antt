@@ -2,7 +2,7 @@ use Rattle.std.proofs.Common.{◌≡◌, [], length}
 use Rattle.span_grammar.specs.declared.grammar.Part.TheVariants as part
 use Rattle.span_primary.specs.Pieces.{each_read}
 use Rattle.span_parser.specs.Queries.{union_more, nested_query}
-use Rattle.span_parser.proofs.query.QueryReader.union_rest.Given as goal
+use Rattle.span_querytext.proofs.query.QueryReader.union_rest.Given as goal
 
 abbrev pub invariant-loop-rest : goal.invariant-loop-rest
 invariant-loop-rest g l = each_read (union_more l.self.text l.self.left (nested_query l.self.text l.self.left)).read part.UnionMore l.found l.rest ≡ each_read (union_more l.fn.self.text l.fn.self.left (nested_query l.fn.self.text l.fn.self.left)).read part.UnionMore [] l.fn.tokens
