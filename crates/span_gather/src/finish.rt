@@ -5,10 +5,10 @@ ghost use Rattle.span_groups.specs.Parts.{all_rows};
 ghost use Rattle.span_gather.specs.Gathered.{joined_pieces, gathered};
 
 use super::rows::Rows;
-use span_groups::part_rows::PartRows;
 use span_algebra::plain::eval_plain;
 use span_algebra::source::Tables;
 use span_fragment::piece::Piece;
+use span_groups::part_rows::PartRows;
 use span_query::query::BoundQuery;
 use span_value::refusal::Refusal;
 use span_value::seq::Seq;
