@@ -67,8 +67,8 @@ parts R p r l = filter p (filter (λ x. is_lt (R x r)) l) ++ filter p (filter (�
 abbrev AllBefore : {X : Type 0} → (X → X → Ordering) → X → List X → Type 0
 AllBefore R r l = AllByRecursion (λ x. R x r ≡ Less) l
 
-abbrev AllBehind : {X : Type 0} → (X → X → Ordering) → X → List X → Type 0
-AllBehind R r l = AllByRecursion (λ y. R r y ≡ Less) l
+abbrev AllAfter : {X : Type 0} → (X → X → Ordering) → X → List X → Type 0
+AllAfter R r l = AllByRecursion (λ y. R r y ≡ Less) l
 
 -- what does not pass leaves no trace where the items are in order
 pub put_lost : {X : Type 0} (R : X → X → Ordering) → IsTotalOrder R → (p : X → Bool) (r : X) → p r ≡ false → ((x : X) → R x r ≡ Equal → p x ≡ false) → (xs : List X) → IsRising R xs
@@ -121,9 +121,9 @@ put_in_order {X} R total r xs sorted =
     backs [] = tt
     backs (x ∷ l) = cases (backs l) (is_gt (R x r)) refl
       where
-        cases : AllBehind R r (filter (λ x. is_gt (R x r)) l) → (b : Bool) → is_gt (R x r) ≡ b → AllBehind R r (filter (λ x. is_gt (R x r)) (x ∷ l))
-        cases again true e = subst (AllBehind R r) (sym (filter_yes (λ x. is_gt (R x r)) x l e)) (total.antisymm r x ∙ ap ordering_reverse (is_greater (R x r) e), again)
-        cases again false e = subst (AllBehind R r) (sym (filter_no (λ x. is_gt (R x r)) x l e)) again
+        cases : AllAfter R r (filter (λ x. is_gt (R x r)) l) → (b : Bool) → is_gt (R x r) ≡ b → AllAfter R r (filter (λ x. is_gt (R x r)) (x ∷ l))
+        cases again true e = subst (AllAfter R r) (sym (filter_yes (λ x. is_gt (R x r)) x l e)) (total.antisymm r x ∙ ap ordering_reverse (is_greater (R x r) e), again)
+        cases again false e = subst (AllAfter R r) (sym (filter_no (λ x. is_gt (R x r)) x l e)) again
 
     through : (x : X) → R x r ≡ Less → (l : List X) → AllByRecursion (λ y. R r y ≡ Less) l → AllByRecursion (λ y. R x y ≡ Less) l
     through x e [] h = tt
