@@ -6,7 +6,7 @@ use Rattle.span_mutate.specs.Typed.{AreTyped}
 use Rattle.span_shard.specs.Shard.{KeyRow}
 use Rattle.span_columns.specs.declared.leaf.Leaf.{Leaf}
 use Rattle.span_columns.specs.Picks.{pick_rows}
-use Rattle.span_planner.specs.Results.{leaf_rows}
+use Rattle.span_leaves.specs.Results.{leaf_rows}
 use Rattle.span_fragment.specs.declared.piece.Piece.{Piece}
 use Rattle.span_rowreader.specs.Meaning.{whole_table}
 use Rattle.span_rowreader.specs.Entries.{key_row}

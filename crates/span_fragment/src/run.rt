@@ -5,7 +5,7 @@ ghost use Rattle.span_schema.specs.Numbers.{IsTable};
 ghost use Rattle.span_query.specs.Rows.{Rows};
 ghost use Rattle.span_rows.specs.Answers.{Gives};
 ghost use Rattle.span_algebra.specs.BlockMeaning.{GroupsTable};
-ghost use Rattle.span_planner.specs.Maskable.{IsMaskable};
+ghost use Rattle.span_leaves.specs.Maskable.{IsMaskable};
 ghost use Rattle.span_rowreader.specs.Entries.{AreNoRows};
 ghost use Rattle.span_tablescan.specs.Given.{IsGivenOn};
 ghost use Rattle.span_fragment.specs.Pieces.{IsPieceOf};

@@ -14,7 +14,7 @@ use Rattle.span_query.specs.declared.query.Statement.{Statement}
 use Rattle.span_query.specs.Rows.{Row}
 use Rattle.span_columns.specs.declared.leaf.Leaf.{Leaf}
 use Rattle.span_columns.specs.declared.leaf.Plan.{Plan}
-use Rattle.span_planner.specs.Maskable.{IsMaskable}
+use Rattle.span_leaves.specs.Maskable.{IsMaskable}
 use Rattle.span_gather.specs.declared.rows.Rows.{Rows as Found}
 use Rattle.span_planner.proofs.MaskableLeaves.{leaves_maskable}
 use Rattle.span_planner.proofs.Tabled.{leaves_tabled}

@@ -23,7 +23,7 @@ use Rattle.span_params.specs.declared.params.Parameter.{Parameter}
 use Rattle.span_query.specs.declared.query.Statement.{Statement}
 use Rattle.span_columns.specs.declared.leaf.Leaf.{Leaf}
 use Rattle.span_columns.specs.declared.leaf.Plan.{Plan}
-use Rattle.span_planner.specs.Leaves.{plan_of}
+use Rattle.span_planner.specs.Plans.{plan_of}
 use Rattle.span_query.specs.Rows.{Row, Rows}
 use Rattle.span_machine.specs.Limits.{most_transactions, most_commits, most_queries, most_slots, number_end}
 use Rattle.span_truetime.specs.Limits.{timestamp_end}

@@ -23,7 +23,7 @@ use Rattle.span_mutate.specs.Typed.{IsTyped}
 use Rattle.span_maderows.specs.Made.{begins_with}
 use Rattle.span_maderows.proofs.Bytes.{begins_front, front_begins}
 use Rattle.span_shard.specs.Rows.{code_of}
-use Rattle.span_planner.proofs.Bounding.{fits_type}
+use Rattle.span_leaves.proofs.Bounding.{fits_type}
 use Rattle.span_machine.specs.Slots.{IsCodedRoot, root_code}
 use Rattle.span_machine_laws.proofs.BoundEnds.{below_start, below_end}
 use Rattle.span_machine_laws.proofs.CodedRoots.{first_and_rest, coded_root_of}

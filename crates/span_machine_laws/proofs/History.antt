@@ -22,7 +22,7 @@ use Rattle.span_columns.specs.declared.leaf.Leaf.{Leaf}
 use Rattle.span_columns.specs.declared.leaf.Plan.{Plan}
 use Rattle.span_planner.specs.Plannable.{IsPlannable}
 use Rattle.span_columns.specs.Picks.{pick_rows}
-use Rattle.span_planner.specs.Results.{leaf_rows}
+use Rattle.span_leaves.specs.Results.{leaf_rows}
 use Rattle.span_planner.proofs.Ranged.{IsRanged, leaves_ranged}
 use Rattle.span_machine_laws.proofs.Locality.{apply-database, empty_database}
 use Rattle.span_machine_laws.proofs.PlanLaws.{planned_meaning}

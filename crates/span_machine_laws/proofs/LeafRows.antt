@@ -29,10 +29,10 @@ use Rattle.span_keycode.proofs.PartLaws.{part_within, within_part}
 use Rattle.span_mutate.specs.declared.row.TableRow.{TableRow}
 use Rattle.span_mutate.specs.Typed.{IsTyped}
 use Rattle.span_expr.specs.Operators.{column_of, or_null}
-use Rattle.span_planner.specs.Ranges.{KeyBound, is_of_type, bounded, range_by}
-use Rattle.span_planner.specs.Leaves.{width_of, root_places}
-use Rattle.span_planner.proofs.Bounding.{fits_type, is_in_bounds}
-use Rattle.span_planner.proofs.Cutting.{columns}
+use Rattle.span_leaves.specs.Ranges.{KeyBound, is_of_type, bounded, range_by}
+use Rattle.span_leaves.specs.Leaves.{width_of, root_places}
+use Rattle.span_leaves.proofs.Bounding.{fits_type, is_in_bounds}
+use Rattle.span_leaves.proofs.Cutting.{columns}
 use Rattle.span_machine.specs.Meaning.{value_for, value_at, declared_row, row_within}
 use Rattle.span_machine_laws.proofs.FamilyRows.{root_first, first_within}
 use Rattle.span_machine_laws.proofs.FirstColumns.{first_place, IsOfFamily}

@@ -27,11 +27,11 @@ use Rattle.span_query.specs.Rows.{Row, Rows, ◌>>=◌, append_results, concat_m
 use Rattle.span_shard.specs.Rows.{code_of}
 use Rattle.span_columns.specs.declared.leaf.Leaf.{Leaf}
 use Rattle.span_columns.specs.declared.leaf.LeafJoin.{LeafJoin}
-use Rattle.span_planner.specs.Leaves.{width_of, root_places}
+use Rattle.span_leaves.specs.Leaves.{width_of, root_places}
 use Rattle.span_columns.specs.Picks.{pick_rows}
-use Rattle.span_planner.specs.Results.{join_tables, leaf_rows}
-use Rattle.span_planner.proofs.Picked.{pick_rows-append}
-use Rattle.span_planner.proofs.Cutting.{CutTable, whole_rows, first_rows, second_rows, IsOnSide, AreCut, columns, leaf-cut}
+use Rattle.span_leaves.specs.Results.{join_tables, leaf_rows}
+use Rattle.span_leaves.proofs.Picked.{pick_rows-append}
+use Rattle.span_leaves.proofs.Cutting.{CutTable, whole_rows, first_rows, second_rows, IsOnSide, AreCut, columns, leaf-cut}
 use Rattle.span_planner.proofs.Planned.{AreRooted, IsPlanned}
 use Rattle.span_machine.specs.Meaning.{declared_row, row_within, rows_within, tables_within, leaf_within}
 use Rattle.span_machine_laws.proofs.Ends.{below_as_root}

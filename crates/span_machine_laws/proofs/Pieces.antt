@@ -18,7 +18,7 @@ use Rattle.span_expr.specs.declared.expr.Expr.{Expr}
 use Rattle.span_query.specs.declared.query.Statement.{Statement}
 use Rattle.span_params.specs.declared.params.Parameter.{Parameter}
 use Rattle.span_columns.specs.declared.leaf.Leaf.{Leaf}
-use Rattle.span_planner.specs.Ranges.{KeyBound, is_of_type, bounds, bounds_by, bounded, narrowed}
+use Rattle.span_leaves.specs.Ranges.{KeyBound, is_of_type, bounds, bounds_by, bounded, narrowed}
 use Rattle.span_planner.proofs.Ranged.{IsRanged, leaves_ranged}
 use Rattle.span_truetime.specs.Time.{timestamp_of}
 use Rattle.span_machine.specs.declared.query.OpenQuery.{OpenQuery}

@@ -15,10 +15,10 @@ use Rattle.span_query.specs.Rows.{Row, Rows}
 use Rattle.span_query.specs.Meaning.{table_rows, meaning_over, given}
 use Rattle.span_columns.specs.declared.leaf.Leaf.{Leaf}
 use Rattle.span_columns.specs.declared.leaf.Plan.{Plan}
-use Rattle.span_planner.specs.Leaves.{table_of}
+use Rattle.span_leaves.specs.Leaves.{table_of}
 use Rattle.span_planner.specs.Plannable.{IsPlannable}
 use Rattle.span_columns.specs.Picks.{pick_rows}
-use Rattle.span_planner.specs.Results.{leaf_rows}
+use Rattle.span_leaves.specs.Results.{leaf_rows}
 use Rattle.span_planner.proofs.Known.{leaves_known}
 use Rattle.span_planner.proofs.Planned.{IsPlanned}
 use Rattle.span_planner.proofs.MaskedPlan.{query_above_picked}

@@ -4,7 +4,7 @@ use Rattle.std.specs.Prelude.{IfSome, MatchOption, Result, Err, find, slice_get,
 use Rattle.std.specs.List.{AllByRecursion}
 use Rattle.span_schema.specs.Numbers.{IsTable}
 use Rattle.span_columns.specs.declared.leaf.Leaf.{Leaf}
-use Rattle.span_planner.specs.Maskable.{IsMaskable}
+use Rattle.span_leaves.specs.Maskable.{IsMaskable}
 use Rattle.std.proofs.lemmas.Bool.Decides.{nat_tests}
 use Rattle.span_value.specs.declared.refusal.Refusal.{Refusal}
 use Rattle.span_value.specs.declared.refusal.Refusal.TheVariants as refusal

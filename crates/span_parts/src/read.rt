@@ -2,7 +2,7 @@
 ghost use Rattle.std.specs.Prelude.{◌≡◌, Err, IfSome, MatchOption, MatchResult};
 ghost use Rattle.std.specs.List.{AllByRecursion};
 ghost use Rattle.span_schema.specs.Numbers.{IsTable};
-ghost use Rattle.span_planner.specs.Maskable.{IsMaskable};
+ghost use Rattle.span_leaves.specs.Maskable.{IsMaskable};
 ghost use Rattle.span_machine.specs.Pieces.{machine_of};
 ghost use Rattle.span_journal.specs.Judged.{leaf_of};
 ghost use Rattle.span_parts.specs.Whole.{IsRead, IsUnread};

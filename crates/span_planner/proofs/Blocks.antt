@@ -20,12 +20,13 @@ use Rattle.span_query.proofs.Layers.{map_item, map_join, map_block}
 use Rattle.span_query.proofs.Results.{bind-assoc, bind-Some}
 use Rattle.span_columns.specs.declared.leaf.LeafJoin.{LeafJoin}
 use Rattle.span_columns.specs.declared.leaf.Leaf.{Leaf}
-use Rattle.span_planner.specs.Conditions.{have_total_ons, where_conjuncts, conjuncts_on}
-use Rattle.span_planner.specs.Leaves.{Planned, table_of, width_of, is_joined, leaf_len, leaf_join, join_table, widths, reads_of, first_leaf, unless_left, join_leaves, rest_leaves, leaves_from, block_leaves, count_leaves, top_join, top_joins, top_from, top_block}
-use Rattle.span_planner.specs.Results.{as_join, join_tables, leaf_rows}
-use Rattle.span_planner.proofs.Joins.{Joined, run_join, run_joins, run_where, AreGiven, AreTotal, AllGiven, all_map}
-use Rattle.span_planner.proofs.Pushing.{is_kept, AreOfWidth, filter_where-all_true, left_out_below}
-use Rattle.span_planner.proofs.Narrowing.{own, are_on, all_total, refused_by, narrowing, Further, narrow_item, narrow, joined_of, IsWide, AreWide, wide_join, wide_filter, narrowed_below, some_of}
+use Rattle.span_leaves.specs.Conditions.{have_total_ons, where_conjuncts, conjuncts_on}
+use Rattle.span_leaves.specs.Leaves.{table_of, width_of, is_joined, leaf_len, leaf_join, join_table, widths, reads_of, first_leaf, unless_left}
+use Rattle.span_planner.specs.Plans.{Planned, join_leaves, rest_leaves, leaves_from, block_leaves, count_leaves, top_join, top_joins, top_from, top_block}
+use Rattle.span_leaves.specs.Results.{as_join, join_tables, leaf_rows}
+use Rattle.span_leaves.proofs.Joins.{Joined, run_join, run_joins, run_where, AreGiven, AreTotal, AllGiven, all_map}
+use Rattle.span_leaves.proofs.Pushing.{is_kept, AreOfWidth, filter_where-all_true, left_out_below}
+use Rattle.span_leaves.proofs.Narrowing.{own, are_on, all_total, refused_by, narrowing, Further, narrow_item, narrow, joined_of, IsWide, AreWide, wide_join, wide_filter, narrowed_below, some_of}
 use Rattle.std.proofs.lemmas.List.{map-append}
 
 bind-same : {A B : Type 0} (o : OrFault A) (g h : A → OrFault B) → ((x : A) → g x ≡ h x) → (o >>= g) ≡ (o >>= h)

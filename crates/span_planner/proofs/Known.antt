@@ -14,7 +14,8 @@ use Rattle.span_query.specs.declared.query.Item.{Item}
 use Rattle.span_query.specs.declared.query.Item.TheVariants as item
 use Rattle.span_query.specs.declared.query.Join.{Join}
 use Rattle.span_query.proofs.Layers.{map_block, map_layer}
-use Rattle.span_planner.specs.Leaves.{Planned, width_of, planned_query, planned}
+use Rattle.span_leaves.specs.Leaves.{width_of}
+use Rattle.span_planner.specs.Plans.{Planned, planned_query, planned}
 use Rattle.span_planner.specs.Sizes.{Shape, is_sized_block, query_shape, shape, is_sized}
 use Rattle.span_planner.proofs.Queries.{layer_twice}
 use Rattle.span_planner.proofs.Planned.{IsPlanned, KnowsItem, KnowsJoin, KnowsBlock, blocks_planned}

@@ -7,15 +7,16 @@ use Rattle.span_query.specs.declared.query.BoundQuery.{BoundQuery}
 use Rattle.span_query.specs.Rows.{Row}
 use Rattle.span_columns.specs.declared.leaf.Leaf.{Leaf}
 use Rattle.span_columns.specs.declared.leaf.LeafJoin.{LeafJoin}
-use Rattle.span_planner.specs.Leaves.{width_of, planned}
-use Rattle.span_planner.specs.Maskable.{AreStated, IsMaskable}
+use Rattle.span_leaves.specs.Leaves.{width_of}
+use Rattle.span_planner.specs.Plans.{planned}
+use Rattle.span_leaves.specs.Maskable.{AreStated, IsMaskable}
 use Rattle.span_columns.specs.Reads.{leaf_widths, reads_own, join_masks}
 use Rattle.span_planner.specs.Sizes.{is_sized}
 use Rattle.span_planner.proofs.Known.{leaves_known}
 use Rattle.span_planner.proofs.MaskedPlan.{AreMaskable, rest_len}
 use Rattle.span_planner.proofs.OwnReads.{leaves_own}
 use Rattle.span_planner.proofs.Planned.{AreRooted, IsPlanned, part_len}
-use Rattle.span_planner.proofs.Pushing.{AreOfWidth}
+use Rattle.span_leaves.proofs.Pushing.{AreOfWidth}
 
 -- ---- leaves of plans
 

@@ -10,11 +10,11 @@ use Rattle.span_expr.proofs.Places.{val-reads}
 use Rattle.span_query.specs.declared.query.Join.{Join}
 use Rattle.span_query.specs.Rows.{Row, OrFault, Rows, ◌>>=◌, append_results, concat_map, keep_if, holds, filter_rows, filter_where}
 use Rattle.span_query.specs.Meaning.{or_unmatched, pairs_of, join_rows}
-use Rattle.span_planner.specs.Masks.{masked}
+use Rattle.span_leaves.specs.Masks.{masked}
 use Rattle.span_columns.specs.Reads.{has_place, reads_within}
-use Rattle.span_planner.proofs.Joins.{all_map}
-use Rattle.span_planner.proofs.Pushing.{AreOfWidth}
-use Rattle.span_planner.proofs.Narrowing.{IsWide}
+use Rattle.span_leaves.proofs.Joins.{all_map}
+use Rattle.span_leaves.proofs.Pushing.{AreOfWidth}
+use Rattle.span_leaves.proofs.Narrowing.{IsWide}
 use Rattle.span_planner.proofs.Widths.{wide_concat_map}
 
 -- ---- a row

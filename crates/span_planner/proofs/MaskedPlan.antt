@@ -11,19 +11,20 @@ use Rattle.span_query.specs.Rows.{Row, Rows, ◌>>=◌, filter_where}
 use Rattle.span_query.specs.Meaning.{given, join_rows, meaning_over}
 use Rattle.span_columns.specs.declared.leaf.Leaf.{Leaf}
 use Rattle.span_columns.specs.declared.leaf.LeafJoin.{LeafJoin}
-use Rattle.span_planner.specs.Leaves.{table_of, width_of, planned}
+use Rattle.span_leaves.specs.Leaves.{table_of, width_of}
+use Rattle.span_planner.specs.Plans.{planned}
 use Rattle.span_columns.specs.Narrow.{narrowed}
 use Rattle.span_columns.specs.Picks.{pick_rows}
 use Rattle.span_columns.specs.Reads.{leaf_widths, masks_of, is_within, join_masks}
-use Rattle.span_planner.specs.Results.{as_join, join_tables, leaf_rows}
+use Rattle.span_leaves.specs.Results.{as_join, join_tables, leaf_rows}
 use Rattle.span_planner.specs.Sizes.{is_sized}
 use Rattle.span_planner.proofs.Blocks.{AgreesAt}
 use Rattle.span_planner.proofs.Known.{leaves_known}
 use Rattle.span_planner.proofs.Masked.{wide_filter_where, wide_join_rows}
 use Rattle.span_planner.proofs.PickedAbove.{above_picked}
-use Rattle.span_planner.proofs.Narrowing.{IsWide}
+use Rattle.span_leaves.proofs.Narrowing.{IsWide}
 use Rattle.span_planner.proofs.Planned.{AreRooted, IsPlanned}
-use Rattle.span_planner.proofs.Pushing.{AreOfWidth}
+use Rattle.span_leaves.proofs.Pushing.{AreOfWidth}
 use Rattle.span_planner.proofs.Queries.{query_above}
 use Rattle.span_planner.proofs.ReadAbove.{MasksAt, top_within}
 

@@ -14,9 +14,9 @@ use Rattle.span_query.specs.declared.query.BoundQuery.TheViews.{out-BoundQuery}
 use Rattle.span_query.specs.declared.query.Block.{Block}
 use Rattle.span_query.specs.Layers.{map_join, map_block}
 use Rattle.span_query.proofs.Layers.{layer_mapped}
-use Rattle.span_planner.specs.Numbered.{is_number, numbered_join, numbered_block, numbered_query, is_numbered, is_numbered_item, is_numbered_block, are_numbered_blocks}
-use Rattle.span_planner.specs.Leaves.{table_of}
-use Rattle.span_planner.proofs.Loops.{list_all-map}
+use Rattle.span_leaves.specs.Numbered.{is_number, numbered_join, numbered_block, numbered_query, is_numbered, is_numbered_item, is_numbered_block, are_numbered_blocks}
+use Rattle.span_leaves.specs.Leaves.{table_of}
+use Rattle.span_leaves.proofs.Loops.{list_all-map}
 
 module _ (tables : List ℕ) where
   abbrev test : BoundQuery → Bool

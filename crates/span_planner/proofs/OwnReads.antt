@@ -21,11 +21,12 @@ use Rattle.span_query.specs.declared.query.Item.TheVariants as item
 use Rattle.span_query.specs.declared.query.Join.{Join}
 use Rattle.span_query.proofs.Layers.{map_item, map_join, map_block, map_layer}
 use Rattle.span_columns.specs.declared.leaf.Leaf.{Leaf}
-use Rattle.span_planner.specs.Conditions.{have_total_ons, where_conjuncts, pushable, conjuncts_on}
-use Rattle.span_planner.specs.Leaves.{Planned, table_of, width_of, widths, leaf_len, leaf_join, first_filter, reads_of, unless_left, join_leaves, rest_leaves, leaves_from, block_leaves, planned_query, planned}
+use Rattle.span_leaves.specs.Conditions.{have_total_ons, where_conjuncts, pushable, conjuncts_on}
+use Rattle.span_leaves.specs.Leaves.{table_of, width_of, widths, leaf_len, leaf_join, first_filter, reads_of, unless_left}
+use Rattle.span_planner.specs.Plans.{Planned, join_leaves, rest_leaves, leaves_from, block_leaves, planned_query, planned}
 use Rattle.span_columns.specs.Reads.{has_place, is_not, condition_reads, on_reads, selection_reads, leaf_on_reads, reads_own}
 use Rattle.span_planner.proofs.Queries.{layer_twice}
-use Rattle.span_planner.proofs.Reading.{expr_by, covered}
+use Rattle.span_leaves.proofs.Reading.{expr_by, covered}
 
 -- ---- lists
 

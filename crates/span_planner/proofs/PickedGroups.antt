@@ -15,14 +15,14 @@ use Rattle.span_query.specs.declared.query.Grouping.{Grouping}
 use Rattle.span_query.specs.Rows.{Row, OrFault, Rows, ◌>>=◌, value_of, singleton, each, values, project_rows, filter_where}
 use Rattle.span_query.specs.Groups.{are_equal, distinct, columns_at, group_keys, rows_with, operands, without_nulls, of_values, aggregate, group_row, groups, group_rows}
 use Rattle.span_query.proofs.Results.{concat_map-same}
-use Rattle.span_planner.proofs.Joins.{all_map}
-use Rattle.span_planner.proofs.Pushing.{AreOfWidth}
-use Rattle.span_planner.proofs.Narrowing.{wide_filter}
+use Rattle.span_leaves.proofs.Joins.{all_map}
+use Rattle.span_leaves.proofs.Pushing.{AreOfWidth}
+use Rattle.span_leaves.proofs.Narrowing.{wide_filter}
 use Rattle.span_columns.specs.Reads.{has_place, reads_within, aggregate_reads, selection_reads}
 use Rattle.span_planner.proofs.Masked.{concat_map-unmasked}
 use Rattle.span_columns.specs.Picks.{picked}
 use Rattle.span_columns.specs.Narrow.{moved_aggregate, moved_grouping, moved_outputs}
-use Rattle.span_planner.proofs.Picked.{Agrees, val-picked}
+use Rattle.span_leaves.proofs.Picked.{Agrees, val-picked}
 
 -- what holds of all items holds of those of a list
 everywhere : {A : Type 0} (P : A → Type 0) → ((x : A) → P x) → (xs : List A) → AllByRecursion P xs

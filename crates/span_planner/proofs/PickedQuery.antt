@@ -23,15 +23,15 @@ use Rattle.span_query.specs.Sorting.{sorted}
 use Rattle.span_query.specs.Meaning.{item_rows, join_rows, join_next, from, distinct_if, block_rows, limit_rows, query_rows, meaning_over}
 use Rattle.span_query.proofs.Layers.{map_item, map_join, map_block, map_layer, layer_mapped}
 use Rattle.span_query.proofs.Results.{append-nil}
-use Rattle.span_planner.proofs.Pushing.{AreOfWidth}
-use Rattle.span_planner.proofs.Narrowing.{IsWide}
+use Rattle.span_leaves.proofs.Pushing.{AreOfWidth}
+use Rattle.span_leaves.proofs.Narrowing.{IsWide}
 use Rattle.span_planner.proofs.Widths.{wide_query}
 use Rattle.span_planner.proofs.Queries.{layer_twice}
 use Rattle.span_columns.specs.Reads.{has_place, reads_within, condition_reads, on_reads, selection_reads, block_reads, Reading, item_mask, join_mask, from_mask, item_within, join_within, block_within, query_reading, reading, is_within}
 use Rattle.span_planner.proofs.Masked.{wide_filter_where, wide_join_rows}
 use Rattle.span_columns.specs.Picks.{picked, picked_width, pick_rows}
 use Rattle.span_columns.specs.Narrow.{moved_grouping, moved_outputs, NarrowQuery, item_columns, join_columns, from_columns, narrow_join, narrow_with, narrow_block, narrow_layer, narrow, narrowed}
-use Rattle.span_planner.proofs.Picked.{Agrees, agrees, IsNarrowJoin, picked-all, filter_where-picked, join_rows-picked}
+use Rattle.span_leaves.proofs.Picked.{Agrees, agrees, IsNarrowJoin, picked-all, filter_where-picked, join_rows-picked}
 use Rattle.span_planner.proofs.PickedGroups.{selection-picked}
 
 -- all columns are read

@@ -18,10 +18,11 @@ use Rattle.span_query.specs.Meaning.{item_rows, block_rows, limit_rows, query_ro
 use Rattle.span_query.specs.Sorting.{sorted}
 use Rattle.span_query.proofs.Layers.{map_item, map_join, map_block, map_layer, layer_mapped}
 use Rattle.span_columns.specs.declared.leaf.Leaf.{Leaf}
-use Rattle.span_planner.specs.Leaves.{Planned, table_of, width_of, block_leaves, top_block, top_blocks, planned_query, planned}
+use Rattle.span_leaves.specs.Leaves.{table_of, width_of}
+use Rattle.span_planner.specs.Plans.{Planned, block_leaves, top_block, top_blocks, planned_query, planned}
 use Rattle.span_planner.specs.Sizes.{Shape, item_shape, is_sized_join, is_sized_block, query_shape, shape, is_sized}
-use Rattle.span_planner.proofs.Pushing.{AreOfWidth}
-use Rattle.span_planner.proofs.Narrowing.{IsWide, AreWide}
+use Rattle.span_leaves.proofs.Pushing.{AreOfWidth}
+use Rattle.span_leaves.proofs.Narrowing.{IsWide, AreWide}
 use Rattle.span_planner.proofs.Blocks.{AgreesAt, agrees_front, agrees_rest, KeepsItem, KeepsJoin, further, IsSizedFirst, block_above}
 use Rattle.span_planner.proofs.Widths.{wide_query}
 

@@ -14,9 +14,10 @@ use Rattle.span_query.specs.declared.query.Item.TheVariants as item
 use Rattle.span_query.specs.declared.query.Join.{Join}
 use Rattle.span_query.proofs.Layers.{map_item, map_join, map_block, map_layer}
 use Rattle.span_columns.specs.declared.leaf.Leaf.{Leaf}
-use Rattle.span_planner.specs.Conditions.{pushable}
-use Rattle.span_planner.specs.Ranges.{leaf_range}
-use Rattle.span_planner.specs.Leaves.{Planned, table_of, width_of, widths, reads_of, leaf_len, unless_left, join_leaves, rest_leaves, leaves_from, block_leaves, planned_query, planned}
+use Rattle.span_leaves.specs.Conditions.{pushable}
+use Rattle.span_leaves.specs.Ranges.{leaf_range}
+use Rattle.span_leaves.specs.Leaves.{table_of, width_of, widths, reads_of, leaf_len, unless_left}
+use Rattle.span_planner.specs.Plans.{Planned, join_leaves, rest_leaves, leaves_from, block_leaves, planned_query, planned}
 use Rattle.span_planner.proofs.Queries.{layer_twice}
 
 -- the range is that of a table, whose columns begin at a place, by conditions

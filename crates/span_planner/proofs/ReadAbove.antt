@@ -18,14 +18,15 @@ use Rattle.span_query.specs.declared.query.Item.TheVariants as item
 use Rattle.span_query.specs.declared.query.Join.{Join}
 use Rattle.span_query.proofs.Layers.{map_item, map_join, map_block, map_layer, layer_mapped}
 use Rattle.span_columns.specs.declared.leaf.Leaf.{Leaf}
-use Rattle.span_planner.specs.Conditions.{pushable}
-use Rattle.span_planner.specs.Leaves.{Planned, table_of, width_of, leaf_len, widths, reads_of, join_leaves, rest_leaves, leaves_from, block_leaves, top_item, count_leaves, top_joins, filter_above, top_from, top_block, top_blocks, planned_query, planned}
+use Rattle.span_leaves.specs.Conditions.{pushable}
+use Rattle.span_leaves.specs.Leaves.{table_of, width_of, leaf_len, widths, reads_of}
+use Rattle.span_planner.specs.Plans.{Planned, join_leaves, rest_leaves, leaves_from, block_leaves, top_item, count_leaves, top_joins, filter_above, top_from, top_block, top_blocks, planned_query, planned}
 use Rattle.span_columns.specs.Reads.{has_place, condition_reads, on_reads, selection_reads, block_reads, Reading, item_mask, join_mask, from_mask, item_within, join_within, block_within, query_reading, reading, is_within}
 use Rattle.span_planner.specs.Sizes.{Shape, item_shape, is_sized_join, is_sized_block, query_shape, shape, is_sized}
-use Rattle.span_planner.proofs.Extents.{all_dropped}
+use Rattle.span_leaves.proofs.Extents.{all_dropped}
 use Rattle.span_planner.proofs.Planned.{part_len, widths_split, reads_of_len}
 use Rattle.span_planner.proofs.Queries.{layer_twice}
-use Rattle.span_planner.proofs.Reading.{Covers, covers_part, covers_all, drop_more, covered}
+use Rattle.span_leaves.proofs.Reading.{Covers, covers_part, covers_all, drop_more, covered}
 
 is_itself : (n k : ℕ) → n ≡ k → (n == k) ≡ true
 is_itself n k same = grind (arith, nat_tests)

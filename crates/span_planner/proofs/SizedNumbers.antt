@@ -12,7 +12,7 @@ use Rattle.span_query.specs.declared.query.Item.{Item}
 use Rattle.span_query.specs.declared.query.Item.TheVariants as item
 use Rattle.span_query.specs.declared.query.Join.{Join}
 use Rattle.span_query.proofs.Layers.{map_item, map_join, map_block, map_layer}
-use Rattle.span_planner.specs.Numbered.{numbered_item, numbered_join, numbered_block, numbered_query, is_numbered}
+use Rattle.span_leaves.specs.Numbered.{numbered_item, numbered_join, numbered_block, numbered_query, is_numbered}
 use Rattle.span_planner.specs.Sizes.{Shape, item_shape, is_sized_join, is_sized_block, query_shape, shape, is_sized}
 use Rattle.span_planner.proofs.Queries.{layer_twice}
 

@@ -16,8 +16,9 @@ use Rattle.span_query.specs.declared.query.Item.TheVariants as item
 use Rattle.span_query.specs.declared.query.Join.{Join}
 use Rattle.span_query.proofs.Layers.{map_item, map_join, map_block, map_layer}
 use Rattle.span_columns.specs.declared.leaf.Leaf.{Leaf}
-use Rattle.span_planner.specs.Conditions.{pushable}
-use Rattle.span_planner.specs.Leaves.{Planned, table_of, width_of, widths, reads_of, is_joined_table, leaf_len, join_table, join_leaves, rest_leaves, leaves_from, block_leaves, planned_query, planned}
+use Rattle.span_leaves.specs.Conditions.{pushable}
+use Rattle.span_leaves.specs.Leaves.{table_of, width_of, widths, reads_of, is_joined_table, leaf_len, join_table}
+use Rattle.span_planner.specs.Plans.{Planned, join_leaves, rest_leaves, leaves_from, block_leaves, planned_query, planned}
 use Rattle.span_planner.specs.Sizes.{Shape, item_shape, is_sized_join, is_sized_block, query_shape, shape, is_sized}
 use Rattle.span_planner.proofs.Numbering.{table_is}
 use Rattle.span_planner.proofs.Queries.{layer_twice}

@@ -12,9 +12,9 @@ use Rattle.span_query.specs.Rows.{Row, OrFault, Rows, ◌>>=◌, value_of, singl
 use Rattle.span_query.specs.Groups.{are_equal, distinct, group_rows}
 use Rattle.span_query.specs.Sorting.{comes_before, insert_sorted, insertion_sort, sorted}
 use Rattle.span_query.specs.Meaning.{from, distinct_if, block_rows, limit_rows, query_rows}
-use Rattle.span_planner.proofs.Joins.{all_map, all_append}
-use Rattle.span_planner.proofs.Pushing.{AreOfWidth}
-use Rattle.span_planner.proofs.Narrowing.{IsWide, wide_filter}
+use Rattle.span_leaves.proofs.Joins.{all_map, all_append}
+use Rattle.span_leaves.proofs.Pushing.{AreOfWidth}
+use Rattle.span_leaves.proofs.Narrowing.{IsWide, wide_filter}
 
 wide_append : (n : ℕ) (a b : Rows) → IsWide n a → IsWide n b → IsWide n (append_results a b)
 wide_append n (Some xs) (Some ys) p q = all_append (λ (r : Row). length r ≡ n) xs ys p q

@@ -1,9 +1,3 @@
-pub mod Conditions
-pub mod Ranges
-pub mod Leaves
-pub mod Results
+pub mod Plans
 pub mod Sizes
 pub mod Plannable
-pub mod Numbered
-pub mod Masks
-pub mod Maskable

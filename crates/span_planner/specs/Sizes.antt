@@ -9,8 +9,8 @@ use Rattle.span_query.specs.declared.query.Block.{Block}
 use Rattle.span_query.specs.declared.query.Item.{Item}
 use Rattle.span_query.specs.declared.query.Item.TheVariants as item
 use Rattle.span_query.specs.declared.query.Join.{Join}
-use Rattle.span_planner.specs.Leaves.{table_of, width_of}
-use Rattle.span_planner.specs.Numbered.{is_number}
+use Rattle.span_leaves.specs.Leaves.{table_of, width_of}
+use Rattle.span_leaves.specs.Numbered.{is_number}
 
 -- the number of columns of a query, and whether the sizes in it are right
 pub record Shape : Type 0 where

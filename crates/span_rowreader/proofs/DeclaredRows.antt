@@ -17,8 +17,8 @@ use Rattle.span_keycode.proofs.LevelLaws.{fit_length, path_root}
 use Rattle.span_mutate.specs.declared.row.TableRow.{TableRow}
 use Rattle.span_mutate.specs.Typed.{IsTyped}
 use Rattle.span_expr.specs.Operators.{column_of, or_null}
-use Rattle.span_planner.specs.Leaves.{width_of, root_places}
-use Rattle.span_planner.proofs.Cutting.{columns}
+use Rattle.span_leaves.specs.Leaves.{width_of, root_places}
+use Rattle.span_leaves.proofs.Cutting.{columns}
 use Rattle.span_rowreader.specs.Meaning.{value_for, value_at, declared_row}
 use Rattle.span_rowreader.proofs.KeyPlaces.{ArePlacesApart, has_key_columns, keyed, root_key_of}
 

@@ -17,8 +17,8 @@ use Rattle.span_schema.specs.Lineages.{MeetsRules}
 use Rattle.span_schema.specs.Numbers.{columns_of, key_in, table_at, key_places, other_places, other_kinds}
 use Rattle.span_mutate.specs.declared.row.TableRow.{TableRow}
 use Rattle.span_mutate.specs.Typed.{IsTyped}
-use Rattle.span_planner.specs.Leaves.{width_of}
-use Rattle.span_planner.specs.Masks.{masked}
+use Rattle.span_leaves.specs.Leaves.{width_of}
+use Rattle.span_leaves.specs.Masks.{masked}
 use Rattle.span_rowreader.specs.Meaning.{value_for, value_at, declared_row}
 use Rattle.span_rowreader.specs.Placed.{is_wanted, put, placed}
 use Rattle.span_rowreader.proofs.KeyPlaces.{ArePlacesApart, has_key_columns}

@@ -9,9 +9,9 @@ use Rattle.span_schema.specs.Numbers.{key_places, other_places}
 use Rattle.span_mutate.specs.declared.row.TableRow.{TableRow}
 use Rattle.span_mutate.specs.Typed.{IsTyped}
 use Rattle.span_expr.specs.Places.{rank}
-use Rattle.span_planner.specs.Leaves.{width_of}
+use Rattle.span_leaves.specs.Leaves.{width_of}
 use Rattle.span_columns.specs.Picks.{picked, picked_width}
-use Rattle.span_planner.proofs.Picked.{picked-masked}
+use Rattle.span_leaves.proofs.Picked.{picked-masked}
 use Rattle.span_rowreader.specs.Meaning.{declared_row}
 use Rattle.span_rowreader.specs.Placed.{is_wanted, put, placed}
 use Rattle.span_rowreader.specs.Readers.{target}

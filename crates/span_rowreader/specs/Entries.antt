@@ -7,7 +7,7 @@ use Rattle.span_mutate.specs.Typed.{IsTyped, AreTyped}
 use Rattle.span_shard.specs.Rows.{code_of}
 use Rattle.span_shard.specs.Shard.{KeyRow}
 use Rattle.span_query.specs.Rows.{Row}
-use Rattle.span_planner.specs.Leaves.{width_of}
+use Rattle.span_leaves.specs.Leaves.{width_of}
 use Rattle.span_columns.specs.Picks.{picked}
 use Rattle.span_rowreader.specs.Meaning.{whole_table}
 

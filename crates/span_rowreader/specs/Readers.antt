@@ -8,7 +8,7 @@ use Rattle.span_mutate.specs.declared.row.TableRow.{TableRow}
 use Rattle.span_mutate.specs.Typed.{IsTyped}
 use Rattle.span_shard.specs.Rows.{code_of}
 use Rattle.span_expr.specs.Places.{rank}
-use Rattle.span_planner.specs.Leaves.{width_of}
+use Rattle.span_leaves.specs.Leaves.{width_of}
 use Rattle.span_columns.specs.Picks.{picked, picked_width}
 use Rattle.span_rowreader.specs.declared.reader.TableReader.{TableReader}
 use Rattle.span_rowreader.specs.Meaning.{declared_row}

@@ -2,7 +2,7 @@
 ghost use Rattle.std.specs.Prelude.{◌≡◌, ◌≤◌, ◌⊎◌, IfOk, OnOk, MatchResult, drop, length, map, replicate, take, true};
 ghost use Rattle.span_value.specs.declared.value.Value.TheVariants.{Null};
 ghost use Rattle.span_schema.specs.Numbers.{IsTable};
-ghost use Rattle.span_planner.specs.Leaves.{width_of};
+ghost use Rattle.span_leaves.specs.Leaves.{width_of};
 ghost use Rattle.span_columns.specs.Picks.{picked_width};
 ghost use Rattle.span_rowreader.specs.Entries.{IsWhetherOf};
 ghost use Rattle.span_rowreader.specs.Placed.{IsNoRowOf, wants_none};
@@ -17,7 +17,7 @@ use super::steps::{KeyStep, goes_along, key_steps};
 use super::whole_key::{WholeKey, is_own_by_length, table_by_length};
 use span_columns::narrow::picked_width;
 use span_expr::rank::rank;
-use span_planner::table::width_of;
+use span_leaves::table::width_of;
 use span_schema::schema::Schema;
 use span_value::refusal::Refusal;
 use span_value::seq::Seq;

@@ -25,8 +25,8 @@ use Rattle.span_query.specs.declared.query.OutputColumn.{OutputColumn}
 use Rattle.span_query.specs.declared.query.SortKey.{SortKey as BoundKey}
 use Rattle.span_query.specs.Layers.{map_item, map_join, map_block, map_layer}
 use Rattle.span_query.proofs.Layers.{layer_mapped}
-use Rattle.span_planner.specs.Leaves.{table_of, width_of}
-use Rattle.span_planner.specs.Numbered.{is_number}
+use Rattle.span_leaves.specs.Leaves.{table_of, width_of}
+use Rattle.span_leaves.specs.Numbered.{is_number}
 use Rattle.span_planner.specs.Sizes.{Shape, item_shape, is_sized_join, is_sized_block, query_shape, shape, is_sized}
 use Rattle.span_params.specs.declared.params.Parameter.{Parameter}
 use Rattle.span_blocks.specs.declared.bound.Source.{Source}

@@ -32,12 +32,12 @@ use Rattle.span_rows.specs.Answers.{Gives, Adds}
 use Rattle.span_rows.proofs.Gathering.{nil-append_results, one_adds, one_fails, adding-fails}
 use Rattle.span_columns.specs.declared.leaf.Leaf.{Leaf}
 use Rattle.span_columns.specs.declared.leaf.LeafJoin.{LeafJoin}
-use Rattle.span_planner.specs.Leaves.{width_of}
-use Rattle.span_planner.specs.Maskable.{IsMaskable}
+use Rattle.span_leaves.specs.Leaves.{width_of}
+use Rattle.span_leaves.specs.Maskable.{IsMaskable}
 use Rattle.span_columns.specs.Picks.{picked, pick_rows}
 use Rattle.span_columns.specs.Reads.{has_place, reads_within, condition_reads, leaf_widths, leaf_on_reads, leaf_reads}
-use Rattle.span_planner.specs.Results.{join_tables, leaf_rows}
-use Rattle.span_planner.proofs.Picked.{Agrees, agrees, val-picked, pick_rows-append}
+use Rattle.span_leaves.specs.Results.{join_tables, leaf_rows}
+use Rattle.span_leaves.proofs.Picked.{Agrees, agrees, val-picked, pick_rows-append}
 use Rattle.span_rowreader.specs.Meaning.{declared_row, whole_table}
 use Rattle.span_rowreader.specs.Entries.{key_row, AreNoRows, IsWhetherOf}
 use Rattle.span_tablescan.specs.Given.{picked_given, IsGivenOn}

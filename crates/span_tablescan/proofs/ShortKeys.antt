@@ -17,7 +17,7 @@ use Rattle.span_query.specs.Rows.{Row, Rows}
 use Rattle.span_rows.specs.Answers.{Gives}
 use Rattle.span_columns.specs.declared.leaf.Leaf.{Leaf}
 use Rattle.span_columns.specs.Picks.{pick_rows}
-use Rattle.span_planner.specs.Results.{leaf_rows}
+use Rattle.span_leaves.specs.Results.{leaf_rows}
 use Rattle.span_rowreader.specs.Meaning.{declared_row, whole_table}
 use Rattle.span_rowreader.specs.Entries.{key_row, AreNoRows}
 use Rattle.span_tablescan.specs.Given.{picked_given, IsGivenOn}

@@ -21,7 +21,7 @@ use Rattle.span_expr.specs.declared.condition.Condition.TheVariants as condition
 use Rattle.span_expr.specs.Meaning.{and_also, val}
 use Rattle.span_expr.specs.Operators.{compare_values, holds}
 use Rattle.span_expr.specs.Outcomes.{both, condition_of, strict, truth_of}
-use Rattle.span_planner.specs.Leaves.{width_of}
+use Rattle.span_leaves.specs.Leaves.{width_of}
 use Rattle.span_tablescan.specs.declared.number_test.NumberTest.{NumberTest}
 use Rattle.span_rowreader.specs.Meaning.{declared_row}
 

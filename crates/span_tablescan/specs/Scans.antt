@@ -12,7 +12,7 @@ use Rattle.span_expr.specs.declared.expr.Expr.{Expr}
 use Rattle.span_expr.specs.Places.{moved, rank}
 use Rattle.span_query.specs.Rows.{Row, OrFault, Rows, ◌>>=◌, keep_if, holds}
 use Rattle.span_rows.specs.Answers.{Adds}
-use Rattle.span_planner.specs.Leaves.{width_of}
+use Rattle.span_leaves.specs.Leaves.{width_of}
 use Rattle.span_columns.specs.Picks.{picked}
 use Rattle.span_columns.specs.Reads.{reads_within}
 use Rattle.span_tablescan.specs.declared.number_test.NumberTest.{NumberTest}

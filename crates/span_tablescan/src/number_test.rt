@@ -12,7 +12,7 @@ ghost use Rattle.span_tablescan.specs.NumberTests as spec;
 ghost use Rattle.span_tablescan.specs.NumberTests.{AddsNeeded, AddsTests, AreMoreTests, AreNeededFor, AreSomeTests, AreTestsOf, IsNumberAt, IsNumberCell, IsNumberFound, IsRestOf, IsWhetherPass, between_at, comparison_at, condition_at};
 
 use span_expr::expr::{Comparison, Expr};
-use span_planner::table::width_of;
+use span_leaves::table::width_of;
 use span_rowcode::cell::{after, skip_cell};
 use span_rowcode::pack::MOST_BYTES;
 use span_schema::schema::Schema;

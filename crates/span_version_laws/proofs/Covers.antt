@@ -21,10 +21,10 @@ use Rattle.span_query.specs.declared.query.Statement.{Statement}
 use Rattle.span_query.specs.Rows.{Row, Rows, append_results, concat_map}
 use Rattle.span_query.specs.Meaning.{meaning_over, given}
 use Rattle.span_columns.specs.declared.leaf.Leaf.{Leaf}
-use Rattle.span_planner.specs.Maskable.{IsMaskable}
+use Rattle.span_leaves.specs.Maskable.{IsMaskable}
 use Rattle.span_planner.specs.Plannable.{IsPlannable}
 use Rattle.span_columns.specs.Picks.{pick_rows}
-use Rattle.span_planner.specs.Results.{leaf_rows}
+use Rattle.span_leaves.specs.Results.{leaf_rows}
 use Rattle.span_planner.proofs.MaskableLeaves.{leaves_maskable}
 use Rattle.span_planner.proofs.Planned.{IsPlanned}
 use Rattle.span_planner.proofs.Tabled.{leaves_tabled}

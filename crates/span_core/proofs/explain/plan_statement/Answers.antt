@@ -1,5 +1,5 @@
 use Rattle.std.proofs.Common.{◌≡◌, ℕ, List, IfOk, ap, subst}
-use Rattle.span_planner.specs.Leaves.{plan_of}
+use Rattle.span_planner.specs.Plans.{plan_of}
 use Rattle.span_columns.specs.declared.leaf.Plan.{Plan}
 use Rattle.span_core.proofs.explain.plan_statement.Goals as goal
 

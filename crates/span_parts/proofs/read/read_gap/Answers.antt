@@ -3,7 +3,7 @@ use Rattle.std.specs.Prelude.{IfSome, Option}
 use Rattle.std.specs.List.{AllByRecursion}
 use Rattle.span_schema.specs.Numbers.{IsTable}
 use Rattle.span_columns.specs.declared.leaf.Leaf.{Leaf}
-use Rattle.span_planner.specs.Maskable.{IsMaskable}
+use Rattle.span_leaves.specs.Maskable.{IsMaskable}
 use Rattle.span_parts.proofs.read.read_gap.Goals as goal
 
 pub read_leaf-requires-clause-tables : goal.read_leaf-requires-clause-tables

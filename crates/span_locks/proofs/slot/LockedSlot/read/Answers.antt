@@ -2,7 +2,7 @@ use Rattle.std.proofs.Common.{List, sym, subst}
 use Rattle.std.specs.List.{AllByRecursion}
 use Rattle.span_schema.specs.declared.table.Table.{Table}
 use Rattle.span_schema.specs.Numbers.{IsTable}
-use Rattle.span_planner.specs.Maskable.{IsMaskable}
+use Rattle.span_leaves.specs.Maskable.{IsMaskable}
 use Rattle.span_locks.proofs.Held.{leaf_tables, leaf_maskable}
 use Rattle.span_locks.proofs.slot.LockedSlot.read.Goals as goal
 

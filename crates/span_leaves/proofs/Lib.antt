@@ -1,0 +1,12 @@
+pub mod Joins
+pub mod Pushing
+pub mod Narrowing
+pub mod Cutting
+pub mod Bounding
+pub mod Narrowed
+pub mod Loops
+pub mod Ranging
+pub mod Extents
+pub mod Reading
+pub mod Picked
+pub mod OwnChecks
