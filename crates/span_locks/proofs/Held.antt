@@ -38,11 +38,11 @@ use Rattle.span_parts.specs.Whole.{Shards, IsWhole, BelongsAt, GoesWith, GoesAt,
 use Rattle.span_parts.proofs.Passing.{IsPassed}
 use Rattle.span_parts.proofs.Scanning.{piece_of}
 use Rattle.span_parts.proofs.Wholes.{start_whole}
-use Rattle.span_locks.specs.declared.begun.Begun.{Begun}
-use Rattle.span_locks.specs.declared.board.Role.{Role}
-use Rattle.span_locks.specs.declared.board.Role.TheVariants.{Keeper}
-use Rattle.span_locks.specs.Known.{kept, grown, restated}
-use Rattle.span_locks.specs.Rule.{known_at, nothing_known}
+use Rattle.span_board.specs.declared.begun.Begun.{Begun}
+use Rattle.span_board.specs.declared.board.Role.{Role}
+use Rattle.span_board.specs.declared.board.Role.TheVariants.{Keeper}
+use Rattle.span_board.specs.Known.{kept, grown, restated}
+use Rattle.span_board.specs.Rule.{known_at, nothing_known}
 use Rattle.span_locks.specs.Answers.{IsAnswered, IsPlanOf, IsLeafOf}
 use Rattle.span_locks.specs.Refusing.{IsFault}
 use Rattle.span_locks.specs.Held.{IsUnderstoodAs, IsKeeper}

@@ -1,8 +1,3 @@
-pub mod Owners
-pub mod Steps
-pub mod Meets
-pub mod Stories
-pub mod Opening
 pub mod Held
 pub mod Refusals
 pub mod Replying

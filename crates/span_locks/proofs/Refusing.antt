@@ -21,10 +21,10 @@ use Rattle.span_machine.specs.Pieces.{Journaled, machine_of}
 use Rattle.span_journal.specs.declared.journal.Opened.{Opened}
 use Rattle.span_openqueries.specs.declared.taken.Taken.{Taken}
 use Rattle.span_parts.specs.Replies.{as_reply, opened_reply}
-use Rattle.span_locks.specs.declared.board.Role.{Role}
+use Rattle.span_board.specs.declared.board.Role.{Role}
 use Rattle.span_locks.specs.Held.{IsKeeper}
-use Rattle.span_locks.specs.Known.{Known}
-use Rattle.span_locks.specs.Rule.{known_at}
+use Rattle.span_board.specs.Known.{Known}
+use Rattle.span_board.specs.Rule.{known_at}
 use Rattle.span_locks.specs.Replies.{MayReply, IsAmong}
 use Rattle.span_locks.specs.Refusing.{IsUnopened, IsUnscanned, IsEndRefused, IsFault, IsFaultOf, IsUnfinished, IsRefusedAtFirst, IsQueryRefusal}
 use Rattle.span_locks.proofs.Refusals.{refused_same}

@@ -25,11 +25,11 @@ use Rattle.span_parts.specs.Replies.{as_reply, decision_reply}
 use Rattle.span_parts.specs.Whole.{IsWhole, BelongsAt, GoesAt}
 use Rattle.span_parts.proofs.Applying.{live_here}
 use Rattle.span_parts.proofs.Changes.{set_there}
-use Rattle.span_locks.specs.declared.begun.Begun.{Begun}
-use Rattle.span_locks.specs.declared.board.Role.{Role}
+use Rattle.span_board.specs.declared.begun.Begun.{Begun}
+use Rattle.span_board.specs.declared.board.Role.{Role}
 use Rattle.span_locks.specs.Held.{IsKeeper}
-use Rattle.span_locks.specs.Known.{Known}
-use Rattle.span_locks.specs.Rule.{SessionHistory, IsBegunAt, known_at}
+use Rattle.span_board.specs.Known.{Known}
+use Rattle.span_board.specs.Rule.{SessionHistory, IsBegunAt, known_at}
 use Rattle.span_locks.specs.Replies.{IsMachineOf, Replies, MayReply, RepliesOnce, MayReplyOnce, RepliesAt, MayReplyAt, at_slot, RepliesToCommit, RepliesToCommitOnce, RepliesToBegun, RepliesToVerdict, RepliesToDecision, IsBeginRefused, IsPrepareRefused, IsUndecided, IsUncommitted, IsAmong, IsPrepareRefusal, IsCommitRefusal, begin_refusals, apply_refusals, abort_refusals, decide_refusals, split_refusals, trim_refusals, IsErrAmong}
 use Rattle.span_locks.proofs.Refusals.{refused_same, at_slot_cause, advance_refused, advance_floor, trim_refused, split_refused, split_number, cut_within, apply_refused, begin_refused, commit_refused, abort_refused, abort_undecided, prepare_refused}
 

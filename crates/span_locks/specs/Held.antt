@@ -8,9 +8,9 @@ use Rattle.span_binder.specs.Understands.{Understands}
 use Rattle.span_machine.specs.Pieces.{Journaled, machine_of}
 use Rattle.span_parts.specs.Asked.{AreAsked}
 use Rattle.span_parts.specs.Whole.{Shards, IsWhole}
-use Rattle.span_locks.specs.declared.board.Role.{Role}
-use Rattle.span_locks.specs.declared.board.Role.TheVariants.{Keeper}
-use Rattle.span_locks.specs.Rule.{known_at}
+use Rattle.span_board.specs.declared.board.Role.{Role}
+use Rattle.span_board.specs.declared.board.Role.TheVariants.{Keeper}
+use Rattle.span_board.specs.Rule.{known_at}
 
 -- the query text, with these parameters, is understood as this statement
 abbrev pub IsUnderstoodAs : List Table → List ℕ → List Parameter → Statement → Type 0

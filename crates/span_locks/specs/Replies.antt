@@ -1,7 +1,6 @@
 -- What a call answers that takes a step of the journal: the machine's reply to that step, on a machine that the journal may be when its
 -- lock is taken.
-use Rattle.std.specs.Prelude.{◌≡◌, ◌⊎◌, ◌≤◌, ◌<◌, ℕ, Bool, true, false, List, [], ◌∷◌, ◌++◌, find, slice_get, Option, Some, None, Result, Ok, Err}
-use Rattle.std.specs.List.{list_any}
+use Rattle.std.specs.Prelude.{◌≡◌, ◌⊎◌, ℕ, true, List, [], ◌∷◌, ◌++◌, find, Some, Result, Ok, Err}
 use Rattle.span_value.specs.declared.refusal.Refusal.{Refusal}
 use Rattle.span_value.specs.declared.refusal.Refusal.TheVariants.{OutOfMemory, UnknownTransaction, WrongState, Conflict, LogFull, ShardFull, TooEarly, TimestampRange, TransactionTableFull, BadSplit, SplitBusy, NoSlot, TrimTooNew, TrimBackward}
 use Rattle.span_schema.specs.declared.table.Table.{Table}
@@ -14,11 +13,11 @@ use Rattle.span_machine.specs.declared.step.Reply.{Reply}
 use Rattle.span_machine.specs.declared.step.Reply.TheVariants.{Refused}
 use Rattle.span_machine.specs.declared.step.Verdict.{Verdict}
 use Rattle.span_machine.specs.declared.step.Verdict.TheVariants as verdict
-use Rattle.span_machine.specs.Machine.{Machine, Answer, begin, prepare, decide, for_slot, if_some, is_transaction, holds, root_at}
+use Rattle.span_machine.specs.Machine.{Machine, Answer, begin, prepare, decide, for_slot, is_transaction}
 use Rattle.span_machine_laws.proofs.Reached.{IsReached}
 use Rattle.span_parts.specs.Whole.{Shards, AreAllKept}
-use Rattle.span_locks.specs.Known.{Known}
-use Rattle.span_locks.specs.Rule.{SessionHistory, IsBegunAt}
+use Rattle.span_board.specs.Known.{Known}
+use Rattle.span_board.specs.Rule.{SessionHistory, IsBegunAt, HasNotBegun}
 
 -- ---- replies
 
@@ -84,10 +83,6 @@ pub record RepliesToBegun (schema : List Table) (session : SessionHistory) (numb
   pub place : ℕ
   pub at : IsBegunAt session number place
   pub replies : RepliesToCommitOnce schema session.owner number at.begun.mutations interval r
-
--- the session has begun nothing under the number, or what it had begun is decided
-abbrev pub HasNotBegun : SessionHistory → ℕ → Type 0
-HasNotBegun session number = (place : ℕ) → IsBegunAt session number place → ⊥
 
 -- what a decision of what a session has begun under a number is answered by this reading of the clock
 abbrev pub RepliesToVerdict : List Table → SessionHistory → ℕ → Verdict → Interval → Reply → Type 0
@@ -171,23 +166,3 @@ split_refusals = BadSplit ∷ SplitBusy ∷ NoSlot ∷ OutOfMemory ∷ []
 -- why it is not trimmed
 abbrev pub trim_refusals : List Refusal
 trim_refusals = NoSlot ∷ TrimBackward ∷ TrimTooNew ∷ []
-
--- ---- where mutations lie
-
--- mutations of the transaction lie in the slot
-abbrev pub has_mutations : List Table → Machine → ℕ → ℕ → ℕ → Bool
-has_mutations schema m owner txn slot =
-    if_some (find (is_transaction owner txn) m.transactions) false
-    (λ t. if_some (slice_get m.slots slot) false
-    (λ slot_state. list_any (λ mutation. holds schema slot_state (root_at schema mutation)) t.mutations))
-
--- the lowest slot from one on where mutations of the transaction lie
-pub record IsNextSlot (schema : List Table) (m : Machine) (owner txn from slot : ℕ) : Type 0 where
-  pub above : from ≤ slot
-  pub there : has_mutations schema m owner txn slot ≡ true
-  pub lowest : (i : ℕ) → from ≤ i → i < slot → has_mutations schema m owner txn i ≡ false
-
--- that slot, or none
-abbrev pub IsNext : List Table → Machine → ℕ → ℕ → ℕ → Option ℕ → Type 0
-IsNext schema m owner txn from None = (i : ℕ) → from ≤ i → has_mutations schema m owner txn i ≡ false
-IsNext schema m owner txn from (Some slot) = IsNextSlot schema m owner txn from slot

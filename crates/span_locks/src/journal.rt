@@ -16,16 +16,17 @@ ghost use Rattle.span_parts.specs.Replies.{as_reply, decision_reply};
 ghost use Rattle.span_locks.specs.Answers.{IsAnswered};
 ghost use Rattle.span_locks.specs.Refusing.{IsUnscanned, IsFault, IsEndRefused};
 ghost use Rattle.span_locks.specs.Held.{IsKeeper};
-ghost use Rattle.span_locks.specs.Replies.{IsMachineOf, Replies, MayReply, LacksTransaction, RepliesToCommit, IsNext};
-ghost use Rattle.span_locks.specs.Rule.{Extends, Sees, known_at, own_commit, with_begun};
+ghost use Rattle.span_locks.specs.Replies.{IsMachineOf, Replies, MayReply, LacksTransaction, RepliesToCommit};
+ghost use Rattle.span_board.specs.Places.{IsNext};
+ghost use Rattle.span_board.specs.Rule.{Extends, Sees, known_at, own_commit, with_begun};
 
-use crate::begun::Begun;
-use crate::board::{Board, Naming, View};
-use crate::places::next_with_mutations;
-use crate::same::are_same;
-use crate::seats;
-use crate::session::Session;
 use atomic_table::Badge;
+use span_board::begun::Begun;
+use span_board::board::{Board, Naming, View};
+use span_board::places::next_with_mutations;
+use span_board::same::are_same;
+use span_board::seats;
+use span_board::session::Session;
 use span_checking::transaction::Transaction;
 use span_journal::journal::{Gap, Journal, Opened};
 use span_keycode::key::Key;
@@ -52,8 +53,8 @@ pub struct LockedJournal<J: Naming> {
 }
 
 impl<J: Naming> Model for LockedJournal<J> {
-    ghost use Rattle.span_locks.specs.Known.{Known};
-    ghost use Rattle.span_locks.specs.Rule.{known_at};
+    ghost use Rattle.span_board.specs.Known.{Known};
+    ghost use Rattle.span_board.specs.Rule.{known_at};
     ghost use Rattle.span_locks.specs.Held.{IsKeeper};
 
     ghost Value = { Known };

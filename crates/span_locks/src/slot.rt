@@ -11,14 +11,14 @@ ghost use Rattle.span_parts.specs.Whole.{CodesRootKey, IsRead};
 ghost use Rattle.span_locks.specs.Answers.{IsLeafOf};
 ghost use Rattle.span_locks.specs.Refusing.{IsUnscanned};
 ghost use Rattle.span_locks.specs.Replies.{Replies, MayReply, at_slot};
-ghost use Rattle.span_locks.specs.declared.board.Role.TheVariants.{Holder};
+ghost use Rattle.span_board.specs.declared.board.Role.TheVariants.{Holder};
 
-use crate::board::{Board, Naming, Place};
 use crate::journal::LockedJournal;
-use crate::question::is_asked;
-use crate::seats;
 use atomic_table::Badge;
 use span_binder::understand::understanding_is_unique;
+use span_board::board::{Board, Naming, Place};
+use span_board::question::is_asked;
+use span_board::seats;
 use span_columns::leaf::Leaf;
 use span_fragment::piece::Piece;
 use span_fragment::run::LeafUse;
@@ -45,8 +45,8 @@ pub struct LockedSlot<J: Naming> {
 
 impl<J: Naming> Model for LockedSlot<J> {
     ghost use Rattle.std.specs.Prelude.{◌≡◌, [], ◌∷◌};
-    ghost use Rattle.span_locks.specs.Rule.{SlotVersions};
-    ghost use Rattle.span_locks.specs.declared.board.Role.TheVariants.{Holder};
+    ghost use Rattle.span_board.specs.Rule.{SlotVersions};
+    ghost use Rattle.span_board.specs.declared.board.Role.TheVariants.{Holder};
 
     ghost Value = { SlotVersions };
 

@@ -26,10 +26,10 @@ use Rattle.span_transactions.specs.contracts.commit.KeptCommit as KeptCommit
 use Rattle.span_openqueries.specs.contracts.query.KeptQuery as KeptQuery
 use Rattle.span_journal.specs.contracts.journal.Journal as Journal
 use Rattle.atomic_table.proofs.badge.Badge.TheSendSync as of_badge
-use Rattle.span_locks.specs.declared.board.Naming.{Ghosts}
+use Rattle.span_board.specs.declared.board.Naming.{Ghosts}
 use Rattle.span_locks.specs.contracts.journal.LockedJournal as LockedJournal
 use Rattle.span_scans.specs.contracts.locks.Locks as Locks
-use Rattle.span_locks.proofs.board.Board.TheSendSync as of_board
+use Rattle.span_board.proofs.board.Board.TheSendSync as of_board
 use Rattle.span_locks.proofs.slot.LockedSlot.TheSendSync as of_locked_slot
 
 -- ---- expressions and queries

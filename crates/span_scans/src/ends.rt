@@ -7,15 +7,15 @@ ghost use Rattle.span_planner.specs.Plannable.{IsPlannable};
 ghost use Rattle.span_binder.specs.Understands.{Understands};
 ghost use Rattle.span_locks.specs.Answers.{IsAnswered, IsPlanOf};
 ghost use Rattle.span_locks.specs.Refusing.{IsRefusedAtFirst, IsUnopened, IsUnscanned, IsUnfinished, IsFault, IsEndRefused};
-ghost use Rattle.span_locks.specs.Rule.{Sees};
+ghost use Rattle.span_board.specs.Rule.{Sees};
 
 use crate::locks::Locks;
 use crate::question::{copy_question, rows_of, understand_and_plan};
+use span_board::board::Naming;
+use span_board::session::Session;
 use span_columns::leaf::Plan;
 use span_gather::rows::Rows;
 use span_journal::journal::Opened;
-use span_locks::board::Naming;
-use span_locks::session::Session;
 use span_openqueries::taken::Taken;
 use span_params::params::Params;
 use span_query::query::Statement;

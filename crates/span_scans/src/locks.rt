@@ -2,7 +2,7 @@
 ghost use Rattle.std.specs.Prelude.{◌≡◌, ◌≤◌, ◌<◌, Some, MatchResult, length, slice_get};
 ghost use Rattle.span_machine.specs.Limits.{most_slots};
 
-use span_locks::board::{Board, Naming};
+use span_board::board::{Board, Naming};
 use span_locks::journal::LockedJournal;
 use span_locks::slot::LockedSlot;
 use span_value::refusal::Refusal;

@@ -10,10 +10,10 @@ ghost use Rattle.span_locks.specs.Refusing.{IsFaultOf};
 ghost use Rattle.span_locks.specs.Replies.{IsAmong};
 
 use span_binder::understand::understand;
+use span_board::same::are_same;
 use span_columns::leaf::{Leaf, Plan};
 use span_gather::finish::finish as finish_pieces;
 use span_gather::rows::Rows;
-use span_locks::same::are_same;
 use span_openqueries::taken::Taken;
 use span_params::params::Params;
 use span_planner::plan::plan;

@@ -2,7 +2,7 @@
 ghost use Rattle.std.specs.Prelude.{◌≡◌, ◌≢◌, ◌⊎◌, ◌+◌, ◌≤◌, ◌<◌, true, false, Some, None, IfSome, IfErr, MatchOption, MatchResult};
 ghost use Rattle.span_locks.specs.Refusing.{IsUnscanned};
 
-use span_locks::board::Naming;
+use span_board::board::Naming;
 use span_value::refusal::Refusal;
 use std::marker::{Model, PhantomData};
 

@@ -2,9 +2,9 @@
 use denote.RattleType.{RattleType}
 use denote.Param.Send.{IsSend, IsSync, sendable}
 use Rattle.std.proofs.Crossing.{crosses}
-use Rattle.span_locks.specs.declared.board.Naming.{Ghosts}
-use Rattle.span_locks.specs.contracts.session.Session as Session
-use Rattle.span_locks.proofs.session.Session.TheSendSync as of_session
+use Rattle.span_board.specs.declared.board.Naming.{Ghosts}
+use Rattle.span_board.specs.contracts.session.Session as Session
+use Rattle.span_board.proofs.session.Session.TheSendSync as of_session
 use Rattle.span_scans.proofs.Crosses.{locks_sync}
 use Rattle.span_session.specs.contracts.db.Db as Db
 

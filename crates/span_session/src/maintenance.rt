@@ -12,10 +12,10 @@ ghost use Rattle.span_parts.specs.Whole.{CodesRootKey};
 ghost use Rattle.span_locks.specs.Replies.{RepliesOnce, MayReplyOnce, RepliesAt, IsAmong, IsErrAmong, split_refusals, trim_refusals};
 
 use crate::db::Db;
+use span_board::board::Naming;
+use span_board::session::Session;
 use span_checking::root_key::root_key;
 use span_keycode::key::Key;
-use span_locks::board::Naming;
-use span_locks::session::Session;
 use span_truetime::clock::Clock;
 use span_value::refusal::Refusal;
 use span_value::value::Value;

@@ -1,17 +1,17 @@
 //! How a database begins. A result's type can't depend on which table a call has made, so there are two phases: first the table, then
 //! the database and its sessions under a name of that table.
 ghost use Rattle.std.specs.Prelude.{◌≡◌, ◌++◌, ◌∷◌, [], IfOk, length};
-ghost use Rattle.span_locks.specs.declared.places.TheConstants.{SLOTS};
-ghost use Rattle.span_locks.specs.Rule.{newcomers, nothing_known, holders, clients};
-ghost use Rattle.span_locks.specs.declared.board.Role.TheVariants.{Keeper};
+ghost use Rattle.span_board.specs.declared.places.TheConstants.{SLOTS};
+ghost use Rattle.span_board.specs.Rule.{newcomers, nothing_known, holders, clients};
+ghost use Rattle.span_board.specs.declared.board.Role.TheVariants.{Keeper};
 
 use crate::db::Db;
 use atomic_table::{Badge, Table};
+use span_board::board::{Board, Change, Law, Meet, Naming, Place, View};
+use span_board::places::SLOTS;
+use span_board::session::Session;
 use span_journal::journal::Journal;
-use span_locks::board::{Board, Change, Law, Meet, Naming, Place, View};
 use span_locks::journal::LockedJournal;
-use span_locks::places::SLOTS;
-use span_locks::session::Session;
 use span_locks::slot::LockedSlot;
 use span_scans::locks::Locks;
 use span_schema::schema::Schema;
@@ -33,8 +33,8 @@ pub struct Opened {
 impl Model for Opened {
     ghost use Rattle.std.specs.Prelude.{◌≡◌, []};
     ghost use Rattle.atomic_table.specs.Seated.{table_id_coded};
-    ghost use Rattle.span_locks.specs.declared.places.TheConstants.{SLOTS};
-    ghost use Rattle.span_locks.specs.Rule.{Named, opening_roles};
+    ghost use Rattle.span_board.specs.declared.places.TheConstants.{SLOTS};
+    ghost use Rattle.span_board.specs.Rule.{Named, opening_roles};
 
     ghost Value = { Named };
 

@@ -4,13 +4,13 @@ ghost use Rattle.span_truetime.specs.Time.{timestamp_of};
 ghost use Rattle.span_truetime.specs.declared.interval.Interval.{Interval};
 ghost use Rattle.span_locks.specs.Answers.{IsAnswered};
 ghost use Rattle.span_locks.specs.Refusing.{IsQueryRefusal, IsUnscanned, IsUnfinished};
-ghost use Rattle.span_locks.specs.Rule.{Sees};
+ghost use Rattle.span_board.specs.Rule.{Sees};
 
 use crate::db::Db;
+use span_board::board::Naming;
+use span_board::session::Session;
 use span_gather::rows::Rows;
 use span_journal::journal::Opened;
-use span_locks::board::Naming;
-use span_locks::session::Session;
 use span_params::params::Params;
 use span_scans::workers::{Gate, PlannedQuery};
 use span_truetime::bound::Bound;

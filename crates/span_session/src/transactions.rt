@@ -8,12 +8,12 @@ ghost use Rattle.span_machine.specs.declared.step.Reply.TheVariants as reply_of;
 ghost use Rattle.span_parts.specs.Replies.{as_reply, decision_reply};
 ghost use Rattle.span_locks.specs.Replies.{RepliesOnce, RepliesAt, MayReplyOnce, MayReplyAt, RepliesToBegun, RepliesToVerdict, RepliesToDecision};
 ghost use Rattle.span_locks.specs.Replies.{IsAmong, IsPrepareRefusal, begin_refusals, apply_refusals, decide_refusals};
-ghost use Rattle.span_locks.specs.Rule.{Decides, Forgets, IsBegunAt, with_begun};
+ghost use Rattle.span_board.specs.Rule.{Decides, Forgets, IsBegunAt, with_begun};
 
 use crate::db::Db;
+use span_board::board::Naming;
+use span_board::session::Session;
 use span_checking::transaction::Transaction;
-use span_locks::board::Naming;
-use span_locks::session::Session;
 use span_machine::step::Verdict;
 use span_truetime::clock::Clock;
 use span_truetime::interval::Interval;

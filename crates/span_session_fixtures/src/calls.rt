@@ -3,10 +3,10 @@ ghost use Rattle.std.specs.Prelude.{◌≡◌, ◌≤◌};
 
 use crate::clock::{OpenGate, SharedClock, Still};
 use crate::users::{UIDS, insert};
+use span_board::board::Naming;
+use span_board::session::Session;
 use span_gather::rows::Rows;
 use span_keycode::laws::are_values;
-use span_locks::board::Naming;
-use span_locks::session::Session;
 use span_params::params::Params;
 use span_scans::workers::Gate;
 use span_schema::schema::Schema;

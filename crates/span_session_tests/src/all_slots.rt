@@ -1,8 +1,8 @@
 //! Commits over all sixteen slots, and commits that are refused at their second slot.
 ghost use Rattle.std.specs.Prelude.{◌≡◌};
 
-use span_locks::board::Naming;
-use span_locks::session::Session;
+use span_board::board::Naming;
+use span_board::session::Session;
 use span_machine::step::Verdict;
 use span_mutate::mutation::{Mutation, MutationKind};
 use span_schema::schema::Schema;

@@ -2,9 +2,9 @@
 ghost use Rattle.std.specs.Prelude.{◌≡◌};
 ghost use Rattle.span_mutate.specs.Typed.{AreTypedMutations};
 
+use span_board::board::Naming;
+use span_board::session::Session;
 use span_checking::transaction::Transaction;
-use span_locks::board::Naming;
-use span_locks::session::Session;
 use span_machine::step::Verdict;
 use span_schematext::text::parse_schema;
 use span_session::db::Db;

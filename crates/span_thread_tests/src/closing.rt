@@ -1,9 +1,9 @@
 //! A query that a scan refuses, since its slot is trimmed in between, is closed.
 ghost use Rattle.std.specs.Prelude.{◌≡◌};
 
+use span_board::board::Naming;
+use span_board::session::Session;
 use span_gather::rows::Rows;
-use span_locks::board::Naming;
-use span_locks::session::Session;
 use span_schema::schema::Schema;
 use span_session::db::Db;
 use span_session::open::Opened;

@@ -1,8 +1,8 @@
 //! Queries that several workers scan.
 ghost use Rattle.std.specs.Prelude.{◌≡◌};
 
-use span_locks::board::Naming;
-use span_locks::session::Session;
+use span_board::board::Naming;
+use span_board::session::Session;
 use span_schema::schema::Schema;
 use span_session::db::Db;
 use span_session::open::Opened;

@@ -1,7 +1,7 @@
 use Rattle.std.proofs.Common.{◌<◌, ◌-◌, [], suc, add-one, sym, ap, ◌∙◌, subst, arith}
-use Rattle.span_locks.specs.Rule.{first_of, others_of}
-use Rattle.span_locks.proofs.Meets.{splits_at}
-use Rattle.span_locks.proofs.Opening.{apart_clients, next_client, more_newcomers}
+use Rattle.span_board.specs.Rule.{first_of, others_of}
+use Rattle.span_board.proofs.Meets.{splits_at}
+use Rattle.span_board.proofs.Opening.{apart_clients, next_client, more_newcomers}
 use Rattle.span_session.proofs.open.sessions_of.Goals as goal
 
 pub split_seat-seat-requires : goal.split_seat-seat-requires

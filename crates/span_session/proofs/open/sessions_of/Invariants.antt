@@ -1,5 +1,5 @@
 use Rattle.std.proofs.Common.{◌≡◌, ◌-◌, ◌++◌, []}
-use Rattle.span_locks.specs.Rule.{clients, newcomers}
+use Rattle.span_board.specs.Rule.{clients, newcomers}
 use Rattle.span_session.proofs.open.sessions_of.Given as goal
 
 abbrev pub invariant-loop-owner : goal.invariant-loop-owner

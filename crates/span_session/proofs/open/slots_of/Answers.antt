@@ -1,9 +1,9 @@
 use Rattle.std.proofs.Common.{◌<◌, ◌+◌, ◌-◌, ◌∷◌, [], length, suc, add-one, sym, ap, ◌∙◌, subst, arith}
 use Rattle.std.proofs.lemmas.List.{length-append}
-use Rattle.span_locks.specs.declared.board.Role.TheVariants.{Holder}
-use Rattle.span_locks.specs.Rule.{clients, first_of, others_of}
-use Rattle.span_locks.proofs.Meets.{splits_at}
-use Rattle.span_locks.proofs.Opening.{apart_append, apart_holders, apart_holder_clients, next_holder}
+use Rattle.span_board.specs.declared.board.Role.TheVariants.{Holder}
+use Rattle.span_board.specs.Rule.{clients, first_of, others_of}
+use Rattle.span_board.proofs.Meets.{splits_at}
+use Rattle.span_board.proofs.Opening.{apart_append, apart_holders, apart_holder_clients, next_holder}
 use Rattle.span_session.proofs.open.slots_of.Goals as goal
 
 pub split_seat-seat-requires : goal.split_seat-seat-requires

@@ -1,5 +1,5 @@
 use Rattle.std.proofs.Common.{◌≡◌, ◌-◌, ◌++◌, [], length}
-use Rattle.span_locks.specs.Rule.{holders, clients}
+use Rattle.span_board.specs.Rule.{holders, clients}
 use Rattle.span_session.proofs.open.slots_of.Given as goal
 
 abbrev pub invariant-loop-number : goal.invariant-loop-number

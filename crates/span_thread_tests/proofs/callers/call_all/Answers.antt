@@ -8,7 +8,7 @@ use Rattle.std.specs.declared.sync.Wait as Wait
 use Rattle.std.specs.declared.thread.Threads as Threads
 use Rattle.std.proofs.Crossing.{crosses}
 use Rattle.span_schema.proofs.schema.Schema.TheSendSync as of_schema
-use Rattle.span_locks.specs.declared.board.Naming.{Ghosts}
+use Rattle.span_board.specs.declared.board.Naming.{Ghosts}
 use Rattle.span_session.proofs.Crosses.{db_sync}
 use Rattle.span_session_fixtures.proofs.clock.SharedClock.TheSendSync as of_clock
 use Rattle.span_thread_tests.proofs.callers.call_all.Goals as goal

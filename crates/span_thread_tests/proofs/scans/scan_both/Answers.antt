@@ -7,7 +7,7 @@ use mir.Syntax.{Dict}
 use Rattle.std.specs.declared.sync.Wait as Wait
 use Rattle.std.specs.declared.thread.Threads as Threads
 use Rattle.std.proofs.Crossing.{crosses}
-use Rattle.span_locks.specs.declared.board.Naming.{Ghosts}
+use Rattle.span_board.specs.declared.board.Naming.{Ghosts}
 use Rattle.span_session.proofs.Crosses.{db_sync, session_send}
 use Rattle.span_session_fixtures.proofs.clock.SharedClock.TheSendSync as of_clock
 use Rattle.span_session_fixtures.proofs.clock.Meeting.TheSendSync as of_gate

@@ -3,13 +3,13 @@ use Rattle.span_mutate.specs.declared.mutation.CheckedMutation.{CheckedMutation}
 use Rattle.span_machine.specs.declared.transaction.Commit.{Commit}
 use Rattle.span_machine.specs.Pieces.{machine_of}
 use Rattle.span_parts.proofs.Passing.{passed_same}
-use Rattle.span_locks.specs.declared.board.Role.TheVariants.{Keeper}
+use Rattle.span_board.specs.declared.board.Role.TheVariants.{Keeper}
 use Rattle.span_locks.specs.Held.{IsUnderstoodAs}
-use Rattle.span_locks.specs.Known.{grown}
-use Rattle.span_locks.specs.Rule.{SessionHistory, Extends, known_at, seen_of, mine_of}
+use Rattle.span_board.specs.Known.{grown}
+use Rattle.span_board.specs.Rule.{SessionHistory, Extends, known_at, seen_of, mine_of}
 use Rattle.span_locks.proofs.Held.{keeper_goes, keeper_grown, commit_is}
-use Rattle.span_locks.proofs.Meets.{keeper_shape}
-use Rattle.span_locks.proofs.Stories.{extended}
+use Rattle.span_board.proofs.Meets.{keeper_shape}
+use Rattle.span_board.proofs.Stories.{extended}
 use Rattle.span_locks.proofs.journal.LockedJournal.publish.Goals as goal
 
 pub grow-requires-clause-tables : goal.grow-requires-clause-tables

@@ -1,13 +1,13 @@
 use Rattle.std.proofs.Common.{◌∷◌, [], ap, ◌∙◌}
 use Rattle.span_machine.specs.Pieces.{machine_of}
 use Rattle.span_parts.proofs.Passing.{passed_same}
-use Rattle.span_locks.specs.declared.board.Role.TheVariants.{Keeper}
+use Rattle.span_board.specs.declared.board.Role.TheVariants.{Keeper}
 use Rattle.span_locks.specs.Held.{IsUnderstoodAs}
-use Rattle.span_locks.specs.Known.{grown}
-use Rattle.span_locks.specs.Rule.{known_at, seen_of, mine_of}
+use Rattle.span_board.specs.Known.{grown}
+use Rattle.span_board.specs.Rule.{known_at, seen_of, mine_of}
 use Rattle.span_locks.proofs.Held.{keeper_goes, keeper_grown, kept_commit_is}
-use Rattle.span_locks.proofs.Meets.{keeper_shape}
-use Rattle.span_locks.proofs.Stories.{extended_begun, begun_same, begun_taken}
+use Rattle.span_board.proofs.Meets.{keeper_shape}
+use Rattle.span_board.proofs.Stories.{extended_begun, begun_same, begun_taken}
 use Rattle.span_locks.proofs.journal.LockedJournal.publish_begun.Goals as goal
 
 pub grow-requires-clause-tables : goal.grow-requires-clause-tables

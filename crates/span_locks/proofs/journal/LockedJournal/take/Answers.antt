@@ -5,9 +5,9 @@ use Rattle.span_machine.specs.Pieces.{machine_of}
 use Rattle.span_parts.proofs.Passing.{passed_take}
 use Rattle.span_parts.proofs.Wholes.{no_text}
 use Rattle.span_locks.specs.Held.{IsUnderstoodAs}
-use Rattle.span_locks.specs.Rule.{seen_of, known_at}
+use Rattle.span_board.specs.Rule.{seen_of, known_at}
 use Rattle.span_locks.proofs.Held.{keeper_goes, keeper_still, result_answers, result_faults}
-use Rattle.span_locks.proofs.Meets.{keeper_shape}
+use Rattle.span_board.proofs.Meets.{keeper_shape}
 use Rattle.span_locks.proofs.Refusing.{end_refused}
 use Rattle.span_locks.proofs.journal.LockedJournal.take.Goals as goal
 

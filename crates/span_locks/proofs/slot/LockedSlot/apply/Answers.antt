@@ -6,12 +6,12 @@ use Rattle.span_machine.specs.declared.step.Step.TheVariants as step
 use Rattle.span_machine.specs.Pieces.{machine_of}
 use Rattle.span_parts.proofs.Passing.{passed}
 use Rattle.span_parts.proofs.Wholes.{no_text}
-use Rattle.span_locks.specs.declared.board.Role.TheVariants.{Holder, Keeper}
+use Rattle.span_board.specs.declared.board.Role.TheVariants.{Holder, Keeper}
 use Rattle.span_locks.specs.Held.{IsUnderstoodAs}
-use Rattle.span_locks.specs.Known.{kept, restated}
-use Rattle.span_locks.specs.Rule.{SlotVersions, number_of, versions_of, known_at}
+use Rattle.span_board.specs.Known.{kept, restated}
+use Rattle.span_board.specs.Rule.{SlotVersions, number_of, versions_of, known_at}
 use Rattle.span_locks.proofs.Held.{slot_belongs, keeper_restated}
-use Rattle.span_locks.proofs.Meets.{holder_shape, keeper_shape}
+use Rattle.span_board.proofs.Meets.{holder_shape, keeper_shape}
 use Rattle.span_locks.specs.Replies.{Replies, at_slot}
 use Rattle.span_locks.proofs.Replying.{used_replies}
 use Rattle.span_locks.proofs.slot.LockedSlot.apply.Goals as goal

@@ -9,10 +9,10 @@ use Rattle.span_machine.specs.declared.step.Reply.TheVariants as reply
 use Rattle.span_parts.proofs.Passing.{passed_register}
 use Rattle.span_parts.proofs.Wholes.{no_text}
 use Rattle.span_locks.specs.Held.{IsUnderstoodAs}
-use Rattle.span_locks.specs.Known.{kept}
-use Rattle.span_locks.specs.Rule.{SlotVersions, number_of, versions_of, known_at}
+use Rattle.span_board.specs.Known.{kept}
+use Rattle.span_board.specs.Rule.{SlotVersions, number_of, versions_of, known_at}
 use Rattle.span_locks.proofs.Held.{slot_belongs, own_leaf, keeper_stays}
-use Rattle.span_locks.proofs.Meets.{holder_shape, keeper_shape}
+use Rattle.span_board.proofs.Meets.{holder_shape, keeper_shape}
 use Rattle.span_locks.proofs.Refusing.{scan_unscanned}
 use Rattle.span_locks.proofs.slot.LockedSlot.register.Goals as goal
 

@@ -1,11 +1,11 @@
 use Rattle.std.proofs.Common.{◌≡◌, ◌<◌, ◌∷◌, [], length, sym, ap, ◌∙◌, subst}
 use Rattle.std.proofs.lemmas.Option.{slice_get_within}
 use Rattle.span_checking.specs.RootKeys.{root_key}
-use Rattle.span_locks.specs.declared.board.Role.TheVariants.{Holder, Keeper}
-use Rattle.span_locks.specs.Known.{kept, restated}
-use Rattle.span_locks.specs.Rule.{number_of, versions_of, known_at}
+use Rattle.span_board.specs.declared.board.Role.TheVariants.{Holder, Keeper}
+use Rattle.span_board.specs.Known.{kept, restated}
+use Rattle.span_board.specs.Rule.{number_of, versions_of, known_at}
 use Rattle.span_locks.proofs.Held.{slot_belongs, keeper_cut}
-use Rattle.span_locks.proofs.Meets.{holder_shape, keeper_shape}
+use Rattle.span_board.proofs.Meets.{holder_shape, keeper_shape}
 use Rattle.span_locks.proofs.slot.LockedSlot.split.Goals as goal
 
 pub agree-keeper-requires-clause-tables : goal.agree-keeper-requires-clause-tables

@@ -1,5 +1,5 @@
 use Rattle.std.proofs.Common.{refl}
-use Rattle.span_locks.proofs.Owners.{prefix_self}
+use Rattle.span_board.proofs.Owners.{prefix_self}
 use Rattle.span_scans.proofs.locks.Locks.finish_scanned.Goals as goal
 
 pub returns-in-Err-clause-seen : goal.returns-in-Err-clause-seen

@@ -9,7 +9,7 @@ use Rattle.std.specs.declared.thread.Threads as Threads
 use Rattle.std.proofs.Crossing.{crosses}
 use Rattle.span_truetime.specs.declared.clock.Clock as Clock
 use Rattle.span_params.proofs.params.Params.TheSendSync as of_params
-use Rattle.span_locks.specs.declared.board.Naming.{Ghosts}
+use Rattle.span_board.specs.declared.board.Naming.{Ghosts}
 use Rattle.span_scans.specs.declared.workers.Gate as Gate
 use Rattle.span_scans.proofs.Crosses.{locks_sync, plan_sync}
 use Rattle.span_scans.proofs.scan_queue.ScanQueue.TheSendSync as of_queue

@@ -2,7 +2,7 @@ use Rattle.std.proofs.lemmas.Option.{slice_get_within}
 use Rattle.span_machine.specs.declared.step.Reply.TheVariants as reply
 use Rattle.span_parts.specs.Replies.{as_reply}
 use Rattle.span_locks.proofs.Replying.{begun_replies}
-use Rattle.span_locks.proofs.Stories.{decides_begun}
+use Rattle.span_board.proofs.Stories.{decides_begun}
 use Rattle.span_session.proofs.db.Db.commit_begun.Goals as goal
 
 pub publish_begun-requires : goal.publish_begun-requires

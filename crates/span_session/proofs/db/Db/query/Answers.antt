@@ -1,5 +1,5 @@
 use Rattle.std.proofs.Common.{refl, inl}
-use Rattle.span_locks.proofs.Owners.{prefix_self}
+use Rattle.span_board.proofs.Owners.{prefix_self}
 use Rattle.span_locks.proofs.Refusing.{ended_refused}
 use Rattle.span_session.proofs.db.Db.query.Goals as goal
 

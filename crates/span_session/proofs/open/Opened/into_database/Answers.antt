@@ -1,6 +1,6 @@
 use Rattle.std.proofs.Common.{◌<◌, sym, ap, subst, arith}
-use Rattle.span_locks.proofs.Meets.{splits_at}
-use Rattle.span_locks.proofs.Opening.{apart_keeper}
+use Rattle.span_board.proofs.Meets.{splits_at}
+use Rattle.span_board.proofs.Opening.{apart_keeper}
 use Rattle.span_session.proofs.open.Opened.into_database.Goals as goal
 
 pub split_seat-requires : goal.split_seat-requires

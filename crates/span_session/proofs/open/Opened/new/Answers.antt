@@ -1,4 +1,4 @@
-use Rattle.span_locks.proofs.Opening.{opens}
+use Rattle.span_board.proofs.Opening.{opens}
 use Rattle.span_session.proofs.open.Opened.new.Goals as goal
 
 pub of_words-requires : goal.of_words-requires

@@ -1,0 +1,5 @@
+pub mod Owners
+pub mod Steps
+pub mod Meets
+pub mod Stories
+pub mod Opening

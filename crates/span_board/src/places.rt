@@ -1,0 +1,62 @@
+//! Where the mutations of a transaction lie, and the slots where it is prepared.
+ghost use Rattle.std.specs.Prelude.{◌≡◌, ◌≤◌, ◌<◌, length, IfSome};
+ghost use Rattle.std.specs.List.{list_any};
+ghost use Rattle.span_machine.specs.Limits.{most_slots};
+ghost use Rattle.span_machine.specs.Machine.{holds, root_at};
+ghost use Rattle.span_machine.specs.Pieces.{machine_of};
+ghost use Rattle.span_board.specs.Places.{IsNext};
+
+use span_journal::journal::Journal;
+use span_machine::slot::SlotState;
+use span_mutate::directory::is_in_range;
+use span_mutate::mutation::CheckedMutation;
+use span_schema::schema::Schema;
+use span_transactions::slots::MOST_SLOTS;
+
+/// How many slots there may be.
+pub const SLOTS: usize = MOST_SLOTS;
+
+/// The limit is the one that the machine's definition names.
+pub fn limit_is_stated()
+    ensures { SLOTS ≡ most_slots }
+{}
+
+/// The slots where a transaction is prepared, by number.
+pub type PreparedAt = [bool; SLOTS];
+
+/// The lowest slot from this one on where mutations of the transaction lie. None where there is none, or no such transaction.
+pub fn next_with_mutations(
+    journal: &Journal,
+    schema: &Schema,
+    owner: u64,
+    txn: u64,
+    from: usize,
+) -> Option<usize>
+    ensures within { IfSome result (λ slot. (from ≤ slot) × (slot < length journal.now.slots)) }
+    ensures next { IsNext schema.now (machine_of journal.now) owner txn from result }
+{
+    let Some(mutations) = journal.mutations(owner, txn) else {
+        return None;
+    };
+    let slots = journal.slots();
+    for slot in from..slots.len() {
+        if has_any(schema, &slots[slot], mutations) {
+            return Some(slot);
+        }
+    }
+    None
+}
+
+/// Whether the directory of a mutation lies in the slot.
+fn has_any(schema: &Schema, slot_state: &SlotState, mutations: &[CheckedMutation]) -> bool
+    ensures { result ≡ list_any (λ m. holds schema.now slot_state.now (root_at schema.now m)) mutations.now }
+{
+    mutations.iter().any(|m| has(schema, slot_state, m))
+}
+
+#[tactic(auto, unfolding(span_machine::specs::Slots::root_code))]
+fn has(schema: &Schema, slot_state: &SlotState, mutation: &CheckedMutation) -> bool
+    ensures { result ≡ holds schema.now slot_state.now (root_at schema.now mutation.now) }
+{
+    is_in_range(schema, mutation, &slot_state.lo, &slot_state.hi)
+}
