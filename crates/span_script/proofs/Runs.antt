@@ -7,8 +7,9 @@ use Rattle.span_command.specs.declared.line.Line.{Line}
 use Rattle.span_command.specs.declared.line.Line.TheVariants.{Text, Unreadable}
 use Rattle.span_command.specs.declared.line.Lines.{Lines}
 use Rattle.span_command.specs.Unread.{IsTaken, ReadsAs, IsStillToCome, TakesNext}
-use Rattle.span_script.specs.Scripts.{ScriptState, HasText, AreLines, AreAnswers, IsAnswerText, IsFirst, end_answer}
-use Rattle.span_script.specs.Sessions.{AddsLine, text_of}
+use Rattle.span_steps.specs.States.{ScriptState, IsFirst}
+use Rattle.span_script.specs.Scripts.{HasText, AreLines, AreAnswers, IsAnswerText, end_answer, AddsLine}
+use Rattle.span_steps.specs.Sessions.{text_of}
 use Rattle.span_answers.proofs.Written.{wrote_all, wrote_none, wrote_pending, keeps_on, more_pending}
 
 -- ---- lines

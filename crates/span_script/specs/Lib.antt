@@ -1,4 +1,2 @@
 pub mod Reports
 pub mod Scripts
-pub mod Sessions
-pub mod Steps

@@ -3,7 +3,7 @@ use Rattle.std.specs.Prelude.{◌≡◌, ℕ, List, ◌++◌, length, Option, So
 use Rattle.span_command.specs.declared.line.Line.{Line}
 use Rattle.span_command.specs.declared.line.Line.TheVariants.{Text, Unreadable}
 use Rattle.span_script.specs.declared.report.QueryText.{QueryText}
-use Rattle.span_script.specs.declared.report.Refused.{Refused}
+use Rattle.span_steps.specs.declared.refused.Refused.{Refused}
 use Rattle.span_answers.specs.Lines.{Begins, refused_line}
 
 -- the line is this many bytes, and then the query text

@@ -4,15 +4,7 @@ ghost use Rattle.span_script.specs.Reports.{EndsWith};
 
 use span_command::command::{Command, read_command};
 use span_command::line::Line;
-use span_value::refusal::Refusal;
-
-/// A refused command: why, and where.
-#[derive(Clone, Copy, Debug, PartialEq, Eq)]
-pub struct Refused {
-    /// The line of the script that is wrong, counted from 1.
-    pub line: u64,
-    pub why: Refusal,
-}
+use span_steps::refused::Refused;
 
 /// The query text of a line, which ends the line.
 #[derive(Clone, Copy, Debug, PartialEq, Eq)]

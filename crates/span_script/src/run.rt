@@ -5,12 +5,14 @@ ghost use Rattle.span_command.specs.Device.{risen};
 ghost use Rattle.span_command.specs.Unread.{IsStillToCome, TakesNext};
 ghost use Rattle.span_script.specs.Scripts.{IsAnswerText};
 
-use super::report::{Refused, Reports, query_of};
-use super::session::Session;
+use super::lines::{finish, take_line};
+use super::report::{Reports, query_of};
 use span_answers::answer::Answers;
 use span_command::device::{Input, Output};
 use span_command::line::{Line, Lines};
 use span_core::database::Core;
+use span_steps::refused::Refused;
+use span_steps::session::Session;
 use span_value::refusal::Refusal;
 use std::alloc::Global;
 
@@ -44,13 +46,13 @@ pub fn run<I: Input, O: Output, R: Reports>(
     let mut number: u64 = 0;
     for _ in 0..u64::MAX {
         if !take_next(&mut lines, input, &mut answers, output)? {
-            let refused = session.finish(number, &mut answers)?;
+            let refused = finish(&mut session, number, &mut answers)?;
             report_refused(reports, refused, None);
             return answers.write_to(output);
         }
         number = number.saturating_add(1);
         let line = lines.line();
-        let refused = session.take_line(alloc, core, number, line, &mut answers)?;
+        let refused = take_line(&mut session, alloc, core, number, line, &mut answers)?;
         report_refused(reports, refused, Some(line));
         write_many(&mut answers, output)?;
     }

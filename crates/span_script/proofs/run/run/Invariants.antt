@@ -1,5 +1,5 @@
 use Rattle.std.proofs.Common.{◌≡◌, ℕ, List, Some}
-use Rattle.span_script.specs.Sessions.{state_of}
+use Rattle.span_steps.specs.Sessions.{state_of}
 use Rattle.span_script.proofs.Runs.{IsAnsweredSoFar}
 use Rattle.span_script.proofs.run.run.Given as goal
 

@@ -1,8 +1,0 @@
-use Rattle.span_script.proofs.Taking.{step_taken}
-use Rattle.span_script.proofs.steps.take_step.Goals as goal
-
-pub returns : goal.returns
-returns c = record {
-  taken = step_taken _ _ _ _ _ c.is_reached.ensures.promises c.step.ensures.of_schema c.step.ensures.steps;
-  schema = c.step.ensures.schema;
-}

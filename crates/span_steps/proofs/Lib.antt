@@ -1,0 +1,4 @@
+pub mod Commands
+pub mod Loads
+pub mod Scans
+pub mod Taking
