@@ -131,10 +131,22 @@ def remember_sums(rt):
     rt.rtlib.Crate.stamp = functools.cache(work_out)
 
 
+class TookTooLong(Exception):
+    """A check was ended by --seconds."""
+
+
 def end_checks_after(rt, seconds):
     """Ends each check of an edit after so much processor time."""
-    guarded = rt.rtlib.guarded
+    guarded, checked = rt.rtlib.guarded, rt.checked
+
+    def checked_in_time(*words):
+        ran = checked(*words)
+        if ran.returncode in (-signal.SIGXCPU, -signal.SIGKILL):
+            raise TookTooLong
+        return ran
+
     rt.rtlib.guarded = lambda: [*guarded(), "prlimit", f"--cpu={seconds}:{seconds + 5}"]
+    rt.checked = checked_in_time
 
 
 def copy_of_repository(folder, tried):
@@ -338,9 +350,10 @@ class Batch:
         flags = [*FLAGS, *(word for path, it in self.changed for word in ("--only", it.path(self.crate, path)))]
         with contextlib.ExitStack() as stack:
             crate = self.crate if kept else stack.enter_context(self.crate_with_holes(rt))
-            ran = rt.checked(crate, self.texts, flags if kept else [*flags, "--allow-holes"], kept)
-        if ran.returncode == -signal.SIGXCPU:
-            return None
+            try:
+                ran = rt.checked(crate, self.texts, flags if kept else [*flags, "--allow-holes"], kept)
+            except TookTooLong:
+                return None
         lines = ran.stdout.split("\n")
         if ran.returncode != 1 or any(rt.unread(line, self.texts) for line in lines):
             return [None for _ in self.edits]
@@ -385,8 +398,9 @@ def try_alone(rt, crate, edit, kept):
         return no_verdict(crate, edit, "its check took too long")
     if goals[0]:
         return refused(crate, edit, goals[0])
-    kind, said = rt.must_fail(crate, edit, FLAGS, kept)
-    if f"ended with status {-signal.SIGXCPU}" in said:
+    try:
+        kind, said = rt.must_fail(crate, edit, FLAGS, kept)
+    except TookTooLong:
         return no_verdict(crate, edit, "the check of its crate took too long")
     return REFUSED if is_refusal(rt, kind) else NOT_REFUSED, said
 
