@@ -500,7 +500,7 @@ refused 13
 SELECT MIN(NULL) || 'a' FROM Users
 refused 13
 
-# 14: not grouped, and aggregates where none may stand.
+# 14: not grouped, and aggregates where none may be.
 
 SELECT uid, COUNT(*) FROM Users
 refused 14

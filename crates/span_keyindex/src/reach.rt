@@ -1,6 +1,6 @@
 //! The cells above chains near which keys are to be put in, looked at before.
 //!
-//! A key that is put in near a chain waits for memory at each cell on the way up from there (`climb.rt`). The ways up of several keys are
+//! A key that is put in near a chain waits for memory at each cell on the way up from there (`climb.rt` of span_keytree). The ways up of several keys are
 //! gone side by side, so that their cells come from memory at once. Nothing that a call answers rests on it.
 use crate::near::SEARCH_LANES;
 use span_arena::arena::Arena;

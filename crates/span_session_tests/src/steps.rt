@@ -14,7 +14,7 @@ use span_session_fixtures::clock::{SharedClock, Still};
 use span_session_fixtures::users::{TABLES, are_uids, both, insert, insert_into};
 use span_truetime::bound::Bound;
 use span_truetime::interval::Interval;
-use span_value::owned::give_after;
+use span_value::owned::{give_after, keep_with};
 use span_value::refusal::Refusal;
 use std::alloc::Global;
 use std::marker::Brand;
@@ -66,35 +66,68 @@ fn check_steps<J: Naming + Send + Sync, R: Threads + Wait + Abort + Sync>(
     requires second { AreTypedMutations J.schema second }
 {
     let mut me = me;
-    let early = Still {
+    let committed = check_committed(rt, db, &mut me, first);
+    let (second, ()) = keep_with(second, committed)?;
+    check_aborted(rt, db, &mut me, second)?;
+    let all = users(rt, alloc, db, &late(), &mut me, Bound::Strong)?;
+    assert!(rt; are_uids(&all, &[1]));
+    Ok(())
+}
+
+fn early() -> Still {
+    Still {
         reading: Interval {
             earliest: 100,
             latest: 110,
         },
-    };
-    let late = Still {
+    }
+}
+
+fn late() -> Still {
+    Still {
         reading: Interval {
             earliest: 200,
             latest: 210,
         },
-    };
-    assert_eq!(rt; db.begin(rt, &mut me, first), Ok(1));
-    assert_eq!(rt; db.prepare(rt, &me, 1, 0), Ok(()));
+    }
+}
+
+// A transaction is committed at 111. It is unknown to another decision, and applied once the clock has passed that.
+fn check_committed<J: Naming, R: Wait + Abort>(
+    rt: &R,
+    db: &Db<J>,
+    me: &mut Session<J>,
+    transaction: Transaction,
+) -> Result<(), Fail>
+    requires { AreTypedMutations J.schema transaction }
+{
+    assert_eq!(rt; db.begin(rt, me, transaction), Ok(1));
+    assert_eq!(rt; db.prepare(rt, me, 1, 0), Ok(()));
     assert_eq!(rt;
-        db.decide(rt, &early, &mut me, 1, Verdict::Commit),
+        db.decide(rt, &early(), me, 1, Verdict::Commit),
         Ok(Some(111))
     );
     assert_eq!(rt;
-        db.decide(rt, &early, &mut me, 1, Verdict::Commit),
+        db.decide(rt, &early(), me, 1, Verdict::Commit),
         Err(Refusal::UnknownTransaction)
     );
-    assert_eq!(rt; db.apply(rt, &early, &me, 1, 0), Err(Refusal::TooEarly));
-    assert_eq!(rt; db.apply(rt, &late, &me, 1, 0), Ok(()));
-    assert_eq!(rt; db.begin(rt, &mut me, second), Ok(2));
-    assert_eq!(rt; db.decide(rt, &late, &mut me, 2, Verdict::Abort), Ok(None));
-    assert_eq!(rt; db.look(&mut me), 1);
-    let all = users(rt, alloc, db, &late, &mut me, Bound::Strong)?;
-    assert!(rt; are_uids(&all, &[1]));
+    assert_eq!(rt; db.apply(rt, &early(), me, 1, 0), Err(Refusal::TooEarly));
+    assert_eq!(rt; db.apply(rt, &late(), me, 1, 0), Ok(()));
+    Ok(())
+}
+
+// A transaction is aborted, and the session has still seen one commit.
+fn check_aborted<J: Naming, R: Wait + Abort>(
+    rt: &R,
+    db: &Db<J>,
+    me: &mut Session<J>,
+    transaction: Transaction,
+) -> Result<(), Fail>
+    requires { AreTypedMutations J.schema transaction }
+{
+    assert_eq!(rt; db.begin(rt, me, transaction), Ok(2));
+    assert_eq!(rt; db.decide(rt, &late(), me, 2, Verdict::Abort), Ok(None));
+    assert_eq!(rt; db.look(me), 1);
     Ok(())
 }
 
