@@ -320,7 +320,7 @@ use Rattle.span_primary.specs.declared.fault.SyntaxError.{SyntaxError}
 use Rattle.span_grammar.specs.declared.class.Lexeme.{Lexeme}
 use Rattle.span_grammar.specs.declared.grammar.Part.{Part}
 use Rattle.span_grammar.specs.declared.grammar.Part.TheVariants as part
-use Rattle.span_grammar.specs.Rules.{Answer, Read, Wrong, Deep, Tree, limit, is_nullable, parse}
+use Rattle.span_grammar.specs.Rules.{Answer, Read, Wrong, Deep, Tree, most_openings, is_nullable, parse}
 use Rattle.span_grammar.specs.Shapes.{shape_of}
 use Rattle.span_grammar.specs.Grammar.{inside, rule_of}
 use Rattle.span_primary.specs.Pieces.{Piece, ReadResult, to_read_result}
@@ -345,7 +345,7 @@ read_at of v k (Read t j) h = (t, ap (Read t) (rest_is (of t) v j k h))
 read_at of v k (Wrong j) h = absurd cc
 read_at of v k (Deep j) h = absurd cc
 
-pub shrinking : {A : Type 0} (n : ℕ) (p a : Part) (x : Piece A) → is_nullable (rule_of a) ≡ false → n ≤ limit → Good n (rule_of a) x → Shrinks x.read
+pub shrinking : {A : Type 0} (n : ℕ) (p a : Part) (x : Piece A) → is_nullable (rule_of a) ≡ false → n ≤ most_openings → Good n (rule_of a) x → Shrinks x.read
 shrinking n p a x full le g = record { falls = λ ts k v h. let r = read_at x.of v k (parse inside n (rule_of a) ts) (sym (g.is ts) ∙ h) in shrinks n a full le ts k r.0 r.1 }
 
 """
@@ -354,7 +354,7 @@ shrinking n p a x full le g = record { falls = λ ts k v h. let r = read_at x.of
 def shrinks(writer, name, rest, applied, given, has_depth=True):
     """That a definition, which is read any number of times for the part `rest`, takes a token each time."""
     (part,), definition = writer.operands("each", rest), f"{name} {applied}"
-    bound, arguments, depth, proof = (" (n : ℕ) → n ≤ limit", "text n le", "n", "le") if has_depth else ("", "text", "0", "(omega arith)")
+    bound, arguments, depth, proof = (" (n : ℕ) → n ≤ most_openings", "text n le", "n", "le") if has_depth else ("", "text", "0", "(omega arith)")
     return f"""pub {name}_shrinks : (text : List ℕ){bound} → Shrinks ({definition}).read
 unfolding shape_of
 {name}_shrinks {arguments} = shrinking {depth} part.{rest} part.{part} ({definition}) (repeated_full part.{rest} part.{part} refl) {proof} ({name}_good {given})
@@ -365,7 +365,7 @@ unfolding shape_of
 def shrinks_inside(writer, name, rest):
     """The same for a definition over the expressions that are one opening deeper."""
     part, = writer.operands("each", rest)
-    return f"""pub {name}_shrinks : (text : List ℕ) (n : ℕ) → 0 < n → n ≤ limit → Shrinks ({name} (after text n).expression).read
+    return f"""pub {name}_shrinks : (text : List ℕ) (n : ℕ) → 0 < n → n ≤ most_openings → Shrinks ({name} (after text n).expression).read
 unfolding shape_of
 {name}_shrinks text zero z le = absurd (omega arith)
 {name}_shrinks text (suc n) z le =
@@ -552,7 +552,7 @@ def falling_antt(writer):
     return module("What a query has any number of times takes a token each time.", """
 use Rattle.std.proofs.Common.{ℕ, ◌≤◌, List, refl, arith}
 use Rattle.span_grammar.specs.declared.grammar.Part.TheVariants as part
-use Rattle.span_grammar.specs.Rules.{limit}
+use Rattle.span_grammar.specs.Rules.{most_openings}
 use Rattle.span_grammar.specs.Shapes.{shape_of}
 use Rattle.span_parser.specs.Queries.{sort_key_more, column_more, output_more, join, union_more, nested_query}
 """ + LOOPS + """
@@ -577,7 +577,7 @@ use Rattle.span_grammar.specs.declared.grammar.Shape.TheVariants as shape
 use Rattle.span_primary.specs.Expressions.{direction}
 """ + GOOD.replace(" beside_good,", "") + """
 use Rattle.span_primary.proofs.Expressing.{direction_good}
-use Rattle.span_schematext.specs.Declarations.{name_of, name, at_most, unbounded, length_bound, in_length, long_kind, long_of, not_null,
+use Rattle.span_schematext.specs.Declarations.{name_of, name, at_most, no_bound, length_bound, in_length, long_kind, long_of, not_null,
     maybe_not_null, no_action, action, on_delete, maybe_on_delete, maybe_last_semicolon, parent, in_parent, interleave, maybe_interleave,
     key_column, key_column_more, in_key_columns, length_parenthesis, long_type, column_type, table_column, table_column_more,
     in_table_columns, key_columns, table_columns, key_and_parent, primary_key, named_table, table, table_more, tables}
@@ -613,7 +613,7 @@ def declaring_antt(writer):
 def schema_words(writer):
     """What consists of words and numbers alone."""
     return writer.lemmas("", [
-        ("length_bound", "LengthBound", either(apply("at_most", token("sort.Int")), apply("unbounded", token(context("Max"))))),
+        ("length_bound", "LengthBound", either(apply("at_most", token("sort.Int")), apply("no_bound", token(context("Max"))))),
         ("in_length", "InLength", then(reference("length_bound"), "most", constant("most", sign("Close")))),
         ("long_kind", "LongKind", either(constant("true", context("String")), constant("false", context("Bytes")))),
         ("not_null", "NotNull", after(token(word("Not")), constant("true", word("Null")))),
@@ -703,7 +703,7 @@ def lasting_antt(writer):
     return module("What a schema has any number of times takes a token each time.", """
 use Rattle.std.proofs.Common.{ℕ, ◌≤◌, List, refl, arith}
 use Rattle.span_grammar.specs.declared.grammar.Part.TheVariants as part
-use Rattle.span_grammar.specs.Rules.{limit}
+use Rattle.span_grammar.specs.Rules.{most_openings}
 use Rattle.span_grammar.specs.Shapes.{shape_of}
 use Rattle.span_schematext.specs.Declarations.{key_column_more, table_column_more, table_more}
 """ + LOOPS + """

@@ -38,7 +38,7 @@ use Rattle.span_blocks.specs.declared.bound.FromItems.{FromItems}
 use Rattle.span_blocks.specs.declared.bound.BoundBlocks.{BoundBlocks}
 use Rattle.span_blocks.specs.Onward.{fold_results, append_result, each_of}
 use Rattle.span_blocks.specs.Outputs.{projection, output_name, projected_column, projected_columns, all_places, item_places, project_all, project_item, project_value, project_output, project_next, select_list}
-use Rattle.span_blocks.specs.Sources.{name_or_alias, numbered_source, most_tables, named_source, start_from, has_item, check_bool, condition, with_names, add_item}
+use Rattle.span_blocks.specs.Sources.{name_or_alias, numbered_source, most_table_names, named_source, start_from, has_item, check_bool, condition, with_names, add_item}
 use Rattle.span_blocks.specs.Blocks.{groups_named, with_keys, filter_of, having_of, BlockTail, block_tail_of, bind_parts, block_in, group_places, bind_block}
 use Rattle.span_blocks.specs.Aggregating.{mode_of}
 use Rattle.span_binder.specs.Queries.{are_union_compatible, ordinal, is_column_named, sort_place, sort_key, sort_keys, bind_query, only_block, ItemStep, JoinStep, BlockStep, QueryStep, item_at, next_join, from, block_at, next_block, blocks, query_at, query_step, bound}
@@ -177,7 +177,7 @@ numbered_faults schema name None leaves = no_table
 numbered_faults schema name (Some n) leaves = tt {0}
 
 named_faults : (schema : List Table) (name : Spelling) (alias : Option Spelling) (leaves : List ℕ) → Faults (named_source schema name alias leaves)
-named_faults schema name alias leaves = if_faults (nat_le most_tables (length leaves)) (Err refusal.TooManyTables) _ too_many (numbered_faults schema (name_or_alias name alias) (number_named schema name.text) leaves)
+named_faults schema name alias leaves = if_faults (nat_le most_table_names (length leaves)) (Err refusal.TooManyTables) _ too_many (numbered_faults schema (name_or_alias name alias) (number_named schema name.text) leaves)
 
 add_faults : (params : List Parameter) (f : FromItems) (is_left : Bool) (s : Source) (on : Expr) → Faults (add_item params f is_left s on)
 add_faults params f is_left s on = if_faults (has_item f.scope s.name) (Err refusal.DuplicateAlias) _ duplicate (then_faults (condition (with_names f.scope s) params on) _ (on_faults (with_names f.scope s) params on) (λ e. tt {0}))

@@ -3,6 +3,7 @@ ghost use Rattle.std.specs.Prelude.{◌≡◌, IfOk, map};
 ghost use Rattle.span_schema.specs.Numbers.{columns_of, IsTable};
 ghost use Rattle.span_operators.specs.Steps.{Gives};
 ghost use Rattle.span_blocks.specs.Sources as spec;
+ghost use Rattle.span_binder.specs.declared.source.TheConstants.{MOST_TABLE_NAMES};
 
 use span_blocks::bound::{Source, TypedQuery};
 use span_query::query::{Item, OutputColumn};
@@ -16,7 +17,12 @@ use sqlite_items::Boxed;
 use std::alloc::{AllocError, Global};
 
 /// The most table names that a query may have.
-pub const MOST_TABLES: usize = 8;
+pub const MOST_TABLE_NAMES: usize = 8;
+
+/// The limit is the number that the definitions name.
+pub fn limit_is_stated()
+    ensures { MOST_TABLE_NAMES ≡ spec.most_table_names }
+{}
 
 /// The alias of a table, or else its name.
 fn name_or_alias<'a>(name: &'a Spelling, alias: &'a Option<Spelling>) -> &'a str
@@ -59,7 +65,7 @@ fn table_source(
     })
 }
 
-/// One more table name of a query, after the leaves before it. The error is `TooManyTables` where there are `MOST_TABLES` of them,
+/// One more table name of a query, after the leaves before it. The error is `TooManyTables` where there are `MOST_TABLE_NAMES` of them,
 /// `NoTable` where no table has the name, or out of memory.
 pub(crate) fn named_source(
     alloc: Global,
@@ -71,7 +77,7 @@ pub(crate) fn named_source(
     ensures meant { Gives result (spec.named_source schema.now name.now alias.now leaves) }
     ensures tables { spec.AreTables schema.now leaves → spec.HasTables schema.now result }
 {
-    if leaves.len() >= MOST_TABLES {
+    if leaves.len() >= MOST_TABLE_NAMES {
         return Err(Refusal::TooManyTables);
     }
     let Some(table) = schema.find(name.text.as_str()) else {

@@ -64,13 +64,13 @@ numbered_source schema name None leaves = Err NoTable
 numbered_source schema name (Some n) leaves = Ok (table_source schema name (length leaves + 1) n, leaves ++ (n ∷ []))
 
 -- the most table names that a query may have
-abbrev pub most_tables : ℕ
-most_tables = 8
+abbrev pub most_table_names : ℕ
+most_table_names = 8
 
 -- one more table name of the query
 abbrev pub named_source : List Table → Spelling → Option Spelling → Naming Source
 named_source schema name alias leaves =
-    if nat_le most_tables (length leaves) then Err TooManyTables
+    if nat_le most_table_names (length leaves) then Err TooManyTables
     else numbered_source schema (name_or_alias name alias) (number_named schema name.text) leaves
 
 abbrev pub derived_source : Spelling → TypedQuery → Source

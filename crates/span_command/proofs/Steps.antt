@@ -112,7 +112,7 @@ pub record TakesParts (is_cut has_ended : Bool) (kept back rest text : List ℕ)
   pub following : List ℕ
   pub is_next : NextLine text line following
   pub is_taken : IsKept is_cut kept line
-  pub stands : HasParts false has_ended back rest following
+  pub to_come : HasParts false has_ended back rest following
 
 -- an LF ends the line
 pub takes_first : (is_cut has_ended : Bool) (held front back rest text : List ℕ) → held ≡ front ++ 10 ∷ back → HasNoLf front
@@ -127,7 +127,7 @@ takes_first is_cut has_ended held front back rest text whole none s = record {
         ∙ sym (append_assoc s.gone front (10 ∷ (back ++ rest))),
   );
   is_taken = kept_of is_cut s.gone front s.is_gone;
-  stands = record { gone = []; is_gone = refl; in_order = refl; all_came = s.all_came };
+  to_come = record { gone = []; is_gone = refl; in_order = refl; all_came = s.all_came };
 }
 
 -- a line without an LF that is not empty
@@ -148,7 +148,7 @@ takes_last is_cut front rest text none some s =
       following = [];
       is_next = inr (subst HasNoLf (sym whole) no_lf, (λ e. absurd (omega (arith, long, ap length (sym whole ∙ e)))), sym whole, refl);
       is_taken = kept_of is_cut s.gone front s.is_gone;
-      stands = record { gone = []; is_gone = refl; in_order = sym over; all_came = λ e. over };
+      to_come = record { gone = []; is_gone = refl; in_order = sym over; all_came = λ e. over };
     }
 
 -- what taking a line leads to, once its parts are known
@@ -165,11 +165,11 @@ takes_next old new is_cut has_ended kept back (Some rest) text cut line left who
       is_taken =
           subst (λ (b : Bool). IsKept b (slice_range new.buffer.items new.taken_from new.taken_to) p.line) (sym cut)
           (subst (λ (w : List ℕ). IsKept is_cut w p.line) (sym line) p.is_taken);
-      stands = record {
-        gone = p.stands.gone;
-        is_gone = subst (λ (b : Bool). IsGone b p.stands.gone) (sym whole) p.stands.is_gone;
-        in_order = p.stands.in_order ∙ ap (λ (w : List ℕ). p.stands.gone ++ (w ++ rest)) (sym left);
-        all_came = λ e. p.stands.all_came (sym ended ∙ e);
+      to_come = record {
+        gone = p.to_come.gone;
+        is_gone = subst (λ (b : Bool). IsGone b p.to_come.gone) (sym whole) p.to_come.is_gone;
+        in_order = p.to_come.in_order ∙ ap (λ (w : List ℕ). p.to_come.gone ++ (w ++ rest)) (sym left);
+        all_came = λ e. p.to_come.all_came (sym ended ∙ e);
       };
     }
 

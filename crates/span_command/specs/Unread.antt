@@ -63,7 +63,7 @@ pub record TakesNext (lines : Lines) (known : Option (List ℕ)) (text : List �
   pub following : List ℕ
   pub is_next : NextLine text line following
   pub is_taken : IsTaken lines line
-  pub stands : IsStillToCome lines known following
+  pub to_come : IsStillToCome lines known following
 
 -- what is held, and what is known about it, stays
 pub record HoldsSame (old new : Lines) : Type 0 where

@@ -6,7 +6,7 @@ use Rattle.span_value.proofs.Choices.{if_true, if_false}
 use Rattle.span_grammar.specs.declared.class.Lexeme.{Lexeme}
 use Rattle.span_grammar.specs.declared.class.Sort.{Sort}
 use Rattle.span_grammar.specs.declared.grammar.Place.{Place}
-use Rattle.span_grammar.specs.Rules.{is_of, Rule, Empty, One, Then, Or, Many, Open, Tree, Nothing, Leaf, Pair, Left, Right, End, More, Nest, Marks, marks, words, limit, Shallow, Fits, Answer, Read, Wrong, Deep, bind, is_nullable, first, starts, read_many, one, Deeper, No, Yes, enter_place, opening, parse_with, deeper}
+use Rattle.span_grammar.specs.Rules.{is_of, Rule, Empty, One, Then, Or, Many, Open, Tree, Nothing, Leaf, Pair, Left, Right, End, More, Nest, Marks, marks, words, most_openings, Shallow, Fits, Answer, Read, Wrong, Deep, bind, is_nullable, first, starts, read_many, one, Deeper, No, Yes, enter_place, opening, parse_with, deeper}
 use Rattle.span_grammar.proofs.Sound.{words-append, Sound, Is, Ends, SoundIn, sound_with, many_sound, deeper_sound, depth_in}
 
 -- ---- tests
@@ -92,8 +92,8 @@ past_bind r (Deep k) f all h = h
 
 -- The token h with mark e comes before r: a shallow one is passed, a deep one is answered.
 pub record Meets (e : ℕ) (h : Lexeme) (r : List Lexeme) (s : Answer) : Type 0 where
-  pub passes : e ≤ limit → Past r s
-  pub stops : limit < e → s ≡ Deep (h ∷ r)
+  pub passes : e ≤ most_openings → Past r s
+  pub stops : most_openings < e → s ≡ Deep (h ∷ r)
 
 meets_bind : (e : ℕ) (h : Lexeme) (r : List Lexeme) (s : Answer) (f : Tree → List Lexeme → Answer) → ((x : Tree) (k : List Lexeme) → Past k (f x k)) → Meets e h r s → Meets e h r (bind s f)
 meets_bind e h r s f all m = record { passes = λ le. past_bind r s f all (m.passes le); stops = λ lt. ap (λ (x : Answer). bind x f) (m.stops lt) }
@@ -215,7 +215,7 @@ module _ (inside : Place → Rule) (st : Place → Lexeme → Bool) where
   many_reads d a f all nn apart _ _ h s k stop le = absurd h
 
   abbrev pub ReadsIn : ℕ → Deeper → Type 0
-  ReadsIn d No = d ≡ limit
+  ReadsIn d No = d ≡ most_openings
   ReadsIn d (Yes f) = (p : Place) → Reads (suc d) (inside p) (f p)
 
   go_in_reads : (d : ℕ) (g : Deeper) → ReadsIn d g → (p : Place) (t : Lexeme) (x : Tree) → Fits inside x (inside p) → Shallow ((t, suc d) ∷ marks (suc d) x) → (k : List Lexeme) → Stops st (inside p) k → enter_place g p t (words (marks (suc d) x) ++ k) ≡ Read (Nest t x) k
@@ -256,7 +256,7 @@ module _ (inside : Place → Rule) (st : Place → Lexeme → Bool) where
       ∙ go_in_reads d g r p t x h.1 s k (stops_in wide o p k stop)
   reads_with wide d g r _ good _ h s k stop = absurd h
 
-  pub deeper_reads : Stretches → ((p : Place) → Good st (inside p)) → (n d : ℕ) → n + d ≡ limit → ReadsIn d (deeper inside n)
+  pub deeper_reads : Stretches → ((p : Place) → Good st (inside p)) → (n d : ℕ) → n + d ≡ most_openings → ReadsIn d (deeper inside n)
   deeper_reads wide all zero d e = omega arith
   deeper_reads wide all (suc n) d e = λ p. reads_with wide (suc d) (deeper inside n) (deeper_reads wide all n (suc d) (omega arith)) (inside p) (all p)
 
@@ -318,8 +318,8 @@ module _ (inside : Place → Rule) (st : Place → Lexeme → Bool) where
   many_meets d a f rd mt snd nn apart n _ h p m q e s r le = absurd h
 
   abbrev pub MeetsIn : ℕ → Deeper → Type 0
-  MeetsIn d No = d ≡ limit
-  MeetsIn d (Yes f) = (d < limit) × ((p : Place) (ts : List Lexeme) → Sound (suc d) (Is inside (inside p)) ts (f p ts)) × ((p : Place) → Meeting (suc d) (inside p) (f p))
+  MeetsIn d No = d ≡ most_openings
+  MeetsIn d (Yes f) = (d < most_openings) × ((p : Place) (ts : List Lexeme) → Sound (suc d) (Is inside (inside p)) ts (f p ts)) × ((p : Place) → Meeting (suc d) (inside p) (f p))
 
   open_meets : (d : ℕ) (g : Deeper) → MeetsIn d g → (o : Sort) (l : Place) (t : Lexeme) (x : Tree) → is_of o t ≡ true → Fits inside x (inside l) → (p : Marks) (m : Lexeme × ℕ) (q : Marks) → ((t, suc d) ∷ marks (suc d) x) ≡ p ++ (m ∷ q) → Shallow p → (r : List Lexeme) → Meets m.1 m.0 r (opening g o l (words p ++ (m.0 ∷ r)))
   open_meets d No k o l t x i h [] m q e s r =
@@ -367,7 +367,7 @@ module _ (inside : Place → Rule) (st : Place → Lexeme → Bool) where
   meets_with wide d g so rd mt (Open o l) en good (Nest t x) h p m q e s r = open_meets d g mt o l t x h.0 h.1 p m q e s r
   meets_with wide d g so rd mt _ en good _ h p m q e s r = absurd h
 
-  pub deeper_meets : Stretches → ((p : Place) → Ends inside (inside p)) → ((p : Place) → Good st (inside p)) → (n d : ℕ) → n + d ≡ limit → MeetsIn d (deeper inside n)
+  pub deeper_meets : Stretches → ((p : Place) → Ends inside (inside p)) → ((p : Place) → Good st (inside p)) → (n d : ℕ) → n + d ≡ most_openings → MeetsIn d (deeper inside n)
   deeper_meets wide en all zero d e = omega arith
   deeper_meets wide en all (suc n) d e =
       let so = deeper_sound inside en n (suc d) (omega arith) in (

@@ -4,7 +4,7 @@ use Rattle.std.specs.Prelude.{if◌then◌else◌}
 use Rattle.span_grammar.specs.declared.class.Lexeme.{Lexeme}
 use Rattle.span_grammar.specs.declared.class.Sort.{Sort}
 use Rattle.span_grammar.specs.declared.grammar.Place.{Place}
-use Rattle.span_grammar.specs.Rules.{is_of, Rule, Empty, One, Then, Or, Many, Open, Tree, Nothing, Leaf, Pair, Left, Right, End, More, Nest, Marks, marks, words, limit, Shallow, Fits, Answer, Read, Wrong, Deep, bind, starts, read_many, one, Deeper, No, Yes, enter_place, opening, parse_with, deeper, parse}
+use Rattle.span_grammar.specs.Rules.{is_of, Rule, Empty, One, Then, Or, Many, Open, Tree, Nothing, Leaf, Pair, Left, Right, End, More, Nest, Marks, marks, words, most_openings, Shallow, Fits, Answer, Read, Wrong, Deep, bind, starts, read_many, one, Deeper, No, Yes, enter_place, opening, parse_with, deeper, parse}
 
 pub words-append : (a b : Marks) → words (a ++ b) ≡ words a ++ words b
 words-append [] b = refl
@@ -38,9 +38,9 @@ pub record DeepAt (d : ℕ) (P : Tree → Type 0) (ts k : List Lexeme) : Type 0 
   pub fits : P tree
   pub parts : marks d tree ≡ before ++ ((token, depth) ∷ after)
   pub shallow : Shallow before
-  pub over : limit < depth
+  pub over : most_openings < depth
   pub prefix : ts ≡ words before ++ k
-  pub stands : k ≡ token ∷ rest
+  pub is_front : k ≡ token ∷ rest
 
 abbrev pub Sound : ℕ → (Tree → Type 0) → List Lexeme → Answer → Type 0
 Sound d P ts (Read x k) = ReadAt d P ts x k
@@ -74,7 +74,7 @@ module _ (d : ℕ) (P Q R : Tree → Type 0) (mk : Tree → Tree → Tree) (join
     shallow = w.shallow;
     over = w.over;
     prefix = w.prefix;
-    stands = w.stands;
+    is_front = w.is_front;
   }
 
   front_after : (ts k k2 : List Lexeme) (x : Tree) (m : Marks) → ts ≡ words (marks d x) ++ k → k ≡ words m ++ k2 → ts ≡ words (marks d x ++ m) ++ k2
@@ -104,7 +104,7 @@ module _ (d : ℕ) (P Q R : Tree → Type 0) (mk : Tree → Tree → Tree) (join
     shallow = shallow-append (marks d x) w.before r.shallow w.shallow;
     over = w.over;
     prefix = front_after ts k k2 x w.before r.prefix w.prefix;
-    stands = w.stands;
+    is_front = w.is_front;
   }
 
   read_both : (ts k k2 : List Lexeme) (x y : Tree) → ReadAt d P ts x k → ReadAt d Q k y k2 → ReadAt d R ts (mk x y) k2
@@ -130,7 +130,7 @@ module _ (d : ℕ) (P R : Tree → Type 0) (mk : Tree → Tree) (same : (x : Tre
   wrapped : (ts : List Lexeme) (s : Answer) → Sound d P ts s → Sound d R ts (bind s (λ x k. Read (mk x) k))
   wrapped ts (Read x k) h = record { fits = fit x h.fits; prefix = subst (λ (m : Marks). ts ≡ words m ++ k) (sym (same x)) h.prefix; shallow = subst Shallow (sym (same x)) h.shallow }
   wrapped ts (Wrong k) h = record { tree = mk h.tree; before = h.before; after = h.after; fits = fit h.tree h.fits; parts = same h.tree ∙ h.parts; shallow = h.shallow; prefix = h.prefix }
-  wrapped ts (Deep k) h = record { tree = mk h.tree; before = h.before; token = h.token; depth = h.depth; rest = h.rest; after = h.after; fits = fit h.tree h.fits; parts = same h.tree ∙ h.parts; shallow = h.shallow; over = h.over; prefix = h.prefix; stands = h.stands }
+  wrapped ts (Deep k) h = record { tree = mk h.tree; before = h.before; token = h.token; depth = h.depth; rest = h.rest; after = h.after; fits = fit h.tree h.fits; parts = same h.tree ∙ h.parts; shallow = h.shallow; over = h.over; prefix = h.prefix; is_front = h.is_front }
 
 pub choose : (d : ℕ) (P : Tree → Type 0) (ts : List Lexeme) (b : Bool) (x y : Answer) → Sound d P ts x → Sound d P ts y → Sound d P ts (if b then x else y)
 choose d P ts true x y p q = p
@@ -159,11 +159,11 @@ module _ (inside : Place → Rule) where
   wrong_here : (d : ℕ) (a : Rule) (ts : List Lexeme) → Has a → Sound d (Is a) ts (Wrong ts)
   wrong_here d a ts h = record { tree = h.0; before = []; after = marks d h.0; fits = h.1; parts = refl; shallow = tt; prefix = refl }
 
-  one_at : (d : ℕ) (s : Sort) (t : Lexeme) (ts : List Lexeme) → d ≤ limit → Has (One s) → (b : Bool) → is_of s t ≡ b → Sound d (Is (One s)) (t ∷ ts) (if b then Read (Leaf t) ts else Wrong (t ∷ ts))
+  one_at : (d : ℕ) (s : Sort) (t : Lexeme) (ts : List Lexeme) → d ≤ most_openings → Has (One s) → (b : Bool) → is_of s t ≡ b → Sound d (Is (One s)) (t ∷ ts) (if b then Read (Leaf t) ts else Wrong (t ∷ ts))
   one_at d s t ts le h true e = record { fits = e; prefix = refl; shallow = (le, tt) }
   one_at d s t ts le h false e = wrong_here d (One s) (t ∷ ts) h
 
-  one_sound : (d : ℕ) (s : Sort) (ts : List Lexeme) → d ≤ limit → Has (One s) → Sound d (Is (One s)) ts (one s ts)
+  one_sound : (d : ℕ) (s : Sort) (ts : List Lexeme) → d ≤ most_openings → Has (One s) → Sound d (Is (One s)) ts (one s ts)
   one_sound d s [] le h = wrong_here d (One s) [] h
   one_sound d s (t ∷ ts) le h = one_at d s t ts le h (is_of s t) refl
 
@@ -176,16 +176,16 @@ module _ (inside : Place → Rule) where
 
   -- what is known of the way in
   abbrev pub SoundIn : ℕ → Deeper → Type 0
-  SoundIn d No = d ≡ limit
-  SoundIn d (Yes f) = (d < limit) × ((p : Place) (ts : List Lexeme) → Sound (suc d) (Is (inside p)) ts (f p ts))
+  SoundIn d No = d ≡ most_openings
+  SoundIn d (Yes f) = (d < most_openings) × ((p : Place) (ts : List Lexeme) → Sound (suc d) (Is (inside p)) ts (f p ts))
 
-  nested : (d : ℕ) (s : Sort) (p : Place) (t : Lexeme) (ts : List Lexeme) → suc d ≤ limit → is_of s t ≡ true → (r : Answer) → Sound (suc d) (Is (inside p)) ts r → Sound d (Is (Open s p)) (t ∷ ts) (bind r (λ x k. Read (Nest t x) k))
+  nested : (d : ℕ) (s : Sort) (p : Place) (t : Lexeme) (ts : List Lexeme) → suc d ≤ most_openings → is_of s t ≡ true → (r : Answer) → Sound (suc d) (Is (inside p)) ts r → Sound d (Is (Open s p)) (t ∷ ts) (bind r (λ x k. Read (Nest t x) k))
   nested d s p t ts le e (Read x k) h = record { fits = (e, h.fits); prefix = ap (λ (w : List Lexeme). t ∷ w) h.prefix; shallow = (le, h.shallow) }
   nested d s p t ts le e (Wrong k) h = record { tree = Nest t h.tree; before = (t, suc d) ∷ h.before; after = h.after; fits = (e, h.fits); parts = ap (λ (m : Marks). (t, suc d) ∷ m) h.parts; shallow = (le, h.shallow); prefix = ap (λ (w : List Lexeme). t ∷ w) h.prefix }
-  nested d s p t ts le e (Deep k) h = record { tree = Nest t h.tree; before = (t, suc d) ∷ h.before; token = h.token; depth = h.depth; rest = h.rest; after = h.after; fits = (e, h.fits); parts = ap (λ (m : Marks). (t, suc d) ∷ m) h.parts; shallow = (le, h.shallow); over = h.over; prefix = ap (λ (w : List Lexeme). t ∷ w) h.prefix; stands = h.stands }
+  nested d s p t ts le e (Deep k) h = record { tree = Nest t h.tree; before = (t, suc d) ∷ h.before; token = h.token; depth = h.depth; rest = h.rest; after = h.after; fits = (e, h.fits); parts = ap (λ (m : Marks). (t, suc d) ∷ m) h.parts; shallow = (le, h.shallow); over = h.over; prefix = ap (λ (w : List Lexeme). t ∷ w) h.prefix; is_front = h.is_front }
 
   go_in_sound : (d : ℕ) (g : Deeper) → SoundIn d g → (s : Sort) (p : Place) (t : Lexeme) (ts : List Lexeme) → Has (inside p) → is_of s t ≡ true → Sound d (Is (Open s p)) (t ∷ ts) (enter_place g p t ts)
-  go_in_sound d No k s p t ts h e = record { tree = Nest t h.0; before = []; token = t; depth = suc d; rest = ts; after = marks (suc d) h.0; fits = (e, h.1); parts = refl; shallow = tt; over = omega arith; prefix = refl; stands = refl }
+  go_in_sound d No k s p t ts h e = record { tree = Nest t h.0; before = []; token = t; depth = suc d; rest = ts; after = marks (suc d) h.0; fits = (e, h.1); parts = refl; shallow = tt; over = omega arith; prefix = refl; is_front = refl }
   go_in_sound d (Yes f) k s p t ts h e = nested d s p t ts (omega arith) e (f p ts) (k.1 p ts)
 
   open_at : (d : ℕ) (g : Deeper) → SoundIn d g → (s : Sort) (p : Place) (t : Lexeme) (ts : List Lexeme) → Has (inside p) → Has (Open s p) → (b : Bool) → is_of s t ≡ b → Sound d (Is (Open s p)) (t ∷ ts) (if b then enter_place g p t ts else Wrong (t ∷ ts))
@@ -196,7 +196,7 @@ module _ (inside : Place → Rule) where
   open_sound d g k s p [] h o = wrong_here d (Open s p) [] o
   open_sound d g k s p (t ∷ ts) h o = open_at d g k s p t ts h o (is_of s t) refl
 
-  pub depth_in : (d : ℕ) (g : Deeper) → SoundIn d g → d ≤ limit
+  pub depth_in : (d : ℕ) (g : Deeper) → SoundIn d g → d ≤ most_openings
   depth_in d No k = omega arith
   depth_in d (Yes f) k = omega arith
 
@@ -212,9 +212,9 @@ module _ (inside : Place → Rule) where
   sound_with d g k (Many a) e ts = many_sound d a (λ us. parse_with g a us) (λ us. sound_with d g k a e us) (length ts) ts
   sound_with d g k (Open s p) e ts = open_sound d g k s p ts e.1 (Nest e.0.0 e.1.0, (e.0.1, e.1.1))
 
-  pub deeper_sound : (all : (p : Place) → Ends (inside p)) (n d : ℕ) → n + d ≡ limit → SoundIn d (deeper inside n)
+  pub deeper_sound : (all : (p : Place) → Ends (inside p)) (n d : ℕ) → n + d ≡ most_openings → SoundIn d (deeper inside n)
   deeper_sound all zero d e = omega arith
   deeper_sound all (suc n) d e = (omega arith, λ p ts. sound_with (suc d) (deeper inside n) (deeper_sound all n (suc d) (omega arith)) (inside p) (all p) ts)
 
-  pub parse_sound : (all : (p : Place) → Ends (inside p)) (n d : ℕ) → n + d ≡ limit → (a : Rule) → Ends a → (ts : List Lexeme) → Sound d (Is a) ts (parse inside n a ts)
+  pub parse_sound : (all : (p : Place) → Ends (inside p)) (n d : ℕ) → n + d ≡ most_openings → (a : Rule) → Ends a → (ts : List Lexeme) → Sound d (Is a) ts (parse inside n a ts)
   parse_sound all n d e a h ts = sound_with d (deeper inside n) (deeper_sound all n d e) a h ts

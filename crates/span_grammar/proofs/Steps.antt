@@ -10,7 +10,7 @@ use Rattle.span_grammar.specs.declared.grammar.Shape.{Shape}
 use Rattle.span_grammar.specs.declared.grammar.Shape.TheVariants as shape
 use Rattle.span_grammar.specs.declared.reader.Stop.{Stop}
 use Rattle.span_grammar.specs.declared.reader.Stop.TheVariants as stop
-use Rattle.span_grammar.specs.Rules.{is_class, is_of, of_class, Rule, Empty, One, Then, Or, Many, Open, Tree, Leaf, Pair, Left, Right, End, More, Nest, marks, limit, Answer, Read, Wrong, Deep, bind, is_nullable, first, starts, read_many, one, Deeper, No, enter_place, opening, deeper, parse}
+use Rattle.span_grammar.specs.Rules.{is_class, is_of, of_class, Rule, Empty, One, Then, Or, Many, Open, Tree, Leaf, Pair, Left, Right, End, More, Nest, marks, most_openings, Answer, Read, Wrong, Deep, bind, is_nullable, first, starts, read_many, one, Deeper, No, enter_place, opening, deeper, parse}
 use Rattle.span_grammar.specs.Shapes.{shape_of, part_inside}
 use Rattle.span_grammar.specs.Grammar.{inside, rule_of}
 use Rattle.span_grammar.specs.Reading.{ReadResult, read_result, part_read, sort_read}
@@ -178,18 +178,18 @@ many_fuel a f sh (suc n) zero (t ∷ ts) p q = absurd (omega arith)
 many_fuel a f sh (suc n) (suc m) ts p q =
     grows (f ts) (Read End ts) (starts a ts) (λ k. read_many f a n k) (λ k. read_many f a m k) (λ x k i. let g = sh ts k x i in many_fuel a f sh n m k (omega (arith, g)) (omega (arith, g)))
 
-pub shrinks : (n : ℕ) (a : Part) → is_nullable (rule_of a) ≡ false → n ≤ limit → (ts k : List Lexeme) (x : Tree) → parse inside n (rule_of a) ts ≡ Read x k → length k < length ts
+pub shrinks : (n : ℕ) (a : Part) → is_nullable (rule_of a) ≡ false → n ≤ most_openings → (ts k : List Lexeme) (x : Tree) → parse inside n (rule_of a) ts ≡ Read x k → length k < length ts
 shrinks n a full le ts k x h =
-    let r = subst (λ (w : Answer). Sound (limit - n) (Is inside (rule_of a)) ts w) h (parse_sound inside inside_ends n (limit - n) (omega arith) (rule_of a) (ends a) ts) in
-    let g = longer inside (λ p t. false) k (marks (limit - n) x) (never_none inside (λ p t. false) x (rule_of a) (limit - n) r.fits full) in
+    let r = subst (λ (w : Answer). Sound (most_openings - n) (Is inside (rule_of a)) ts w) h (parse_sound inside inside_ends n (most_openings - n) (omega arith) (rule_of a) (ends a) ts) in
+    let g = longer inside (λ p t. false) k (marks (most_openings - n) x) (never_none inside (λ p t. false) x (rule_of a) (most_openings - n) r.fits full) in
     omega (arith, g, ap length r.prefix)
 
-shrinks_outcome : (n : ℕ) (a : Part) → is_nullable (rule_of a) ≡ false → n ≤ limit → (ts k : List Lexeme) (s : Answer) → parse inside n (rule_of a) ts ≡ s → read_result s ≡ Ok k → length k < length ts
+shrinks_outcome : (n : ℕ) (a : Part) → is_nullable (rule_of a) ≡ false → n ≤ most_openings → (ts k : List Lexeme) (s : Answer) → parse inside n (rule_of a) ts ≡ s → read_result s ≡ Ok k → length k < length ts
 shrinks_outcome n a full le ts k (Read x j) h e = let g = shrinks n a full le ts j x h in let i = ap length (ok_is j k e) in omega (arith, g, i)
 shrinks_outcome n a full le ts k (Wrong j) h e = absurd cc
 shrinks_outcome n a full le ts k (Deep j) h e = absurd cc
 
-pub many_shorter : (n : ℕ) (p a : Part) (ts k : List Lexeme) → shape.Many a ≡ shape_of p → n ≤ limit → part_read n a ts ≡ Ok k → length k < length ts
+pub many_shorter : (n : ℕ) (p a : Part) (ts k : List Lexeme) → shape.Many a ≡ shape_of p → n ≤ most_openings → part_read n a ts ≡ Ok k → length k < length ts
 unfolding part_read
 many_shorter n p a ts k h le i = shrinks_outcome n a (repeated_full p a h) le ts k (parse inside n (rule_of a) ts) refl i
 
@@ -210,7 +210,7 @@ read_many_err n p a (t ∷ ts) e h i j =
     many_at n p a (t ∷ ts) h ∙ ap read_result (if_true (starts (rule_of a) (t ∷ ts)) (once (λ us. parse inside n (rule_of a) us) (rule_of a) (length ts) (t ∷ ts)) (Read End (t ∷ ts)) i)
     ∙ bind_err (parse inside n (rule_of a) (t ∷ ts)) e _ j
 
-pub read_many_ok : (n : ℕ) (p a : Part) (ts k : List Lexeme) → shape.Many a ≡ shape_of p → starts (rule_of a) ts ≡ true → part_read n a ts ≡ Ok k → n ≤ limit → part_read n p ts ≡ part_read n p k
+pub read_many_ok : (n : ℕ) (p a : Part) (ts k : List Lexeme) → shape.Many a ≡ shape_of p → starts (rule_of a) ts ≡ true → part_read n a ts ≡ Ok k → n ≤ most_openings → part_read n p ts ≡ part_read n p k
 unfolding part_read
 read_many_ok n p a [] k h i j le = absurd cc
 read_many_ok n p a (t ∷ ts) k h i j le =

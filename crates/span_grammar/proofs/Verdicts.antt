@@ -7,7 +7,7 @@ use Rattle.span_grammar.specs.declared.judge.Goal.{Goal}
 use Rattle.span_grammar.specs.declared.judge.Goal.TheVariants as goal
 use Rattle.span_grammar.specs.declared.reader.Stop.{Stop}
 use Rattle.span_grammar.specs.declared.reader.Stop.TheVariants as stop
-use Rattle.span_grammar.specs.Rules.{Tree, Answer, Read, Wrong, Deep, limit, parse}
+use Rattle.span_grammar.specs.Rules.{Tree, Answer, Read, Wrong, Deep, most_openings, parse}
 use Rattle.span_grammar.specs.Grammar.{inside, rule_of}
 use Rattle.span_grammar.specs.Goals.{goal_part, goal_rule}
 use Rattle.span_grammar.specs.Texts.{HasTree, IsWrong, IsTooDeep}
@@ -20,17 +20,17 @@ use Rattle.span_grammar.proofs.Facts.{inside_facts, statement_facts, schema_fact
 
 -- ---- for the code
 
-pub text_ok : (p : Part) (ts k : List Lexeme) → part_read limit p ts ≡ Ok k → length k ≡ 0 → text_read p ts ≡ Ok tt
+pub text_ok : (p : Part) (ts k : List Lexeme) → part_read most_openings p ts ≡ Ok k → length k ≡ 0 → text_read p ts ≡ Ok tt
 unfolding text_read
 text_ok p ts [] h z = ap at_end h
 text_ok p ts (t ∷ k) h z = absurd (omega arith)
 
-pub text_more : (p : Part) (ts k : List Lexeme) → part_read limit p ts ≡ Ok k → length k ≢ 0 → text_read p ts ≡ Err stop.Syntax
+pub text_more : (p : Part) (ts k : List Lexeme) → part_read most_openings p ts ≡ Ok k → length k ≢ 0 → text_read p ts ≡ Err stop.Syntax
 unfolding text_read
 text_more p ts [] h z = absurd (z refl)
 text_more p ts (t ∷ k) h z = ap at_end h
 
-pub text_err : (p : Part) (ts : List Lexeme) (e : Stop) → part_read limit p ts ≡ Err e → text_read p ts ≡ Err e
+pub text_err : (p : Part) (ts : List Lexeme) (e : Stop) → part_read most_openings p ts ≡ Err e → text_read p ts ≡ Err e
 unfolding text_read
 text_err p ts e h = ap at_end h
 
@@ -60,13 +60,13 @@ shown_at (Read x (t ∷ k)) = refl
 shown_at (Wrong k) = refl
 shown_at (Deep k) = refl
 
-text_is : (p : Part) (ts : List Lexeme) → text_read p ts ≡ shown (whole (parse inside limit (rule_of p) ts))
+text_is : (p : Part) (ts : List Lexeme) → text_read p ts ≡ shown (whole (parse inside most_openings (rule_of p) ts))
 unfolding text_read part_read
-text_is p ts = shown_at (parse inside limit (rule_of p) ts)
+text_is p ts = shown_at (parse inside most_openings (rule_of p) ts)
 
 module _ (g : Goal) (ts : List Lexeme) where
   abbrev run : Answer
-  run = whole (parse inside limit (goal_rule g) ts)
+  run = whole (parse inside most_openings (goal_rule g) ts)
 
   abbrev Answers : Answer → Type 0
   Answers s = Right inside st wide inside_ends good (goal_rule g) (ends (goal_part g)) (goal_good g) ts s

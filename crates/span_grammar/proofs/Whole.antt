@@ -3,7 +3,7 @@ use Rattle.std.proofs.Common.{◌≡◌, ℕ, zero, suc, ◌<◌, ◌≤◌, ◌
 use Rattle.std.proofs.lemmas.Bool.{cases_lt}
 use Rattle.span_grammar.specs.declared.class.Lexeme.{Lexeme}
 use Rattle.span_grammar.specs.declared.grammar.Place.{Place}
-use Rattle.span_grammar.specs.Rules.{Rule, Tree, Marks, marks, words, limit, Shallow, Fits, Answer, Read, Wrong, Deep, parse, deeper}
+use Rattle.span_grammar.specs.Rules.{Rule, Tree, Marks, marks, words, most_openings, Shallow, Fits, Answer, Read, Wrong, Deep, parse, deeper}
 use Rattle.span_grammar.specs.Texts.{HasTree, NoneGoesOn, IsWrong, IsTooDeep}
 use Rattle.span_grammar.proofs.Sound.{words-append, Sound, Is, Ends, parse_sound, deeper_sound}
 use Rattle.span_grammar.proofs.Follow.{Good, Stretches, rest_of, Past, Reads, Meeting, reads_with, meets_with, deeper_reads, deeper_meets}
@@ -24,12 +24,12 @@ record HasDeep (ms : Marks) : Type 0 where
   pub q : Marks
   pub parts : ms ≡ p ++ (m ∷ q)
   pub shallow : Shallow p
-  pub over : limit < m.1
+  pub over : most_openings < m.1
 
 first_deep : (ms : Marks) → Shallow ms ⊎ HasDeep ms
 first_deep [] = inl tt
 first_deep (n ∷ ms) =
-    elim (cases_lt limit n.1) [
+    elim (cases_lt most_openings n.1) [
       | inl lt ↦ inr (record { p = []; m = n; q = ms; parts = refl; shallow = tt; over = lt })
       | inr le ↦ elim (first_deep ms) [
         | inl s ↦ inl (le, s)
@@ -53,7 +53,7 @@ shallow_front : (a b : Marks) → Shallow (a ++ b) → Shallow a
 shallow_front [] b h = tt
 shallow_front (m ∷ a) b h = (h.0, shallow_front a b h.1)
 
-shallow_at : (a : Marks) (m : Lexeme × ℕ) (b : Marks) → Shallow (a ++ (m ∷ b)) → m.1 ≤ limit
+shallow_at : (a : Marks) (m : Lexeme × ℕ) (b : Marks) → Shallow (a ++ (m ∷ b)) → m.1 ≤ most_openings
 shallow_at [] m b h = h.0
 shallow_at (n ∷ a) m b h = shallow_at a m b h.1
 
@@ -104,16 +104,16 @@ goes_along (w ∷ b) (z ∷ a) x y c c2 c3 e le =
 
 module _ (inside : Place → Rule) (st : Place → Lexeme → Bool) (wide : Stretches inside st) (ends : (p : Place) → Ends inside (inside p)) (good : (p : Place) → Good st (inside p)) (a : Rule) (ends_a : Ends inside a) (good_a : Good st a) where
   abbrev run : List Lexeme → Answer
-  run ts = parse inside limit a ts
+  run ts = parse inside most_openings a ts
 
   all_sound : (ts : List Lexeme) → Sound 0 (Is inside a) ts (run ts)
-  all_sound ts = parse_sound inside ends limit 0 refl a ends_a ts
+  all_sound ts = parse_sound inside ends most_openings 0 refl a ends_a ts
 
   all_reads : Reads inside st 0 a run
-  all_reads = reads_with inside st wide 0 (deeper inside limit) (deeper_reads inside st wide good limit 0 refl) a good_a
+  all_reads = reads_with inside st wide 0 (deeper inside most_openings) (deeper_reads inside st wide good most_openings 0 refl) a good_a
 
   all_meets : Meeting inside st 0 a run
-  all_meets = meets_with inside st wide 0 (deeper inside limit) (deeper_sound inside ends limit 0 refl) (deeper_reads inside st wide good limit 0 refl) (deeper_meets inside st wide ends good limit 0 refl) a ends_a good_a
+  all_meets = meets_with inside st wide 0 (deeper inside most_openings) (deeper_sound inside ends most_openings 0 refl) (deeper_reads inside st wide good most_openings 0 refl) (deeper_meets inside st wide ends good most_openings 0 refl) a ends_a good_a
 
   -- at a deep token of a tree
   deep_there : (y : Tree) → Fits inside y a → (p : Marks) (q : Marks) → marks 0 y ≡ p ++ q → HasDeep p → (r : List Lexeme) → (k : List Lexeme) × (run (words p ++ r) ≡ Deep k)
@@ -127,7 +127,7 @@ module _ (inside : Place → Rule) (st : Place → Lexeme → Bool) (wide : Stre
   no_stop y h p m q e r =
       elim (first_deep p) [
         | inr d ↦ inr (deep_there y h p (m ∷ q) e d (m.0 ∷ r))
-        | inl s ↦ elim (cases_lt limit m.1) [
+        | inl s ↦ elim (cases_lt most_openings m.1) [
           | inl lt ↦ inr (m.0 ∷ r, (all_meets y h p m q e s r).stops lt)
           | inr le ↦ inl ((all_meets y h p m q e s r).passes le)
         ]
@@ -187,7 +187,7 @@ module _ (inside : Place → Rule) (st : Place → Lexeme → Bool) (wide : Stre
     spells = h.prefix;
     none = stops_right ts (words h.before) k h.prefix (Wrong k) i refl (λ j e. cc) (λ y e. cc);
   }
-  right_of ts (Deep k) i h = record { tree = h.tree; before = h.before; token = h.token; depth = h.depth; after = h.after; rest = h.rest; fits = h.fits; parts = h.parts; shallow = h.shallow; over = h.over; spells = h.prefix ∙ ap (λ (w : List Lexeme). words h.before ++ w) h.stands }
+  right_of ts (Deep k) i h = record { tree = h.tree; before = h.before; token = h.token; depth = h.depth; after = h.after; rest = h.rest; fits = h.fits; parts = h.parts; shallow = h.shallow; over = h.over; spells = h.prefix ∙ ap (λ (w : List Lexeme). words h.before ++ w) h.is_front }
 
   -- what is answered is so
   pub answered : (ts : List Lexeme) → Right ts (whole (run ts))

@@ -6,7 +6,7 @@ use Rattle.span_grammar.specs.declared.class.Sort.{Sort}
 use Rattle.span_grammar.specs.declared.grammar.Part.{Part}
 use Rattle.span_grammar.specs.declared.reader.Stop.{Stop}
 use Rattle.span_grammar.specs.declared.reader.Stop.TheVariants as stop
-use Rattle.span_grammar.specs.Rules.{is_of, Answer, Read, Wrong, Deep, limit, parse}
+use Rattle.span_grammar.specs.Rules.{is_of, Answer, Read, Wrong, Deep, most_openings, parse}
 use Rattle.span_grammar.specs.Grammar.{inside, rule_of}
 
 abbrev pub ReadResult : Type 0
@@ -36,4 +36,4 @@ at_end (Err e) = Err e
 
 -- all the tokens
 unfoldable pub text_read : Part → List Lexeme → Result (Unit {0}) Stop
-text_read p ts = at_end (part_read limit p ts)
+text_read p ts = at_end (part_read most_openings p ts)

@@ -82,12 +82,13 @@ marks d (Nest t x) = (t, suc d) ∷ marks (suc d) x
 abbrev pub words : Marks → List Lexeme
 words ms = map (λ m. m.0) ms
 
-abbrev pub limit : ℕ
-limit = 32
+-- the most openings that are nested in one another
+abbrev pub most_openings : ℕ
+most_openings = 32
 
 abbrev pub Shallow : Marks → Type 0
 Shallow [] = Unit {0}
-Shallow (m ∷ ms) = (m.1 ≤ limit) × Shallow ms
+Shallow (m ∷ ms) = (m.1 ≤ most_openings) × Shallow ms
 
 module _ (inside : Place → Rule) where
   -- the tree is one of the rule's

@@ -1,6 +1,6 @@
 //! Checks whether all the tokens of a text together are in the grammar.
 ghost use Rattle.std.specs.Prelude.{◌≡◌};
-ghost use Rattle.span_grammar.specs.Rules.{Tree, limit};
+ghost use Rattle.span_grammar.specs.Rules.{Tree, most_openings};
 ghost use Rattle.span_grammar.specs.Grammar.{inside};
 ghost use Rattle.span_grammar.specs.Texts.{HasTree, IsWrong, IsTooDeep};
 ghost use Rattle.span_grammar.specs.Goals.{goal_part, goal_rule};
@@ -8,7 +8,7 @@ ghost use Rattle.span_grammar.specs.Reading.{text_read};
 
 use super::class::Lexeme;
 use super::grammar::Part;
-use super::reader::{DEEPEST, Stop, read};
+use super::reader::{MOST_OPENINGS, Stop, read};
 
 /// What a text must be.
 #[derive(Clone, Copy, Debug, PartialEq, Eq)]
@@ -32,7 +32,7 @@ fn part_for(goal: Goal) -> Part
 fn read_all(part: Part, tokens: &[Lexeme]) -> Result<(), Stop>
     ensures { result ≡ text_read part tokens.now }
 {
-    let rest = read(part, DEEPEST, tokens)?;
+    let rest = read(part, MOST_OPENINGS, tokens)?;
     if rest.is_empty() {
         Ok(())
     } else {

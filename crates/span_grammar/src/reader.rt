@@ -1,9 +1,10 @@
 //! Reading tokens, by their classes, as the grammar says.
 //!
 //! One token decides each choice, so that no token is read twice. What recurses goes down the grammar, and begins again at its
-//! top only after an opening, of which at most `DEEPEST` are nested.
+//! top only after an opening, of which at most `MOST_OPENINGS` are nested.
 ghost use Rattle.std.specs.Prelude.{◌≡◌, ◌≤◌, List};
-ghost use Rattle.span_grammar.specs.Rules.{limit, is_class, of_class, is_nullable, first, starts};
+ghost use Rattle.span_grammar.specs.Rules.{most_openings, is_class, of_class, is_nullable, first, starts};
+ghost use Rattle.span_grammar.specs.declared.reader.TheConstants.{MOST_OPENINGS};
 ghost use Rattle.span_grammar.specs.Grammar.{rule_of};
 ghost use Rattle.span_grammar.specs.Reading.{Follows, part_read, sort_read};
 
@@ -12,7 +13,12 @@ use super::grammar::{Part, Shape, part_inside, shape_of};
 use span_lexer::token::Sign;
 
 /// The greatest number of nested openings.
-pub const DEEPEST: usize = 32;
+pub const MOST_OPENINGS: usize = 32;
+
+/// The limit is the number that the definitions name.
+pub fn limit_is_stated()
+    ensures { MOST_OPENINGS ≡ most_openings }
+{}
 
 /// Why tokens are not read.
 #[derive(Clone, Copy, Debug, PartialEq, Eq)]
@@ -102,7 +108,7 @@ fn token(sort: Sort, tokens: &[Lexeme]) -> Result<&[Lexeme], Stop>
 /// Reads a part, with `left` openings left, and returns the rest.
 #[tactic(auto, using(crate::proofs::Steps::read_steps))]
 pub(crate) fn read(part: Part, left: usize, tokens: &[Lexeme]) -> Result<&[Lexeme], Stop>
-    requires { left ≤ limit }
+    requires { left ≤ most_openings }
     ensures { Follows result (part_read left part tokens.now) }
 {
     match shape_of(part) {

@@ -14,7 +14,7 @@ use Rattle.span_grammar.specs.declared.class.Sort.TheVariants as sort
 use Rattle.span_grammar.specs.declared.grammar.Place.{Place}
 use Rattle.span_grammar.specs.Classes.{name_class, token_bytes}
 use Rattle.span_grammar.specs.Contexts.{context_word}
-use Rattle.span_grammar.specs.Rules.{is_class, is_of, is_nullable, Rule, Empty, One, Then, Or, Many, Open, Tree, End, More, Marks, marks, words, limit, Fits}
+use Rattle.span_grammar.specs.Rules.{is_class, is_of, is_nullable, Rule, Empty, One, Then, Or, Many, Open, Tree, End, More, Marks, marks, words, most_openings, Fits}
 use Rattle.span_grammar.specs.Grammar.{inside}
 use Rattle.span_grammar.proofs.Follow.{never_none}
 use Rattle.span_grammar_laws.specs.Written.{written_inside}
@@ -25,7 +25,7 @@ use Rattle.span_grammar_laws.proofs.Tagging.{dot_class, star_class, begins_star,
 pub record Tagged (b : Rule) (d : ℕ) (ms : Marks) (k : List Lexeme) : Type 0 where
   pub has : In inside b d (tag_marks ms k)
   pub clear : begins_all_of (words ms ++ k) ≡ false
-  pub opens : d ≤ limit → OpensFirst ms
+  pub opens : d ≤ most_openings → OpensFirst ms
 
 -- for marks that are fewer than n
 abbrev pub To : ℕ → Rule → Rule → Type 0
@@ -169,7 +169,7 @@ alike_open s p h o = record {
       tagged_is (Open s p) d ((t.lexeme, suc d) ∷ t.within) ms k t.parts (record {
         has = open_in inside s p d (tag t.lexeme (words t.within ++ k)) (tag_marks t.within k) (calm_tagged s t.lexeme (words t.within ++ k) h t.is r.clear) r.has;
         clear = calm_clear t.lexeme (words t.within ++ k) (calm_of s t.lexeme.class h t.is);
-        opens = λ le. elim (cases_lt limit (suc d)) [ inl i ↦ inr (i, opening_of s t.lexeme.class o t.is) | inr i ↦ inl (i, r.opens i) ];
+        opens = λ le. elim (cases_lt most_openings (suc d)) [ inl i ↦ inr (i, opening_of s t.lexeme.class o t.is) | inr i ↦ inl (i, r.opens i) ];
       });
   from = λ text n below d ms lt i.
       let t = open_out inside s p d ms i in

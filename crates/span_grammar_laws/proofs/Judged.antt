@@ -2,7 +2,7 @@
 use Rattle.std.proofs.Common.{◌≡◌, ℕ, ◌<◌, inl, inr, true, List, [], ◌∷◌, ◌++◌, map, refl, sym, ap, subst, ◌∙◌, arith}
 use Rattle.span_grammar.specs.declared.class.Lexeme.{Lexeme}
 use Rattle.span_grammar.specs.declared.judge.Goal.{Goal}
-use Rattle.span_grammar.specs.Rules.{Marks, marks, words, limit, Shallow}
+use Rattle.span_grammar.specs.Rules.{Marks, marks, words, most_openings, Shallow}
 use Rattle.span_grammar.specs.Texts.{IsTooDeep}
 use Rattle.span_grammar.specs.Grammar.{inside}
 use Rattle.span_grammar.specs.Goals.{goal_rule}
@@ -56,17 +56,17 @@ deep_written g text ts ps e h =
           ∙ ap (λ (w : List Lexeme). w ++ (untag text h.token ∷ map (untag text) h.rest)) (sym (words-untag_marks text h.before));
     }
 
-pub first_over : (before : Marks) (t : Lexeme) (e : ℕ) (after : Marks) → OpensFirst (before ++ ((t, e) ∷ after)) → Shallow before → limit < e → opening t.class ≡ true
+pub first_over : (before : Marks) (t : Lexeme) (e : ℕ) (after : Marks) → OpensFirst (before ++ ((t, e) ∷ after)) → Shallow before → most_openings < e → opening t.class ≡ true
 first_over [] t e after h s over = elim h [ inl i ↦ absurd (omega (arith, i.0)) | inr i ↦ i.1 ]
 first_over (m ∷ before) t e after h s over = elim h [ inl i ↦ first_over before t e after i.1 s.1 over | inr i ↦ absurd (omega (arith, i.0, s.0)) ]
 
--- a tree with a mark past the limit, and with the classes that look ahead: in front of that mark and at it what follows counts for nothing
+-- a tree with a mark past the most_openings, and with the classes that look ahead: in front of that mark and at it what follows counts for nothing
 pub record DeepRead (g : Goal) (before after : Marks) (t : Lexeme) (e : ℕ) : Type 0 where
   pub has : In inside (goal_rule g) 0 (tag_marks (before ++ ((t, e) ∷ after)) [])
   pub opens : opening t.class ≡ true
   pub parts : tag_marks (before ++ ((t, e) ∷ after)) [] ≡ tag_marks before (t ∷ (words after ++ [])) ++ ((tag t (words after ++ []), e) ∷ tag_marks after [])
 
-pub deep_read_at : (g : Goal) (before after : Marks) (t : Lexeme) (e : ℕ) → In written_inside (written_rule g) 0 (before ++ ((t, e) ∷ after)) → Shallow before → limit < e → DeepRead g before after t e
+pub deep_read_at : (g : Goal) (before after : Marks) (t : Lexeme) (e : ℕ) → In written_inside (written_rule g) 0 (before ++ ((t, e) ∷ after)) → Shallow before → most_openings < e → DeepRead g before after t e
 deep_read_at g before after t e h s over =
     let x = (goal_root g).to 0 (before ++ ((t, e) ∷ after)) h in
     record {

@@ -17,7 +17,7 @@ use Rattle.span_grammar.specs.declared.class.Sort.{Sort}
 use Rattle.span_grammar.specs.declared.class.Sort.TheVariants as sort
 use Rattle.span_grammar.specs.Contexts.{context_word}
 use Rattle.span_grammar.specs.Classes.{is_dot, is_star, starts_all_of, name_class, semicolon_class, sign_class, kind_class, lexemes_of, token_bytes}
-use Rattle.span_grammar.specs.Rules.{is_class, Marks, words, limit, Shallow}
+use Rattle.span_grammar.specs.Rules.{is_class, Marks, words, most_openings, Shallow}
 use Rattle.span_grammar_laws.specs.PlainTokens.{plain_class, plain_lexemes}
 
 -- ---- what follows a token
@@ -262,10 +262,10 @@ opening_sees t k j h = record {
   empty = refl;
 }
 
--- the first mark past the limit, if there is one, is an opening
+-- the first mark past the most_openings, if there is one, is an opening
 abbrev pub OpensFirst : Marks → Type 0
 OpensFirst [] = Unit {0}
-OpensFirst (m ∷ ms) = ((m.1 ≤ limit) × OpensFirst ms) ⊎ ((limit < m.1) × (opening m.0.class ≡ true))
+OpensFirst (m ∷ ms) = ((m.1 ≤ most_openings) × OpensFirst ms) ⊎ ((most_openings < m.1) × (opening m.0.class ≡ true))
 
 pub opens-append : (a b : Marks) → OpensFirst a → OpensFirst b → OpensFirst (a ++ b)
 opens-append [] b h i = i

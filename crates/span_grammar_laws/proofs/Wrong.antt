@@ -6,7 +6,7 @@ use Rattle.span_grammar.specs.declared.grammar.Place.{Place}
 use Rattle.span_grammar.specs.declared.judge.Goal.{Goal}
 use Rattle.span_grammar.specs.declared.reader.Stop.{Stop}
 use Rattle.span_grammar.specs.declared.reader.Stop.TheVariants as stop
-use Rattle.span_grammar.specs.Rules.{Rule, Tree, Marks, marks, words, limit, Shallow, Fits, Answer, Deep, parse_with, deeper}
+use Rattle.span_grammar.specs.Rules.{Rule, Tree, Marks, marks, words, most_openings, Shallow, Fits, Answer, Deep, parse_with, deeper}
 use Rattle.span_grammar.specs.Texts.{NoneGoesOn, IsWrong, IsTooDeep}
 use Rattle.span_grammar.specs.Grammar.{inside}
 use Rattle.span_grammar.specs.Goals.{goal_rule, goal_part}
@@ -39,12 +39,12 @@ record HasDeep (ms : Marks) : Type 0 where
   pub after : Marks
   pub parts : ms ≡ before ++ ((token, depth) ∷ after)
   pub shallow : Shallow before
-  pub over : limit < depth
+  pub over : most_openings < depth
 
 first_deep : (ms : Marks) → Shallow ms ⊎ HasDeep ms
 first_deep [] = inl tt
 first_deep (n ∷ ms) =
-    elim (cases_lt limit n.1) [
+    elim (cases_lt most_openings n.1) [
       | inl lt ↦ inr (record { before = []; token = n.0; depth = n.1; after = ms; parts = refl; shallow = tt; over = lt })
       | inr le ↦ elim (first_deep ms) [
         | inl s ↦ inl (le, s)
@@ -85,7 +85,7 @@ shallow_front : (a b : Marks) → Shallow (a ++ b) → Shallow a
 shallow_front [] b h = tt
 shallow_front (m ∷ a) b h = (h.0, shallow_front a b h.1)
 
-shallow_at : (a : Marks) (m : Lexeme × ℕ) (b : Marks) → Shallow (a ++ (m ∷ b)) → m.1 ≤ limit
+shallow_at : (a : Marks) (m : Lexeme × ℕ) (b : Marks) → Shallow (a ++ (m ∷ b)) → m.1 ≤ most_openings
 shallow_at [] m b h = h.0
 shallow_at (n ∷ a) m b h = shallow_at a m b h.1
 
@@ -124,12 +124,12 @@ deep_not_wrong g ts h w = let e : (let r : Verdict = Err stop.TooDeep in r) ≡ 
 
 -- a token comes at one depth after the same tokens
 one_depth : (g : Goal) (x y : Tree) → Fits inside x (goal_rule g) → Fits inside y (goal_rule g) → (p q r s : Marks) (t : Lexeme) (d e : ℕ)
-    → marks 0 x ≡ p ++ ((t, d) ∷ q) → marks 0 y ≡ r ++ ((t, e) ∷ s) → words p ≡ words r → Shallow p → Shallow r → d ≤ limit → limit < e → ⊥
+    → marks 0 x ≡ p ++ ((t, d) ∷ q) → marks 0 y ≡ r ++ ((t, e) ∷ s) → words p ≡ words r → Shallow p → Shallow r → d ≤ most_openings → most_openings < e → ⊥
 one_depth g x y hx hy p q r s t d e i j same sp sr le lt =
-    let met : Meeting inside st 0 (goal_rule g) (λ ts. parse_with (deeper inside limit) (goal_rule g) ts) =
-    meets_with inside st wide 0 (deeper inside limit) (deeper_sound inside inside_ends limit 0 refl) (deeper_reads inside st wide good limit 0 refl) (deeper_meets inside st wide inside_ends good limit 0 refl)
+    let met : Meeting inside st 0 (goal_rule g) (λ ts. parse_with (deeper inside most_openings) (goal_rule g) ts) =
+    meets_with inside st wide 0 (deeper inside most_openings) (deeper_sound inside inside_ends most_openings 0 refl) (deeper_reads inside st wide good most_openings 0 refl) (deeper_meets inside st wide inside_ends good most_openings 0 refl)
     (goal_rule g) (ends (goal_part g)) (goal_good g) in
-    let run : List Lexeme → Answer = λ ts. parse_with (deeper inside limit) (goal_rule g) ts in
+    let run : List Lexeme → Answer = λ ts. parse_with (deeper inside most_openings) (goal_rule g) ts in
     let past : length (rest_of (run (words p ++ (t ∷ [])))) ≤ 0 = (met x hx p (t, d) q i sp []).passes le in
     let stops : run (words r ++ (t ∷ [])) ≡ Deep (t ∷ []) = (met y hy r (t, e) s j sr []).stops lt in
     let here : length (rest_of (run (words p ++ (t ∷ [])))) ≡ 1 = ap (λ (w : List Lexeme). length (rest_of (run (w ++ (t ∷ []))))) same ∙ ap (λ (a : Answer). length (rest_of a)) stops in

@@ -3,7 +3,7 @@
 //! A text is read from left to right, each time one blank, one comment or one token.
 ghost use Rattle.std.specs.Prelude.{◌≡◌, ◌==◌, ◌⊎◌, ◌+◌, ◌<◌, ◌≤◌, ◌-◌, length, drop, List, IfSome, IfOk, OnOk, IfErr};
 ghost use Rattle.span_lexer.specs.Limits.{longest_text};
-ghost use Rattle.span_lexer.specs.declared.lexer.TheConstants.{LONGEST_TEXT};
+ghost use Rattle.span_lexer.specs.declared.lexer.TheConstants.{GREATEST_INTEGER, LONGEST_TEXT, LONGEST_WORD};
 ghost use Rattle.std.specs.List.{prefix_len};
 ghost use Rattle.span_lexer.specs.Characters as character;
 ghost use Rattle.span_lexer.specs.Lexing as spec;
@@ -33,16 +33,18 @@ pub(crate) enum LexResult {
 /// The greatest length of a query or schema text in bytes.
 pub const LONGEST_TEXT: usize = 65536;
 
-/// The limit is the number that the definitions name.
-pub fn limit_is_stated()
-    ensures { LONGEST_TEXT ≡ longest_text }
-{}
-
 /// The greatest integer that a text may contain.
 pub const GREATEST_INTEGER: u64 = 9223372036854775807;
 
 /// The greatest length of a name in bytes.
 pub const LONGEST_WORD: usize = 128;
+
+/// The limits are the numbers that the definitions name.
+pub fn limits_are_stated()
+    ensures text { LONGEST_TEXT ≡ longest_text }
+    ensures integer { GREATEST_INTEGER ≡ spec.greatest_integer }
+    ensures word { LONGEST_WORD ≡ spec.longest_word }
+{}
 
 /// Why a text was refused, and the byte where the error is.
 #[derive(Clone, Copy, Debug, PartialEq, Eq)]

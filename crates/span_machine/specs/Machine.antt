@@ -120,13 +120,13 @@ is_safe m slot slot_state s =
 
 -- ---- steps
 
-abbrev pub undecided : Decision → Bool
-undecided Undecided = true
-undecided (Committed ts) = false
-undecided decision.Aborted = false
+abbrev pub is_no_decision : Decision → Bool
+is_no_decision Undecided = true
+is_no_decision (Committed ts) = false
+is_no_decision decision.Aborted = false
 
 abbrev pub is_undecided : OpenTransaction → Bool
-is_undecided t = undecided t.decision
+is_undecided t = is_no_decision t.decision
 
 abbrev pub begin_refusal : Machine → Option Refusal
 begin_refusal m = first_cause ((

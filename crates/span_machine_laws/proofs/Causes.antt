@@ -3,7 +3,7 @@ use Rattle.span_value.specs.declared.refusal.Refusal.TheVariants as refusal
 use Rattle.span_machine.specs.declared.transaction.Decision.{Decision}
 use Rattle.span_machine.specs.declared.transaction.Decision.TheVariants as decision
 use Rattle.span_value.specs.Results.{first_cause}
-use Rattle.span_machine.specs.Machine.{undecided}
+use Rattle.span_machine.specs.Machine.{is_no_decision}
 
 -- what a step that is not refused has found
 
@@ -39,7 +39,7 @@ may_apply false true true e = absurd (cc)
 may_apply false false early e = absurd (cc)
 may_apply true p early e = absurd (cc)
 
-pub undecided_is : (o : Decision) → undecided o ≡ true → o ≡ decision.Undecided
+pub undecided_is : (o : Decision) → is_no_decision o ≡ true → o ≡ decision.Undecided
 undecided_is decision.Undecided e = refl
 undecided_is (decision.Committed ts) e = absurd (cc)
 undecided_is decision.Aborted e = absurd (cc)

@@ -13,7 +13,7 @@ use Rattle.span_machine.specs.declared.transaction.OpenTransaction.{OpenTransact
 use Rattle.span_machine.specs.declared.transaction.Decision.{Decision}
 use Rattle.span_machine.specs.declared.transaction.Decision.TheVariants as decision
 use Rattle.span_machine.specs.declared.transaction.Decision.TheVariants.{Committed}
-use Rattle.span_machine.specs.Machine.{Machine, Understanding, IsStep, answer, start, changed_first, without_first, undecided, is_undecided, is_transaction, is_all_prepared, with_decision, add_prepared, prepare_timestamp, commit_timestamp, commit_of, committed, without_prepared, applied_at}
+use Rattle.span_machine.specs.Machine.{Machine, Understanding, IsStep, answer, start, changed_first, without_first, is_no_decision, is_undecided, is_transaction, is_all_prepared, with_decision, add_prepared, prepare_timestamp, commit_timestamp, commit_of, committed, without_prepared, applied_at}
 use Rattle.span_machine_laws.proofs.Causes.{may_commit}
 use Rattle.span_machine_laws.proofs.Tests.{not_both}
 use Rattle.span_machine_laws.proofs.Lists.{IsIn, all_push, all_changed, all_changed_found, all_without, all_found, all_weaker, all_places, all_both, changed_in}
@@ -37,8 +37,8 @@ pub record IsOrderly (m : Machine) : Type 0 where
 -- ---- small facts
 
 -- an undecided transaction is not committed
-not_committed : (o : Decision) (ts : ℕ) → undecided o ≡ true → o ≡ Committed ts → ⊥
-not_committed o ts still is = let e : undecided o ≡ false = ap undecided is in not_both (undecided o) still e
+not_committed : (o : Decision) (ts : ℕ) → is_no_decision o ≡ true → o ≡ Committed ts → ⊥
+not_committed o ts still is = let e : is_no_decision o ≡ false = ap is_no_decision is in not_both (is_no_decision o) still e
 
 -- the log has no commit of an undecided transaction
 pub none_decided : (log : List Commit) (t : OpenTransaction) → is_undecided t ≡ true → IsDecidedBy log t → AllByRecursion (λ c. c.number ≢ t.number) log

@@ -6,7 +6,7 @@ use Rattle.span_grammar.specs.declared.class.Context.TheVariants as context
 use Rattle.span_grammar.specs.declared.class.Sort.TheVariants as sort
 use Rattle.span_grammar.specs.declared.grammar.Part.TheVariants as part
 use Rattle.span_grammar.specs.declared.judge.Goal.TheVariants as goal
-use Rattle.span_grammar.specs.Rules.{limit}
+use Rattle.span_grammar.specs.Rules.{most_openings}
 use Rattle.span_primary.specs.declared.fault.SyntaxError.TheVariants as fault
 use Rattle.span_trees.specs.declared.tree.Spelling.{Spelling}
 use Rattle.span_trees.specs.declared.tree.Column.{Column}
@@ -274,4 +274,4 @@ statement text n = query text n (nested_query text n) >>= (λ q. (λ both. both.
 
 -- the text has a tree, and the query is that of the tree
 abbrev pub IsQuery : List ℕ → Query → Type 0
-IsQuery text query = ParsesAs goal.Statement (statement text limit).of text query
+IsQuery text query = ParsesAs goal.Statement (statement text most_openings).of text query

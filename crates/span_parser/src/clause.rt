@@ -403,14 +403,14 @@ pub struct Clauses<'t> {
 
 impl<'t> Model for Clauses<'t> {
     ghost use Rattle.std.specs.Prelude.{◌≤◌};
-    ghost use Rattle.span_grammar.specs.Rules.{limit};
+    ghost use Rattle.span_grammar.specs.Rules.{most_openings};
     ghost use Rattle.span_parser.specs.QueryTexts.{QueryText};
 
     ghost Value = { QueryText };
 
     ghost view = { λ c. record { text = c.text.now; left = c.left } };
 
-    ghost invariant = { λ c. c.left ≤ limit };
+    ghost invariant = { λ c. c.left ≤ most_openings };
 }
 
 impl<'t> Clauses<'t> {

@@ -5,7 +5,7 @@ use Rattle.span_primary.specs.declared.fault.SyntaxError.{SyntaxError}
 use Rattle.span_grammar.specs.declared.class.Lexeme.{Lexeme}
 use Rattle.span_grammar.specs.declared.grammar.Part.{Part}
 use Rattle.span_grammar.specs.declared.grammar.Part.TheVariants as part
-use Rattle.span_grammar.specs.Rules.{Answer, Read, Wrong, Deep, Tree, limit, is_nullable, parse}
+use Rattle.span_grammar.specs.Rules.{Answer, Read, Wrong, Deep, Tree, most_openings, is_nullable, parse}
 use Rattle.span_grammar.specs.Shapes.{shape_of}
 use Rattle.span_grammar.specs.Grammar.{inside, rule_of}
 use Rattle.span_primary.specs.Pieces.{Piece, ReadResult, to_read_result}
@@ -28,33 +28,33 @@ read_at of v k (Read t j) h = (t, ap (Read t) (rest_is (of t) v j k h))
 read_at of v k (Wrong j) h = absurd cc
 read_at of v k (Deep j) h = absurd cc
 
-pub shrinking : {A : Type 0} (n : ℕ) (p a : Part) (x : Piece A) → is_nullable (rule_of a) ≡ false → n ≤ limit → Good n (rule_of a) x → Shrinks x.read
+pub shrinking : {A : Type 0} (n : ℕ) (p a : Part) (x : Piece A) → is_nullable (rule_of a) ≡ false → n ≤ most_openings → Good n (rule_of a) x → Shrinks x.read
 shrinking n p a x full le g = record { falls = λ ts k v h. let r = read_at x.of v k (parse inside n (rule_of a) ts) (sym (g.is ts) ∙ h) in shrinks n a full le ts k r.0 r.1 }
 
-pub term_more_shrinks : (text : List ℕ) (n : ℕ) → n ≤ limit → Shrinks (term_more text n (after text n)).read
+pub term_more_shrinks : (text : List ℕ) (n : ℕ) → n ≤ most_openings → Shrinks (term_more text n (after text n)).read
 unfolding shape_of
 term_more_shrinks text n le = shrinking n part.TermRest part.TermMore (term_more text n (after text n)) (repeated_full part.TermRest part.TermMore refl) le (term_more_good text n (after text n) (deep text n))
 
-pub sum_more_shrinks : (text : List ℕ) (n : ℕ) → n ≤ limit → Shrinks (sum_more text n (after text n)).read
+pub sum_more_shrinks : (text : List ℕ) (n : ℕ) → n ≤ most_openings → Shrinks (sum_more text n (after text n)).read
 unfolding shape_of
 sum_more_shrinks text n le = shrinking n part.SumRest part.SumMore (sum_more text n (after text n)) (repeated_full part.SumRest part.SumMore refl) le (sum_more_good text n (after text n) (deep text n))
 
-pub conjunction_more_shrinks : (text : List ℕ) (n : ℕ) → n ≤ limit → Shrinks (conjunction_more text n (after text n)).read
+pub conjunction_more_shrinks : (text : List ℕ) (n : ℕ) → n ≤ most_openings → Shrinks (conjunction_more text n (after text n)).read
 unfolding shape_of
 conjunction_more_shrinks text n le = shrinking n part.ConjunctionRest part.ConjunctionMore (conjunction_more text n (after text n)) (repeated_full part.ConjunctionRest part.ConjunctionMore refl) le (conjunction_more_good text n (after text n) (deep text n))
 
-pub expression_more_shrinks : (text : List ℕ) (n : ℕ) → n ≤ limit → Shrinks (expression_more text n (after text n)).read
+pub expression_more_shrinks : (text : List ℕ) (n : ℕ) → n ≤ most_openings → Shrinks (expression_more text n (after text n)).read
 unfolding shape_of
 expression_more_shrinks text n le = shrinking n part.ExpressionRest part.ExpressionMore (expression_more text n (after text n)) (repeated_full part.ExpressionRest part.ExpressionMore refl) le (expression_more_good text n (after text n) (deep text n))
 
-pub list_more_shrinks : (text : List ℕ) (n : ℕ) → 0 < n → n ≤ limit → Shrinks (list_more (after text n).expression).read
+pub list_more_shrinks : (text : List ℕ) (n : ℕ) → 0 < n → n ≤ most_openings → Shrinks (list_more (after text n).expression).read
 unfolding shape_of
 list_more_shrinks text zero z le = absurd (omega arith)
 list_more_shrinks text (suc n) z le =
     let x = list_more (after text (suc n)).expression in
     shrinking n part.ListRest part.ListMore x (repeated_full part.ListRest part.ListMore refl) (omega arith) (list_more_good n (after text (suc n)).expression ((deep text (suc n)).expression n refl))
 
-pub when_shrinks : (text : List ℕ) (n : ℕ) → 0 < n → n ≤ limit → Shrinks (when (after text n).expression).read
+pub when_shrinks : (text : List ℕ) (n : ℕ) → 0 < n → n ≤ most_openings → Shrinks (when (after text n).expression).read
 unfolding shape_of
 when_shrinks text zero z le = absurd (omega arith)
 when_shrinks text (suc n) z le =

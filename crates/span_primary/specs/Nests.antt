@@ -7,7 +7,7 @@ use Rattle.span_grammar.specs.declared.class.Lexeme.{Lexeme}
 use Rattle.span_trees.specs.declared.tree.Expr.{Expr}
 use Rattle.span_primary.specs.declared.reader.Level.{Level}
 use Rattle.span_primary.specs.declared.reader.Level.TheVariants as level
-use Rattle.span_grammar.specs.Rules.{limit}
+use Rattle.span_grammar.specs.Rules.{most_openings}
 use Rattle.span_primary.specs.Pieces.{Piece, Gives}
 use Rattle.span_primary.specs.Expressions.{Inner, after, expression, negated_predicate, signed_primary}
 use Rattle.span_primary.specs.Reading.{Reading, Returned}
@@ -34,7 +34,7 @@ Arguments = Global × (Bor (List ℕ) × (ℕ × (Level × (Bor (List Lexeme) ×
 
 -- the reader's function reads what is after an opening of its text, with one opening fewer left
 pub record Nests {F : Type 0} (call : Shared F Arguments (Returned Expr)) (r : Reading F) : Type 0 where
-  pub limited : r.left ≤ limit
+  pub limited : r.left ≤ most_openings
   pub callable : (alloc : Global) (t : Bor (List ℕ)) (l : Level) (ts : Bor (List Lexeme)) → 0 < r.left
       → call.pre r.read (alloc, (t, (r.left - 1, (l, (ts, tt)))))
   pub gives : (alloc : Global) (t : Bor (List ℕ)) (l : Level) (ts : Bor (List Lexeme)) (v : Returned Expr)

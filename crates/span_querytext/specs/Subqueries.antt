@@ -6,7 +6,7 @@ use denote.Ref.{Bor}
 use Rattle.span_grammar.specs.declared.class.Lexeme.{Lexeme}
 use Rattle.span_grammar.specs.declared.grammar.Part.{Part}
 use Rattle.span_parser.specs.declared.tree.Query.{Query}
-use Rattle.span_grammar.specs.Rules.{limit}
+use Rattle.span_grammar.specs.Rules.{most_openings}
 use Rattle.span_primary.specs.Pieces.{Piece, Gives, each}
 use Rattle.span_primary.specs.Reading.{Reading, Returned}
 use Rattle.span_parser.specs.Queries.{query, nested_query}
@@ -31,7 +31,7 @@ Arguments = Global × (Bor (List ℕ) × (ℕ × (Bor (List Lexeme) × Unit {0})
 
 -- the reader's function reads a query of its text, with one opening fewer left
 pub record NestsQueries {F : Type 0} (call : Shared F Arguments (Returned Query)) (r : Reading F) : Type 0 where
-  pub limited : r.left ≤ limit
+  pub limited : r.left ≤ most_openings
   pub callable : (alloc : Global) (t : Bor (List ℕ)) (ts : Bor (List Lexeme)) → 0 < r.left
       → call.pre r.read (alloc, (t, (r.left - 1, (ts, tt))))
   pub gives : (alloc : Global) (t : Bor (List ℕ)) (ts : Bor (List Lexeme)) (v : Returned Query) → t.now ≡ r.text

@@ -1,7 +1,7 @@
 //! From a query text to its tree, or to the refusal and the place of the error.
 ghost use Rattle.std.specs.Prelude.{◌≡◌, ◌≢◌, IfOk, IfErr};
 ghost use Rattle.span_grammar.specs.Judged.{IsRefused};
-ghost use Rattle.span_grammar.specs.Rules.{limit};
+ghost use Rattle.span_grammar.specs.Rules.{most_openings};
 ghost use Rattle.span_parser.specs.Queries as spec;
 ghost use Rattle.span_grammar.specs.Classes.{lexemes_of};
 ghost use Rattle.span_syntax.specs.Parsed.{GivesToEnd, read_to_end, Reports, Refuses, IsOrOutOfMemory};
@@ -11,7 +11,7 @@ use super::query::statement;
 use span_grammar::class::Lexeme;
 use span_grammar::classify::lexemes;
 use span_grammar::judge::Goal;
-use span_grammar::reader::DEEPEST;
+use span_grammar::reader::MOST_OPENINGS;
 use span_lexer::lexer::{ReadError, tokens};
 use span_lexer::token::Token;
 use span_parser::tree::Query;
@@ -23,9 +23,9 @@ use std::alloc::{AllocError, Global};
 /// The query that all the tokens are, of a text of these bytes.
 #[tactic(auto, using(span_syntax::proofs::Parsing::whole_steps))]
 fn read_statement(alloc: Global, text: &[u8], tokens: &[Lexeme]) -> Result<Query, SyntaxError>
-    ensures { GivesToEnd result (read_to_end (spec.statement text.now limit) tokens.now) }
+    ensures { GivesToEnd result (read_to_end (spec.statement text.now most_openings) tokens.now) }
 {
-    let (query, rest) = statement(alloc, text, DEEPEST, tokens)?;
+    let (query, rest) = statement(alloc, text, MOST_OPENINGS, tokens)?;
     require_end(query, rest)
 }
 
@@ -47,7 +47,7 @@ fn place_of(
 
 /// The query that the tokens of a text are.
 fn query_of(alloc: Global, text: &[u8], tokens: &[Token]) -> Result<Query, ReadError>
-    ensures { Reports result (read_to_end (spec.statement text.now limit) (lexemes_of text.now tokens.now)) }
+    ensures { Reports result (read_to_end (spec.statement text.now most_openings) (lexemes_of text.now tokens.now)) }
 {
     let found = lexemes(alloc, text, tokens)?;
     match read_statement(alloc, text, found.as_slice()) {

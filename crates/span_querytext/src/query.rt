@@ -2,7 +2,7 @@
 //!
 //! As with expressions, a single function recurses, after the parenthesis of a derived table.
 ghost use Rattle.std.specs.Prelude.{◌<◌, ◌≤◌};
-ghost use Rattle.span_grammar.specs.Rules.{limit};
+ghost use Rattle.span_grammar.specs.Rules.{most_openings};
 ghost use Rattle.span_primary.specs.Pieces.{Gives};
 ghost use Rattle.span_parser.specs.Queries as spec;
 ghost use Rattle.span_querytext.specs.Subqueries.{NestsQueries, ReadsNested, ReadsQuery, ReadsEachQuery};
@@ -284,7 +284,7 @@ fn read_query<'a>(
     left: usize,
     tokens: &'a [Lexeme],
 ) -> Result<(Query, &'a [Lexeme]), SyntaxError>
-    requires { left ≤ limit }
+    requires { left ≤ most_openings }
     ensures { Gives result ((spec.query text.now left (spec.nested_query text.now left)).read tokens.now) }
 {
     let clauses = Clauses { alloc, text, left };
@@ -303,7 +303,7 @@ pub(crate) fn statement<'a>(
     left: usize,
     tokens: &'a [Lexeme],
 ) -> Result<(Query, &'a [Lexeme]), SyntaxError>
-    requires { left ≤ limit }
+    requires { left ≤ most_openings }
     ensures { Gives result ((spec.statement text.now left).read tokens.now) }
 {
     let (query, rest) = read_query(alloc, text, left, tokens)?;

@@ -1,7 +1,7 @@
 //! The rules that each table of a schema meets, checked in one order.
 ghost use Rattle.std.specs.Prelude.{◌≡◌, ◌<◌, ◌≤◌, MatchResult, length};
 ghost use Rattle.span_schema.specs.Limits.{most_tables, most_columns, most_levels, longest_column};
-ghost use Rattle.span_schema.specs.declared.rules.TheConstants.{MOST_TABLES, MOST_COLUMNS, MOST_LEVELS, LONGEST};
+ghost use Rattle.span_schema.specs.declared.rules.TheConstants.{MOST_TABLES, MOST_COLUMNS, MOST_LEVELS, LONGEST_COLUMN};
 ghost use Rattle.span_schema.specs.Tables.{table_place, is_same_type, type_named, table_named};
 ghost use Rattle.std.specs.Option.{option_copied};
 ghost use Rattle.span_value.specs.Results.{first_cause};
@@ -23,14 +23,14 @@ pub const MOST_COLUMNS: usize = 64;
 pub const MOST_LEVELS: usize = 7;
 
 /// The greatest length of a STRING column in characters, and of a BYTES column in bytes.
-pub const LONGEST: u64 = 1_048_576;
+pub const LONGEST_COLUMN: u64 = 1_048_576;
 
 /// The limits are the numbers that the definitions name.
 pub fn limits_are_stated()
     ensures most_tables { MOST_TABLES ≡ most_tables }
     ensures most_columns { MOST_COLUMNS ≡ most_columns }
     ensures most_levels { MOST_LEVELS ≡ most_levels }
-    ensures longest_column { LONGEST ≡ longest_column }
+    ensures longest_column { LONGEST_COLUMN ≡ longest_column }
 {}
 
 /// The first rule that a table breaks, if it breaks one. The tables before it meet the rules; `level` is its own level.
@@ -117,8 +117,8 @@ fn is_bad_length(kind: ColumnType) -> bool
     ensures { result ≡ has_bad_length kind }
 {
     match kind {
-        ColumnType::Str(Some(most)) => most == 0 || most > LONGEST,
-        ColumnType::Bytes(Some(most)) => most == 0 || most > LONGEST,
+        ColumnType::Str(Some(most)) => most == 0 || most > LONGEST_COLUMN,
+        ColumnType::Bytes(Some(most)) => most == 0 || most > LONGEST_COLUMN,
         _ => false,
     }
 }

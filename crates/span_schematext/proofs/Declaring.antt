@@ -19,12 +19,12 @@ use Rattle.span_primary.specs.Pieces.{token, nothing, ◌<$>◌, ◌>>=◌, eith
 use Rattle.span_primary.specs.Expressions.{direction}
 use Rattle.span_primary.proofs.Good.{Good, token_good, nothing_good, map_good, then_good, or_good, many_good, open_good}
 use Rattle.span_primary.proofs.Expressing.{direction_good}
-use Rattle.span_schematext.specs.Declarations.{name_of, name, at_most, unbounded, length_bound, in_length, long_kind, long_of, not_null, maybe_not_null, no_action, action, on_delete, maybe_on_delete, maybe_last_semicolon, parent, in_parent, interleave, maybe_interleave, key_column, key_column_more, in_key_columns, length_parenthesis, long_type, column_type, table_column, table_column_more, in_table_columns, key_columns, table_columns, key_and_parent, primary_key, named_table, table, table_more, tables}
+use Rattle.span_schematext.specs.Declarations.{name_of, name, at_most, no_bound, length_bound, in_length, long_kind, long_of, not_null, maybe_not_null, no_action, action, on_delete, maybe_on_delete, maybe_last_semicolon, parent, in_parent, interleave, maybe_interleave, key_column, key_column_more, in_key_columns, length_parenthesis, long_type, column_type, table_column, table_column_more, in_table_columns, key_columns, table_columns, key_and_parent, primary_key, named_table, table, table_more, tables}
 
 module _ (n : ℕ) where
   pub length_bound_good : Good n (rule_of part.LengthBound) (length_bound)
   unfolding length_bound shape_of part_inside
-  length_bound_good = or_good n part.LengthBound (part.Token sort.Int) (part.Token (sort.Context context.Max)) refl (at_most <$> (token sort.Int)) (unbounded <$> (token (sort.Context context.Max))) (map_good at_most (token sort.Int) (token_good n sort.Int)) (map_good unbounded (token (sort.Context context.Max)) (token_good n (sort.Context context.Max)))
+  length_bound_good = or_good n part.LengthBound (part.Token sort.Int) (part.Token (sort.Context context.Max)) refl (at_most <$> (token sort.Int)) (no_bound <$> (token (sort.Context context.Max))) (map_good at_most (token sort.Int) (token_good n sort.Int)) (map_good no_bound (token (sort.Context context.Max)) (token_good n (sort.Context context.Max)))
 
   pub in_length_good : Good n (rule_of part.InLength) (in_length)
   unfolding in_length shape_of part_inside

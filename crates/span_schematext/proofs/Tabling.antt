@@ -8,7 +8,7 @@ use Rattle.span_value.specs.declared.refusal.Refusal.TheVariants as refusal
 use Rattle.span_schema.specs.declared.table.Table.{Table}
 use Rattle.span_schema.specs.Lineages.{path_at, cause_in, cause_at, MeetsRules, IsFirstCause}
 use Rattle.span_grammar.specs.declared.judge.Goal.TheVariants as goal
-use Rattle.span_grammar.specs.Rules.{limit}
+use Rattle.span_grammar.specs.Rules.{most_openings}
 use Rattle.span_grammar.specs.Judged.{IsRefused}
 use Rattle.span_schematext.specs.SchemaTexts.{AreTables, IsSchemaText, IsSchemaRefused, IsSchemaOrOutOfMemory, RefusesSchema}
 use Rattle.span_schematext.specs.Declarations.{tables}
@@ -69,8 +69,8 @@ module _ (text : List ℕ) (found : List Table) (are : AreTables text found) (on
 
 -- a text declares one list of tables at most
 pub one_tables : (text : List ℕ) (x y : List Table) → AreTables text x → AreTables text y → x ≡ y
-one_tables text x y s t = one_value goal.Schema (tables text limit) (tables_good text limit) text s.items s.made x y s t
+one_tables text x y s t = one_value goal.Schema (tables text most_openings) (tables_good text most_openings) text s.items s.made x y s t
 
 -- a text that declares tables is not refused
 pub not_refused : (text : List ℕ) (x : List Table) → AreTables text x → (why : Refusal) → why ≢ refusal.OutOfMemory → IsRefused goal.Schema text why → ⊥
-not_refused text x s why n i = value_not_refused goal.Schema (tables text limit) (tables_good text limit) text s.items s.made x s why n i
+not_refused text x s why n i = value_not_refused goal.Schema (tables text most_openings) (tables_good text most_openings) text s.items s.made x s why n i

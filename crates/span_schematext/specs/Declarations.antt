@@ -29,13 +29,13 @@ name text = name_of text <$> token sort.Name
 abbrev pub at_most : Lexeme → Option ℕ
 at_most t = Some (value_of t.token.kind)
 
-abbrev pub unbounded : Lexeme → Option ℕ
-unbounded t = None
+abbrev pub no_bound : Lexeme → Option ℕ
+no_bound t = None
 
 -- the greatest length; none for MAX
 unfoldable pub length_bound : Piece (Option ℕ)
 length_bound =
-    either (part.Token sort.Int) (at_most <$> token sort.Int) (unbounded <$> token (sort.Context context.Max))
+    either (part.Token sort.Int) (at_most <$> token sort.Int) (no_bound <$> token (sort.Context context.Max))
 
 unfoldable pub in_length : Piece (Option ℕ)
 in_length = length_bound >>= (λ most. (λ t. most) <$> token (sort.Sign sign.Close))

@@ -5,14 +5,14 @@ use Rattle.span_value.specs.declared.refusal.Refusal.TheVariants as refusal
 use Rattle.span_schema.specs.declared.table.Table.{Table}
 use Rattle.span_schema.specs.Lineages.{MeetsRules, IsFirstCause}
 use Rattle.span_grammar.specs.declared.judge.Goal.TheVariants as goal
-use Rattle.span_grammar.specs.Rules.{limit}
+use Rattle.span_grammar.specs.Rules.{most_openings}
 use Rattle.span_grammar.specs.Judged.{IsRefused}
 use Rattle.span_syntax.specs.Parsed.{ParsesAs}
 use Rattle.span_schematext.specs.Declarations.{tables}
 
 -- the text has a tree, and the tables are those of the tree
 abbrev pub AreTables : List ℕ → List Table → Type 0
-AreTables text found = ParsesAs goal.Schema (tables text limit).of text found
+AreTables text found = ParsesAs goal.Schema (tables text most_openings).of text found
 
 -- the text declares the tables, and they meet the rules
 abbrev pub IsSchemaText : List ℕ → List Table → Type 0

@@ -1,6 +1,6 @@
 //! Declarations of tables, read from tokens: a function for each rule.
 ghost use Rattle.std.specs.Prelude.{◌≡◌, ◌<◌, ◌≤◌, ◌-◌, ◌∷◌, IfOk};
-ghost use Rattle.span_grammar.specs.Rules.{limit};
+ghost use Rattle.span_grammar.specs.Rules.{most_openings};
 ghost use Rattle.span_primary.specs.Pieces.{Gives, each};
 ghost use Rattle.span_schematext.specs.Declarations as spec;
 
@@ -356,7 +356,7 @@ fn table_column_rest<'a>(
     left: usize,
     tokens: &'a [Lexeme],
 ) -> Result<(Seq<Column>, &'a [Lexeme]), SyntaxError>
-    requires { left ≤ limit }
+    requires { left ≤ most_openings }
     ensures { Gives result ((each Part.TableColumnMore (spec.table_column_more text.now left)).read tokens.now) }
 {
     let mut found = Seq::new(alloc);
@@ -377,7 +377,7 @@ fn in_table_columns<'a>(
     left: usize,
     tokens: &'a [Lexeme],
 ) -> Result<(Seq<Column>, &'a [Lexeme]), SyntaxError>
-    requires { left ≤ limit }
+    requires { left ≤ most_openings }
     ensures { Gives result ((spec.in_table_columns text.now left).read tokens.now) }
 {
     let (first, rest) = table_column(alloc, text, left, tokens)?;
@@ -408,7 +408,7 @@ fn table_columns<'a>(
     left: usize,
     tokens: &'a [Lexeme],
 ) -> Result<(Seq<Column>, &'a [Lexeme]), SyntaxError>
-    requires { left ≤ limit }
+    requires { left ≤ most_openings }
     ensures { Gives result ((spec.table_columns text.now left).read tokens.now) }
 {
     let (_, rest) = enter(left, Sort::Sign(Sign::Open), tokens)?;
@@ -465,7 +465,7 @@ fn named_table<'a>(
     left: usize,
     tokens: &'a [Lexeme],
 ) -> Result<(Table, &'a [Lexeme]), SyntaxError>
-    requires { left ≤ limit }
+    requires { left ≤ most_openings }
     ensures { Gives result ((spec.named_table text.now left).read tokens.now) }
 {
     let (name, rest) = name(alloc, text, tokens)?;
@@ -481,7 +481,7 @@ fn table<'a>(
     left: usize,
     tokens: &'a [Lexeme],
 ) -> Result<(Table, &'a [Lexeme]), SyntaxError>
-    requires { left ≤ limit }
+    requires { left ≤ most_openings }
     ensures { Gives result ((spec.table text.now left).read tokens.now) }
 {
     let (_, rest) = take(Sort::Word(Word::Create), tokens)?;
@@ -497,7 +497,7 @@ fn table_more<'a>(
     left: usize,
     tokens: &'a [Lexeme],
 ) -> Result<(Table, &'a [Lexeme]), SyntaxError>
-    requires { left ≤ limit }
+    requires { left ≤ most_openings }
     ensures { Gives result ((spec.table_more text.now left).read tokens.now) }
 {
     let (_, rest) = take(Sort::Separator, tokens)?;
@@ -512,7 +512,7 @@ fn table_rest<'a>(
     left: usize,
     tokens: &'a [Lexeme],
 ) -> Result<(Seq<Table>, &'a [Lexeme]), SyntaxError>
-    requires { left ≤ limit }
+    requires { left ≤ most_openings }
     ensures { Gives result ((each Part.TableMore (spec.table_more text.now left)).read tokens.now) }
 {
     let mut found = Seq::new(alloc);
@@ -545,7 +545,7 @@ pub(crate) fn tables<'a>(
     left: usize,
     tokens: &'a [Lexeme],
 ) -> Result<(Seq<Table>, &'a [Lexeme]), SyntaxError>
-    requires { left ≤ limit }
+    requires { left ≤ most_openings }
     ensures { Gives result ((spec.tables text.now left).read tokens.now) }
 {
     let (first, rest) = table(alloc, text, left, tokens)?;

@@ -2,7 +2,7 @@
 ghost use Rattle.std.specs.Prelude.{◌≡◌, ◌≢◌, List, IfOk, IfErr};
 ghost use Rattle.span_grammar.specs.Classes.{lexemes_of};
 ghost use Rattle.span_grammar.specs.Judged.{IsRefused};
-ghost use Rattle.span_grammar.specs.Rules.{limit};
+ghost use Rattle.span_grammar.specs.Rules.{most_openings};
 ghost use Rattle.span_syntax.specs.Parsed.{GivesToEnd, read_to_end, Reports, Refuses, IsOrOutOfMemory};
 ghost use Rattle.span_schema.specs.declared.table.Table.{Table as Declared};
 ghost use Rattle.span_schematext.specs.Declarations as spec;
@@ -12,7 +12,7 @@ use super::declaration::tables;
 use span_grammar::class::Lexeme;
 use span_grammar::classify::lexemes;
 use span_grammar::judge::Goal;
-use span_grammar::reader::DEEPEST;
+use span_grammar::reader::MOST_OPENINGS;
 use span_lexer::lexer::{ReadError, tokens as tokens_of};
 use span_lexer::token::Token;
 use span_primary::fault::SyntaxError;
@@ -26,9 +26,9 @@ use std::alloc::{AllocError, Global};
 /// The tables that all the tokens declare, of a text of these bytes.
 #[tactic(auto, using(span_syntax::proofs::Parsing::whole_steps))]
 fn read_all(alloc: Global, text: &[u8], tokens: &[Lexeme]) -> Result<Seq<Table>, SyntaxError>
-    ensures { GivesToEnd result (read_to_end (spec.tables text.now limit) tokens.now) }
+    ensures { GivesToEnd result (read_to_end (spec.tables text.now most_openings) tokens.now) }
 {
-    let (found, rest) = tables(alloc, text, DEEPEST, tokens)?;
+    let (found, rest) = tables(alloc, text, MOST_OPENINGS, tokens)?;
     require_end(found, rest)
 }
 
@@ -50,7 +50,7 @@ fn place_of(
 
 /// The tables that the tokens of a text declare.
 fn tables_of(alloc: Global, text: &[u8], tokens: &[Token]) -> Result<Seq<Table>, ReadError>
-    ensures { Reports result (read_to_end (spec.tables text.now limit) (lexemes_of text.now tokens.now)) }
+    ensures { Reports result (read_to_end (spec.tables text.now most_openings) (lexemes_of text.now tokens.now)) }
 {
     let found = lexemes(alloc, text, tokens)?;
     match read_all(alloc, text, found.as_slice()) {

@@ -12,7 +12,7 @@ use Rattle.span_command.specs.declared.command.Command.TheVariants as command
 use Rattle.span_machine.specs.declared.step.Step.{Step}
 use Rattle.span_steps.specs.States.{ScriptState, numbered_step}
 use Rattle.span_script.specs.Scripts.{IsChanged, IsDone, IsRefused, IsReplied}
-use Rattle.span_steps.specs.Sessions.{Adds}
+use Rattle.span_steps.specs.Running.{Adds}
 use Rattle.span_steps.specs.Steps.{Takes}
 
 pub adds_weaker : {T : Type 0} (P Q : List ℕ → Type 0) (old new : List ℕ) (r : Result T Refusal) → ((answer : List ℕ) → P answer → Q answer) → Adds P old new r → Adds Q old new r

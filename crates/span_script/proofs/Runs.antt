@@ -9,7 +9,7 @@ use Rattle.span_command.specs.declared.line.Lines.{Lines}
 use Rattle.span_command.specs.Unread.{IsTaken, ReadsAs, IsStillToCome, TakesNext}
 use Rattle.span_steps.specs.States.{ScriptState, IsFirst}
 use Rattle.span_script.specs.Scripts.{HasText, AreLines, AreAnswers, IsAnswerText, end_answer, AddsLine}
-use Rattle.span_steps.specs.Sessions.{text_of}
+use Rattle.span_steps.specs.Running.{text_of}
 use Rattle.span_answers.proofs.Written.{wrote_all, wrote_none, wrote_pending, keeps_on, more_pending}
 
 -- ---- lines
@@ -33,7 +33,7 @@ module _ (lines : Lines) (known : Option (List ℕ)) (text : List ℕ) (more : B
 pub record IsAnsweredSoFar (schema : List Table) (m : Machine) (script : List ℕ) (old : Option (List ℕ)) (lines : Lines) (known : Option (List ℕ))
     (state : ScriptState) (mid : Machine) (now : Option (List ℕ)) (pending : List ℕ) : Type 0 where
   pub rest : List ℕ
-  pub stands : IsStillToCome lines known rest
+  pub to_come : IsStillToCome lines known rest
   pub first : ScriptState
   pub is_first : IsFirst first
   pub answers : List ℕ
@@ -46,9 +46,9 @@ module _ (schema : List Table) (m : Machine) (script : List ℕ) (old : Option (
   pub none_so_far : (lines : Lines) (known : Option (List ℕ)) (state : ScriptState) (pending : List ℕ) → known ≡ Some script
       → ((rest : List ℕ) → IsStillToCome lines (Some rest) rest) → IsFirst state → pending ≡ []
       → IsAnsweredSoFar schema m script old lines known state m old pending
-  none_so_far lines known state pending is_known stands is none = record {
+  none_so_far lines known state pending is_known to_come is none = record {
     rest = script;
-    stands = subst (λ (k : Option (List ℕ)). IsStillToCome lines k script) (sym is_known) (stands script);
+    to_come = subst (λ (k : Option (List ℕ)). IsStillToCome lines k script) (sym is_known) (to_come script);
     first = state;
     is_first = is;
     answers = [];
@@ -73,7 +73,7 @@ module _ (schema : List Table) (m : Machine) (script : List ℕ) (old : Option (
       (more_pending old now' so_far.answers pending' adds.answer (keeps_on _ _ _ so_far.written keeps)) in
       record {
         rest = takes.following;
-        stands = takes.stands;
+        to_come = takes.to_come;
         first = so_far.first;
         is_first = so_far.is_first;
         answers = so_far.answers ++ adds.answer;

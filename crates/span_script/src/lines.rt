@@ -3,7 +3,7 @@ ghost use Rattle.std.specs.Prelude.{◌≡◌, ◌++◌, None, Some, is_some, If
 ghost use Rattle.span_answers.specs.Lines.{Begins};
 ghost use Rattle.span_script.specs.Reports.{AreAnswered};
 ghost use Rattle.span_script.specs.Scripts.{IsAnswered, IsCommandLine, IsDone, IsReplied, end_answer, is_passed_over, AddsLine};
-ghost use Rattle.span_steps.specs.Sessions.{Adds, AddsAt, state_of, text_of};
+ghost use Rattle.span_steps.specs.Running.{Adds, AddsAt, state_of, text_of};
 
 use span_answers::answer::Answers;
 use span_command::command::{Command, read_command};
@@ -11,7 +11,7 @@ use span_command::line::Line;
 use span_core::database::Core;
 use span_core::{Refusal, Reply};
 use span_steps::refused::Refused;
-use span_steps::session::Session;
+use span_steps::running::RunningScript;
 use span_steps::steps::{step_of, take_step};
 use std::alloc::Global;
 
@@ -19,7 +19,7 @@ use std::alloc::Global;
 /// if one was. `OutOfMemory` where memory runs out for the answer.
 #[tactic(auto, using(span_answers::proofs::Begun::front_taken))]
 pub(crate) fn take_line(
-    session: &mut Session,
+    running: &mut RunningScript,
     alloc: Global,
     core: &mut Core,
     number: u64,
@@ -27,15 +27,15 @@ pub(crate) fn take_line(
     answers: &mut Answers,
 ) -> Result<Option<Refused>, Refusal>
     ensures exact { IfOk result (λ _. AddsLine core.old.schema (text_of line.entry)
-        (state_of session.old) core.old.machine (state_of session.new) core.new.machine answers.old answers.new) }
+        (state_of running.old) core.old.machine (state_of running.new) core.new.machine answers.old answers.new) }
     ensures schema { core.new.schema ≡ core.old.schema }
     ensures answered { IfOk result (AreAnswered answers.old answers.new) }
-    ensures here { session.old.load ≡ None
+    ensures here { running.old.load ≡ None
         → IfOk result (λ refused. IfSome refused (λ refused. refused.line ≡ number)) }
     ensures memory { IsOkUnless result Refusal.OutOfMemory }
 {
     let before = answers.len();
-    match answer_line(session, alloc, core, number, line, answers) {
+    match answer_line(running, alloc, core, number, line, answers) {
         Ok(()) => Ok(None),
         Err(refused) => {
             answers.cut(before);
@@ -48,18 +48,18 @@ pub(crate) fn take_line(
 /// The end of the script, after the line of this number: a load without its `end` is refused.
 #[tactic(auto, using(span_answers::proofs::Begun::begins_itself))]
 pub(crate) fn finish(
-    session: &mut Session,
+    running: &mut RunningScript,
     number: u64,
     answers: &mut Answers,
 ) -> Result<Option<Refused>, Refusal>
-    ensures exact { IfOk result (λ _. answers.new ≡ answers.old ++ end_answer (state_of session.old)) }
+    ensures exact { IfOk result (λ _. answers.new ≡ answers.old ++ end_answer (state_of running.old)) }
     ensures answered { IfOk result (AreAnswered answers.old answers.new) }
     ensures last { IfOk result (λ refused. IfSome refused
         (λ refused. (refused.why ≡ Refusal.BadCommand) × (refused.line ≡ number))) }
-    ensures unread { IfOk result (λ refused. is_some refused ≡ is_some session.old.load) }
+    ensures unread { IfOk result (λ refused. is_some refused ≡ is_some running.old.load) }
     ensures memory { IsOkUnless result Refusal.OutOfMemory }
 {
-    match session.load.take() {
+    match running.load.take() {
         Some(_) => {
             answers.refusal_line(Refusal::BadCommand)?;
             Ok(Some(Refused {
@@ -74,7 +74,7 @@ pub(crate) fn finish(
 /// Adds the answer of a line, or answers where and why its command is refused.
 #[tactic(auto, using(span_answers::proofs::Begun::begins_itself, span_answers::proofs::Begun::begins_on))]
 fn answer_line(
-    session: &mut Session,
+    running: &mut RunningScript,
     alloc: Global,
     core: &mut Core,
     number: u64,
@@ -83,15 +83,15 @@ fn answer_line(
 ) -> Result<(), Refused>
     ensures exact { AddsAt
         (λ answer. IsAnswered core.old.schema (text_of line.entry)
-        (state_of session.old) core.old.machine answer (state_of session.new) core.new.machine)
+        (state_of running.old) core.old.machine answer (state_of running.new) core.new.machine)
         answers.old answers.new result }
     ensures schema { core.new.schema ≡ core.old.schema }
     ensures grows { Begins answers.old answers.new }
-    ensures here { session.old.load ≡ None → IfErr result (λ refused. refused.line ≡ number) }
+    ensures here { running.old.load ≡ None → IfErr result (λ refused. refused.line ≡ number) }
 {
-    match session.load.take() {
-        Some(load) => session.load_line(alloc, load, number, line, answers),
-        None => match command_line(session, alloc, core, number, line, answers) {
+    match running.load.take() {
+        Some(load) => running.load_line(alloc, load, number, line, answers),
+        None => match command_line(running, alloc, core, number, line, answers) {
             Ok(()) => Ok(()),
             Err(why) => Err(Refused { line: number, why }),
         },
@@ -101,23 +101,23 @@ fn answer_line(
 /// A line that is in no load.
 #[tactic(auto, using(span_answers::proofs::Begun::begins_itself, span_answers::proofs::Begun::begins_on))]
 fn command_line(
-    session: &mut Session,
+    running: &mut RunningScript,
     alloc: Global,
     core: &mut Core,
     number: u64,
     line: Line<'_>,
     answers: &mut Answers,
 ) -> Result<(), Refusal>
-    requires { session.old.load ≡ None }
+    requires { running.old.load ≡ None }
     ensures exact { Adds
         (λ answer. IsCommandLine core.old.schema (text_of line.entry)
-        (state_of session.old) core.old.machine answer (state_of session.new) core.new.machine)
+        (state_of running.old) core.old.machine answer (state_of running.new) core.new.machine)
         answers.old answers.new result }
     ensures schema { core.new.schema ≡ core.old.schema }
     ensures grows { Begins answers.old answers.new }
 {
     match line {
-        Line::Text(text) => answer_text(session, alloc, core, number, text, answers),
+        Line::Text(text) => answer_text(running, alloc, core, number, text, answers),
         Line::Unreadable => Err(Refusal::BadCommand),
     }
 }
@@ -125,17 +125,17 @@ fn command_line(
 /// Does the command of a line; empty lines and remarks have none.
 #[tactic(auto, using(span_answers::proofs::Begun::begins_itself, span_answers::proofs::Begun::begins_on))]
 fn answer_text(
-    session: &mut Session,
+    running: &mut RunningScript,
     alloc: Global,
     core: &mut Core,
     number: u64,
     text: &str,
     answers: &mut Answers,
 ) -> Result<(), Refusal>
-    requires { session.old.load ≡ None }
+    requires { running.old.load ≡ None }
     ensures exact { Adds
         (λ answer. IsCommandLine core.old.schema (Some text.now)
-        (state_of session.old) core.old.machine answer (state_of session.new) core.new.machine)
+        (state_of running.old) core.old.machine answer (state_of running.new) core.new.machine)
         answers.old answers.new result }
     ensures schema { core.new.schema ≡ core.old.schema }
     ensures grows { Begins answers.old answers.new }
@@ -144,7 +144,7 @@ fn answer_text(
         return Ok(());
     }
     match read_command(text) {
-        Some(command) => answer(session, alloc, core, number, command, answers),
+        Some(command) => answer(running, alloc, core, number, command, answers),
         None => Err(Refusal::BadCommand),
     }
 }
@@ -155,17 +155,17 @@ fn answer_text(
 /// out for it, and `take_line` takes it back where the change is refused.
 #[tactic(auto, using(span_answers::proofs::Begun::begins_itself, span_answers::proofs::Begun::begins_on))]
 fn answer(
-    session: &mut Session,
+    running: &mut RunningScript,
     alloc: Global,
     core: &mut Core,
     number: u64,
     command: Command<'_>,
     answers: &mut Answers,
 ) -> Result<(), Refusal>
-    requires { session.old.load ≡ None }
+    requires { running.old.load ≡ None }
     ensures exact { Adds
         (λ answer. IsDone core.old.schema command.entry
-        (state_of session.old) core.old.machine answer (state_of session.new) core.new.machine)
+        (state_of running.old) core.old.machine answer (state_of running.new) core.new.machine)
         answers.old answers.new result }
     ensures schema { core.new.schema ≡ core.old.schema }
     ensures grows { Begins answers.old answers.new }
@@ -173,11 +173,11 @@ fn answer(
     match command {
         Command::Clock { earliest, latest } => {
             answers.word_line("ok")?;
-            session.set_clock(earliest, latest)
+            running.set_clock(earliest, latest)
         }
         Command::Param { name, kind, cell } => {
             answers.word_line("ok")?;
-            session.set_param(alloc, name, kind, cell)
+            running.set_param(alloc, name, kind, cell)
         }
         Command::Write {
             kind,
@@ -186,35 +186,35 @@ fn answer(
             record,
         } => {
             answers.word_line("ok")?;
-            session.write(alloc, core.schema(), kind, table, columns, record)
+            running.write(alloc, core.schema(), kind, table, columns, record)
         }
         Command::Delete { table, record } => {
             answers.word_line("ok")?;
-            session.delete(alloc, core.schema(), table, record)
+            running.delete(alloc, core.schema(), table, record)
         }
         Command::Load { table, columns } => {
-            session.begin_load(alloc, core.schema(), number, table, columns);
+            running.begin_load(alloc, core.schema(), number, table, columns);
             Ok(())
         }
         Command::Begin => {
-            let reply = session.begin(alloc, core);
+            let reply = running.begin(alloc, core);
             add_reply(alloc, &reply, answers)
         }
         Command::Open { bound, text } => {
-            let reply = session.open(alloc, core, bound, text);
+            let reply = running.open(alloc, core, bound, text);
             add_reply(alloc, &reply, answers)
         }
         Command::Query { bound, text } => {
-            let reply = session.query(alloc, core, bound, text);
+            let reply = running.query(alloc, core, bound, text);
             add_reply(alloc, &reply, answers)
         }
-        Command::Explain { text } => session.explain(alloc, core, text, answers),
+        Command::Explain { text } => running.explain(alloc, core, text, answers),
         Command::Split { table, record } => {
-            let reply = session.split(alloc, core, table, record);
+            let reply = running.split(alloc, core, table, record);
             add_reply(alloc, &reply, answers)
         }
         Command::Shards => answers.slots(core),
-        command => match step_of(command, session.clock) {
+        command => match step_of(command, running.clock) {
             Some(step) => {
                 let reply = take_step(alloc, core, step);
                 add_reply(alloc, &reply, answers)

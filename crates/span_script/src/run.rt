@@ -12,7 +12,7 @@ use span_command::device::{Input, Output};
 use span_command::line::{Line, Lines};
 use span_core::database::Core;
 use span_steps::refused::Refused;
-use span_steps::session::Session;
+use span_steps::running::RunningScript;
 use span_value::refusal::Refusal;
 use std::alloc::Global;
 
@@ -41,18 +41,18 @@ pub fn run<I: Input, O: Output, R: Reports>(
         ⊎ ((why ≡ Refusal.OutputFault) × (O.failures output.new ≡ risen (O.failures output.old)))) }
 {
     let mut lines = Lines::new(alloc);
-    let mut session = Session::new(alloc);
+    let mut running = RunningScript::new(alloc);
     let mut answers = Answers::new(alloc)?;
     let mut number: u64 = 0;
     for _ in 0..u64::MAX {
         if !take_next(&mut lines, input, &mut answers, output)? {
-            let refused = finish(&mut session, number, &mut answers)?;
+            let refused = finish(&mut running, number, &mut answers)?;
             report_refused(reports, refused, None);
             return answers.write_to(output);
         }
         number = number.saturating_add(1);
         let line = lines.line();
-        let refused = take_line(&mut session, alloc, core, number, line, &mut answers)?;
+        let refused = take_line(&mut running, alloc, core, number, line, &mut answers)?;
         report_refused(reports, refused, Some(line));
         write_many(&mut answers, output)?;
     }

@@ -25,7 +25,7 @@ use Rattle.span_blocks.specs.declared.bound.TypedQuery.{TypedQuery}
 use Rattle.span_blocks.specs.declared.bound.BoundBlock.{BoundBlock}
 use Rattle.span_blocks.specs.declared.bound.BoundBlocks.{BoundBlocks}
 use Rattle.span_blocks.specs.Onward.{fold_results}
-use Rattle.span_blocks.specs.Sources.{name_or_alias, table_source, numbered_source, most_tables, named_source, derived_source, start_from, add_item}
+use Rattle.span_blocks.specs.Sources.{name_or_alias, table_source, numbered_source, most_table_names, named_source, derived_source, start_from, add_item}
 use Rattle.span_blocks.specs.Blocks.{BlockTail, block_tail_of, bind_block}
 use Rattle.span_binder.specs.Queries.{only_block, with_block, bind_query, ItemStep, JoinStep, BlockStep, QueryStep, next_join, from, block_at, next_block, blocks, query_at, query_step}
 use Rattle.span_binder.proofs.ByParts.{query_holds}
@@ -112,7 +112,7 @@ module _ (schema : List Table) (all : List ℕ) where
       numbered_sound name (Some n) found is = (n ∷ [], refl, (is, tt {0}), table_is name found n)
 
       table_sound : (name : Spelling) (alias : Option Spelling) → ItemSound (named_source schema name alias)
-      table_sound name alias found = go (nat_le most_tables (length found)) where
+      table_sound name alias found = go (nat_le most_table_names (length found)) where
         go : (b : Bool) → LeadsTo SourceIs found (if b then Err TooManyTables else numbered_source schema (name_or_alias name alias) (number_named schema name.text) found)
         go true = tt {0}
         go false = numbered_sound (name_or_alias name alias) (number_named schema name.text) found (named_is schema name.text)

@@ -11,12 +11,12 @@ use Rattle.span_machine.specs.declared.step.Step.TheVariants as step
 use Rattle.span_machine.specs.declared.step.Reply.{Reply}
 use Rattle.span_machine.specs.declared.step.Reply.TheVariants as reply
 use Rattle.span_machine.specs.Machine.{Machine}
-use Rattle.span_steps.specs.declared.session.Session.{Session}
+use Rattle.span_steps.specs.declared.running.RunningScript.{RunningScript}
 use Rattle.span_steps.specs.States.{ScriptState, IsSplit, RefusesDelete}
-use Rattle.span_steps.specs.Sessions.{Changes}
+use Rattle.span_steps.specs.Running.{Changes}
 use Rattle.span_steps.specs.Steps.{Takes, IsBegun, is_refused}
 
-pub changes_by : {T : Type 0} (Sets Sets' : ScriptState → Type 0) (Refuses Refuses' : Refusal → Type 0) (old new : Session) (r : Result T Refusal)
+pub changes_by : {T : Type 0} (Sets Sets' : ScriptState → Type 0) (Refuses Refuses' : Refusal → Type 0) (old new : RunningScript) (r : Result T Refusal)
     → ((next : ScriptState) → Sets next → Sets' next) → ((why : Refusal) → Refuses why → Refuses' why) → Changes Sets Refuses old new r → Changes Sets' Refuses' old new r
 changes_by Sets Sets' Refuses Refuses' old new (Ok x) f g h = f _ h
 changes_by Sets Sets' Refuses Refuses' old new (Err why) f g h = (⊎_elim (λ memory. inl memory) (λ refused. inr (g why refused)) h.0, h.1)

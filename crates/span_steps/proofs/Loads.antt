@@ -18,10 +18,10 @@ use Rattle.span_records.specs.Record.{record_fields}
 use Rattle.span_steps.specs.declared.refused.Refused.{Refused}
 use Rattle.span_steps.specs.declared.load.Load.{Load}
 use Rattle.span_steps.specs.declared.load.Records.{Records}
-use Rattle.span_steps.specs.declared.session.Session.{Session}
+use Rattle.span_steps.specs.declared.running.RunningScript.{RunningScript}
 use Rattle.span_answers.specs.Lines.{number_line, refused_line}
 use Rattle.span_steps.specs.States.{BeginsLoad, EndsLoad, Gathers, LoadsRecord, RefusesRecord, ScriptState, refused_load}
-use Rattle.span_steps.specs.Sessions.{AddsRow, Changes, Gathered, inserts_of, load_of, state_of, state_with, with_records}
+use Rattle.span_steps.specs.Running.{AddsRow, Changes, Gathered, inserts_of, load_of, state_of, state_with, with_records}
 
 -- ---- gathering, where no load is read
 
@@ -46,7 +46,7 @@ gathered_alone clock params gathered (Some load) none = absurd (cc none)
 gathered_alone clock params gathered None none = refl
 
 -- one row is gathered
-pub gathers_row : {T : Type 0} (layout : Layout) (kind : MutationKind) (text : List ℕ) (old new : Session) (row : BatchRow) (rows : List BatchRow) (r : Result T Refusal)
+pub gathers_row : {T : Type 0} (layout : Layout) (kind : MutationKind) (text : List ℕ) (old new : RunningScript) (row : BatchRow) (rows : List BatchRow) (r : Result T Refusal)
     → IsRowOf layout (record_fields text) row → rows ≡ row ∷ [] → Gathered (row_mutations (heading_of layout kind) rows) old new r
     → Changes (Gathers layout kind text (state_of old)) (RefusesRecord layout kind text) old new r
 gathers_row layout kind text old new row rows (Ok x) is one h = (

@@ -1,3 +1,3 @@
-pub mod Sessions
+pub mod Running
 pub mod States
 pub mod Steps

@@ -1,7 +1,7 @@
 //! A load, whose records are gathered at its end.
 ghost use Rattle.std.specs.Prelude.{◌≡◌, ◌∷◌, ◌⊎◌, [], MatchResult};
 ghost use Rattle.span_steps.specs.States.{RefusesRecord};
-ghost use Rattle.span_steps.specs.Sessions.{AddsRow};
+ghost use Rattle.span_steps.specs.Running.{AddsRow};
 
 use super::refused::Refused;
 use csv::StringRecord;

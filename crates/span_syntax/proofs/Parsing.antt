@@ -10,7 +10,7 @@ use Rattle.span_grammar.specs.declared.class.Lexeme.{Lexeme}
 use Rattle.span_primary.specs.declared.fault.SyntaxError.{SyntaxError}
 use Rattle.span_primary.specs.declared.fault.SyntaxError.TheVariants as fault
 use Rattle.span_grammar.specs.declared.judge.Goal.{Goal}
-use Rattle.span_grammar.specs.Rules.{Rule, Tree, Answer, Read, Wrong, Deep, limit, parse}
+use Rattle.span_grammar.specs.Rules.{Rule, Tree, Answer, Read, Wrong, Deep, most_openings, parse}
 use Rattle.span_grammar.specs.Texts.{HasTree, IsWrong, IsTooDeep}
 use Rattle.span_grammar.specs.Grammar.{inside}
 use Rattle.span_grammar.specs.Goals.{goal_part, goal_rule}
@@ -68,7 +68,7 @@ used_at of (Read x (t ∷ k)) = refl
 used_at of (Wrong k) = refl
 used_at of (Deep k) = refl
 
-module _ {A : Type 0} (g : Goal) (piece : Piece A) (is_good : Good limit (goal_rule g) piece) (ts : List Lexeme) where
+module _ {A : Type 0} (g : Goal) (piece : Piece A) (is_good : Good most_openings (goal_rule g) piece) (ts : List Lexeme) where
   abbrev rule : Rule
   rule = goal_rule g
 
@@ -76,7 +76,7 @@ module _ {A : Type 0} (g : Goal) (piece : Piece A) (is_good : Good limit (goal_r
   of = piece.of
 
   abbrev run : Answer
-  run = whole (parse inside limit rule ts)
+  run = whole (parse inside most_openings rule ts)
 
   abbrev Answers : Answer → Type 0
   Answers s = Right inside st wide inside_ends good rule (ends (goal_part g)) (goal_good g) ts s
@@ -86,7 +86,7 @@ module _ {A : Type 0} (g : Goal) (piece : Piece A) (is_good : Good limit (goal_r
 
   read_is : read_to_end piece ts ≡ answer of run
   unfolding read_to_end
-  read_is = ap at_end (is_good.is ts) ∙ used_at of (parse inside limit rule ts)
+  read_is = ap at_end (is_good.is ts) ∙ used_at of (parse inside most_openings rule ts)
 
   value_at : (q : A) (s : Answer) → answer of s ≡ Ok q → Answers s → (x : Tree) × HasTree inside rule ts x × (q ≡ of x)
   value_at q (Read x k) h r = (x, r, sym (ok_is (of x) q h))
@@ -126,7 +126,7 @@ not_both {X = X} o x f h i = let j : (let r : Result X SyntaxError = Ok x in r) 
 same_fault : {X : Type 0} (o : Result X SyntaxError) (f g : SyntaxError) → o ≡ Err f → o ≡ Err g → f ≡ g
 same_fault {X = X} o f g h i = err_is {X = X} f g (sym h ∙ i)
 
-module _ {A : Type 0} (g : Goal) (piece : Piece A) (is_good : Good limit (goal_rule g) piece) (text : List ℕ) (is : List Item) (made : HasItems text is) where
+module _ {A : Type 0} (g : Goal) (piece : Piece A) (is_good : Good most_openings (goal_rule g) piece) (text : List ℕ) (is : List Item) (made : HasItems text is) where
   abbrev found : Result A SyntaxError
   found = read_to_end piece (lexemes_in text is)
 

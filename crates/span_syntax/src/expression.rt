@@ -2,7 +2,7 @@
 //!
 //! Each function is given the function that reads after an opening: so only one recurses, no deeper than openings may be nested.
 ghost use Rattle.std.specs.Prelude.{◌≤◌};
-ghost use Rattle.span_grammar.specs.Rules.{limit};
+ghost use Rattle.span_grammar.specs.Rules.{most_openings};
 ghost use Rattle.span_primary.specs.Pieces.{Gives};
 ghost use Rattle.span_primary.specs.Expressions as spec;
 ghost use Rattle.span_primary.specs.Nests.{Nests, at};
@@ -336,7 +336,7 @@ fn read<'a>(
     level: Level,
     tokens: &'a [Lexeme],
 ) -> Result<(Expr, &'a [Lexeme]), SyntaxError>
-    requires { left ≤ limit }
+    requires { left ≤ most_openings }
     ensures { Gives result ((at level text.now left).read tokens.now) }
 {
     let reader = ExpressionReader {
@@ -359,7 +359,7 @@ pub fn read_expression<'a>(
     left: usize,
     tokens: &'a [Lexeme],
 ) -> Result<(Expr, &'a [Lexeme]), SyntaxError>
-    requires { left ≤ limit }
+    requires { left ≤ most_openings }
     ensures { Gives result ((spec.expression text.now left (spec.after text.now left)).read tokens.now) }
 {
     read(alloc, text, left, Level::Expression, tokens)

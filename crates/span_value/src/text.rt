@@ -1,5 +1,5 @@
 //! Strings that contracts see as their UTF-8 bytes.
-ghost use Rattle.span_value.specs.declared.text.TheConstants.{INLINE_BYTES};
+ghost use Rattle.span_value.specs.declared.text.TheConstants.{INLINE_TEXT_BYTES};
 ghost use Rattle.std.specs.Prelude.{◌≡◌, ◌<◌, length, string_bytes, IfOk, OnErr};
 
 use arrayvec::ArrayString;
@@ -8,7 +8,7 @@ use std::fmt;
 use std::marker::Model;
 
 /// How many bytes of a text lie in the value itself: names and short texts take no memory.
-pub const INLINE_BYTES: usize = 16;
+pub const INLINE_TEXT_BYTES: usize = 16;
 
 /// A string in UTF-8, whose model is its bytes. A copy of up to 16 bytes takes no memory.
 #[derive(Drop)]
@@ -19,7 +19,7 @@ pub struct Text {
 /// Where a text has its bytes.
 #[derive(Drop)]
 enum Stored {
-    Inline(ArrayString<INLINE_BYTES>),
+    Inline(ArrayString<INLINE_TEXT_BYTES>),
     Heap(String),
 }
 
@@ -45,7 +45,7 @@ impl Text {
     /// A copy of a string. Memory is taken, and may run out, only for more than 16 bytes.
     pub fn from_str(alloc: Global, text: &str) -> Result<Text, AllocError>
         ensures bytes { IfOk result (λ t. t ≡ text.now) }
-        ensures memory { OnErr result (INLINE_BYTES < length text.now) }
+        ensures memory { OnErr result (INLINE_TEXT_BYTES < length text.now) }
     {
         let stored = match ArrayString::from(text) {
             Ok(inline) => Stored::Inline(inline),

@@ -35,7 +35,7 @@ impl Lines {
     /// Whether `take` answers without a further read: a whole line was read, or the script to its end.
     pub fn is_ready(&mut self) -> bool
         ensures ready { IsTrue result ↔ IsReady self.new }
-        ensures stands { (known : Option (List ℕ)) (text : List ℕ) → IsStillToCome self.old known text → IsStillToCome self.new known text }
+        ensures to_come { (known : Option (List ℕ)) (text : List ℕ) → IsStillToCome self.old known text → IsStillToCome self.new known text }
     {
         self.search();
         if self.searched < self.end {
@@ -59,7 +59,7 @@ impl Lines {
     /// Reads once more: more bytes are held, or the input has ended. `InputFault` where the device failed, `OutOfMemory` where the buffer
     /// can't grow; what was held is then held still.
     pub fn read<I: Input>(&mut self, input: &mut I) -> Result<(), Refusal>
-        ensures stands { (text : List ℕ)
+        ensures to_come { (text : List ℕ)
             → IsStillToCome self.old (I.remaining input.old) text
             → IsStillToCome self.new (I.remaining input.new) text }
         ensures advances { OnOk result (Advances self.new.has_ended (I.remaining input.old) (I.remaining input.new)) }

@@ -4,7 +4,7 @@ use Rattle.span_grammar.specs.declared.judge.Goal.TheVariants as goal_of
 use Rattle.span_primary.specs.declared.fault.SyntaxError.{SyntaxError}
 use Rattle.span_parser.specs.declared.tree.Query.{Query}
 use Rattle.span_grammar.specs.Classes.{lexemes_of}
-use Rattle.span_grammar.specs.Rules.{limit}
+use Rattle.span_grammar.specs.Rules.{most_openings}
 use Rattle.span_grammar.specs.Judged.{HasItems, lexemes_in}
 use Rattle.span_parser.specs.Queries.{statement}
 use Rattle.span_syntax.specs.Parsed.{read_to_end, Reports}
@@ -16,40 +16,40 @@ pub returns-in-Ok-clause-read : goal.returns-in-Ok-clause-read
 returns-in-Ok-clause-read c =
     let is = c.in-Ok.ensures.read in
     let made : HasItems c.args.text.now is.0 = record { are = is.1; spells = is.2; short = c.in-Ok.ensures.short } in
-    let same : read_to_end (statement c.as_bytes.result.now limit) (lexemes_of c.as_bytes.result.now c.as_slice.result.now) ≡ read_to_end (statement c.args.text.now limit) (lexemes_in c.args.text.now is.0) =
-    ap (λ (w : List ℕ). read_to_end (statement w limit) (lexemes_of w c.as_slice.result.now)) c.as_bytes.ensures.value ∙ ap (λ (w : List Token). read_to_end (statement c.args.text.now limit) (lexemes_of c.args.text.now w)) (c.as_slice.ensures ∙ is.3) in
-    let known : Reports c.query_of.result (read_to_end (statement c.args.text.now limit) (lexemes_in c.args.text.now is.0)) = subst (λ (o : Result (Query) SyntaxError). Reports c.query_of.result o) same c.query_of.ensures in
-    text_value goal_of.Statement (statement c.args.text.now limit) (statement_good c.args.text.now limit) c.args.text.now is.0 made c.query_of.result known
+    let same : read_to_end (statement c.as_bytes.result.now most_openings) (lexemes_of c.as_bytes.result.now c.as_slice.result.now) ≡ read_to_end (statement c.args.text.now most_openings) (lexemes_in c.args.text.now is.0) =
+    ap (λ (w : List ℕ). read_to_end (statement w most_openings) (lexemes_of w c.as_slice.result.now)) c.as_bytes.ensures.value ∙ ap (λ (w : List Token). read_to_end (statement c.args.text.now most_openings) (lexemes_of c.args.text.now w)) (c.as_slice.ensures ∙ is.3) in
+    let known : Reports c.query_of.result (read_to_end (statement c.args.text.now most_openings) (lexemes_in c.args.text.now is.0)) = subst (λ (o : Result (Query) SyntaxError). Reports c.query_of.result o) same c.query_of.ensures in
+    text_value goal_of.Statement (statement c.args.text.now most_openings) (statement_good c.args.text.now most_openings) c.args.text.now is.0 made c.query_of.result known
 
 pub returns-in-Ok-clause-read_all : goal.returns-in-Ok-clause-read_all
 returns-in-Ok-clause-read_all c =
     let is = c.in-Ok.ensures.read in
     let made : HasItems c.args.text.now is.0 = record { are = is.1; spells = is.2; short = c.in-Ok.ensures.short } in
-    let same : read_to_end (statement c.as_bytes.result.now limit) (lexemes_of c.as_bytes.result.now c.as_slice.result.now) ≡ read_to_end (statement c.args.text.now limit) (lexemes_in c.args.text.now is.0) =
-    ap (λ (w : List ℕ). read_to_end (statement w limit) (lexemes_of w c.as_slice.result.now)) c.as_bytes.ensures.value ∙ ap (λ (w : List Token). read_to_end (statement c.args.text.now limit) (lexemes_of c.args.text.now w)) (c.as_slice.ensures ∙ is.3) in
-    let known : Reports c.query_of.result (read_to_end (statement c.args.text.now limit) (lexemes_in c.args.text.now is.0)) = subst (λ (o : Result (Query) SyntaxError). Reports c.query_of.result o) same c.query_of.ensures in
-    text_value_all goal_of.Statement (statement c.args.text.now limit) (statement_good c.args.text.now limit) c.args.text.now is.0 made c.query_of.result known
+    let same : read_to_end (statement c.as_bytes.result.now most_openings) (lexemes_of c.as_bytes.result.now c.as_slice.result.now) ≡ read_to_end (statement c.args.text.now most_openings) (lexemes_in c.args.text.now is.0) =
+    ap (λ (w : List ℕ). read_to_end (statement w most_openings) (lexemes_of w c.as_slice.result.now)) c.as_bytes.ensures.value ∙ ap (λ (w : List Token). read_to_end (statement c.args.text.now most_openings) (lexemes_of c.args.text.now w)) (c.as_slice.ensures ∙ is.3) in
+    let known : Reports c.query_of.result (read_to_end (statement c.args.text.now most_openings) (lexemes_in c.args.text.now is.0)) = subst (λ (o : Result (Query) SyntaxError). Reports c.query_of.result o) same c.query_of.ensures in
+    text_value_all goal_of.Statement (statement c.args.text.now most_openings) (statement_good c.args.text.now most_openings) c.args.text.now is.0 made c.query_of.result known
 
 pub returns-in-Ok-clause-refused : goal.returns-in-Ok-clause-refused
 returns-in-Ok-clause-refused c =
     let is = c.in-Ok.ensures.read in
     let made : HasItems c.args.text.now is.0 = record { are = is.1; spells = is.2; short = c.in-Ok.ensures.short } in
-    let same : read_to_end (statement c.as_bytes.result.now limit) (lexemes_of c.as_bytes.result.now c.as_slice.result.now) ≡ read_to_end (statement c.args.text.now limit) (lexemes_in c.args.text.now is.0) =
-    ap (λ (w : List ℕ). read_to_end (statement w limit) (lexemes_of w c.as_slice.result.now)) c.as_bytes.ensures.value ∙ ap (λ (w : List Token). read_to_end (statement c.args.text.now limit) (lexemes_of c.args.text.now w)) (c.as_slice.ensures ∙ is.3) in
-    let known : Reports c.query_of.result (read_to_end (statement c.args.text.now limit) (lexemes_in c.args.text.now is.0)) = subst (λ (o : Result (Query) SyntaxError). Reports c.query_of.result o) same c.query_of.ensures in
-    text_refused goal_of.Statement (statement c.args.text.now limit) (statement_good c.args.text.now limit) c.args.text.now is.0 made c.query_of.result known
+    let same : read_to_end (statement c.as_bytes.result.now most_openings) (lexemes_of c.as_bytes.result.now c.as_slice.result.now) ≡ read_to_end (statement c.args.text.now most_openings) (lexemes_in c.args.text.now is.0) =
+    ap (λ (w : List ℕ). read_to_end (statement w most_openings) (lexemes_of w c.as_slice.result.now)) c.as_bytes.ensures.value ∙ ap (λ (w : List Token). read_to_end (statement c.args.text.now most_openings) (lexemes_of c.args.text.now w)) (c.as_slice.ensures ∙ is.3) in
+    let known : Reports c.query_of.result (read_to_end (statement c.args.text.now most_openings) (lexemes_in c.args.text.now is.0)) = subst (λ (o : Result (Query) SyntaxError). Reports c.query_of.result o) same c.query_of.ensures in
+    text_refused goal_of.Statement (statement c.args.text.now most_openings) (statement_good c.args.text.now most_openings) c.args.text.now is.0 made c.query_of.result known
 
 pub returns-in-Ok-clause-refused_all : goal.returns-in-Ok-clause-refused_all
 returns-in-Ok-clause-refused_all c =
     let is = c.in-Ok.ensures.read in
     let made : HasItems c.args.text.now is.0 = record { are = is.1; spells = is.2; short = c.in-Ok.ensures.short } in
-    let same : read_to_end (statement c.as_bytes.result.now limit) (lexemes_of c.as_bytes.result.now c.as_slice.result.now) ≡ read_to_end (statement c.args.text.now limit) (lexemes_in c.args.text.now is.0) =
-    ap (λ (w : List ℕ). read_to_end (statement w limit) (lexemes_of w c.as_slice.result.now)) c.as_bytes.ensures.value ∙ ap (λ (w : List Token). read_to_end (statement c.args.text.now limit) (lexemes_of c.args.text.now w)) (c.as_slice.ensures ∙ is.3) in
-    let known : Reports c.query_of.result (read_to_end (statement c.args.text.now limit) (lexemes_in c.args.text.now is.0)) = subst (λ (o : Result (Query) SyntaxError). Reports c.query_of.result o) same c.query_of.ensures in
-    text_refused_all goal_of.Statement (statement c.args.text.now limit) (statement_good c.args.text.now limit) c.args.text.now is.0 made c.query_of.result known
+    let same : read_to_end (statement c.as_bytes.result.now most_openings) (lexemes_of c.as_bytes.result.now c.as_slice.result.now) ≡ read_to_end (statement c.args.text.now most_openings) (lexemes_in c.args.text.now is.0) =
+    ap (λ (w : List ℕ). read_to_end (statement w most_openings) (lexemes_of w c.as_slice.result.now)) c.as_bytes.ensures.value ∙ ap (λ (w : List Token). read_to_end (statement c.args.text.now most_openings) (lexemes_of c.args.text.now w)) (c.as_slice.ensures ∙ is.3) in
+    let known : Reports c.query_of.result (read_to_end (statement c.args.text.now most_openings) (lexemes_in c.args.text.now is.0)) = subst (λ (o : Result (Query) SyntaxError). Reports c.query_of.result o) same c.query_of.ensures in
+    text_refused_all goal_of.Statement (statement c.args.text.now most_openings) (statement_good c.args.text.now most_openings) c.args.text.now is.0 made c.query_of.result known
 
 pub returns-in-Err-clause-read_all : goal.returns-in-Err-clause-read_all
-returns-in-Err-clause-read_all c = λ q t. misread_value goal_of.Statement (statement c.args.text.now limit).of c.args.text.now c.in-Err.why c.in-Err.ensures.refused q t
+returns-in-Err-clause-read_all c = λ q t. misread_value goal_of.Statement (statement c.args.text.now most_openings).of c.args.text.now c.in-Err.why c.in-Err.ensures.refused q t
 
 pub returns-in-Err-clause-refused_all : goal.returns-in-Err-clause-refused_all
 returns-in-Err-clause-refused_all c = λ why n i. misread_refuses goal_of.Statement c.args.text.now c.in-Err.why c.in-Err.ensures.refused why n i

@@ -1,6 +1,6 @@
 use Rattle.std.proofs.Common.{◌≡◌, ◌∙◌, sym, ap}
 use Rattle.span_grammar.specs.Classes.{lexemes_of}
-use Rattle.span_grammar.specs.Rules.{limit}
+use Rattle.span_grammar.specs.Rules.{most_openings}
 use Rattle.span_syntax.specs.Parsed.{read_to_end}
 use Rattle.span_syntax.proofs.Parsing.{reports}
 use Rattle.span_schematext.specs.Declarations.{tables}
@@ -9,5 +9,5 @@ use Rattle.span_schematext.proofs.text.tables_of.Goals as goal
 pub returns : goal.returns
 returns c =
     let same : lexemes_of c.args.text.now c.args.tokens.now ≡ c.as_slice.result.now = sym (c.as_slice.ensures.value ∙ c.in_ok-found.ensures) in
-    reports (read_to_end (tables c.args.text.now limit) (lexemes_of c.args.text.now c.args.tokens.now)) c.in-Err.fault c.read_error-refusal.result
-    (λ n. ap (read_to_end (tables c.args.text.now limit)) same ∙ c.in-Err.ensures n) c.read_error-refusal.ensures.refusal
+    reports (read_to_end (tables c.args.text.now most_openings) (lexemes_of c.args.text.now c.args.tokens.now)) c.in-Err.fault c.read_error-refusal.result
+    (λ n. ap (read_to_end (tables c.args.text.now most_openings)) same ∙ c.in-Err.ensures n) c.read_error-refusal.ensures.refusal

@@ -3,7 +3,7 @@ use Rattle.span_schema.specs.declared.table.Table.{Table}
 use Rattle.span_command.specs.declared.command.Command.TheVariants as command
 use Rattle.span_steps.specs.States.{IsExplained, SetsClock, RefusesClock, Writes, RefusesWrite, Deletes, RefusesDelete}
 use Rattle.span_script.specs.Scripts.{IsDone, IsReplied}
-use Rattle.span_steps.specs.Sessions.{Changes, state_of}
+use Rattle.span_steps.specs.Running.{Changes, state_of}
 use Rattle.span_script.proofs.Doing.{adds_weaker, changed, done_as, numbered}
 use Rattle.span_script.proofs.lines.answer.Goals as goal
 
@@ -11,7 +11,7 @@ pub returns-in_ok-word_line-in-Clock-clause-exact : goal.returns-in_ok-word_line
 returns-in_ok-word_line-in-Clock-clause-exact c =
     let a = c.args in
     let m = a.core.now.machine in
-    let state = state_of a.session.now in
+    let state = state_of a.running.now in
     let i = c.in-Clock in
     let next = state_of c.set_clock.new.self in
     let new = c.word_line.new.self in
@@ -24,14 +24,14 @@ returns-in_ok-word_line-in-Write-clause-exact c =
     let a = c.args in
     let schema = a.core.now.schema in
     let m = a.core.now.machine in
-    let state = state_of a.session.now in
+    let state = state_of a.running.now in
     let i = c.in-Write in
     let next = state_of c.write.new.self in
     let new = c.word_line-in-Write.new.self in
     done_as schema a.command (command.Write i.kind i.table i.columns i.record) state m next m a.answers.now new c.write.result i.is
     (changed (Writes schema i.kind i.table.now i.columns.now i.record.now state) (RefusesWrite schema i.kind i.table.now i.columns.now i.record.now)
     m state next a.answers.now new c.write.result c.in_ok-word_line-in-Write.ensures.added
-    (subst (λ (s : List Table). Changes (Writes s i.kind i.table.now i.columns.now i.record.now state) (RefusesWrite s i.kind i.table.now i.columns.now i.record.now) a.session.now c.write.new.self c.write.result)
+    (subst (λ (s : List Table). Changes (Writes s i.kind i.table.now i.columns.now i.record.now state) (RefusesWrite s i.kind i.table.now i.columns.now i.record.now) a.running.now c.write.new.self c.write.result)
     c.schema.ensures c.write.ensures))
 
 pub returns-in_ok-word_line-in-Delete-clause-exact : goal.returns-in_ok-word_line-in-Delete-clause-exact
@@ -39,14 +39,14 @@ returns-in_ok-word_line-in-Delete-clause-exact c =
     let a = c.args in
     let schema = a.core.now.schema in
     let m = a.core.now.machine in
-    let state = state_of a.session.now in
+    let state = state_of a.running.now in
     let i = c.in-Delete in
     let next = state_of c.delete.new.self in
     let new = c.word_line-in-Delete.new.self in
     done_as schema a.command (command.Delete i.table i.record) state m next m a.answers.now new c.delete.result i.is
     (changed (Deletes schema i.table.now i.record.now state) (RefusesDelete schema i.table.now i.record.now)
     m state next a.answers.now new c.delete.result c.in_ok-word_line-in-Delete.ensures.added
-    (subst (λ (s : List Table). Changes (Deletes s i.table.now i.record.now state) (RefusesDelete s i.table.now i.record.now) a.session.now c.delete.new.self c.delete.result)
+    (subst (λ (s : List Table). Changes (Deletes s i.table.now i.record.now state) (RefusesDelete s i.table.now i.record.now) a.running.now c.delete.new.self c.delete.result)
     c.schema-in-Delete.ensures c.delete.ensures))
 
 pub returns-in-Begin-clause-exact : goal.returns-in-Begin-clause-exact
@@ -54,7 +54,7 @@ returns-in-Begin-clause-exact c =
     let a = c.args in
     let schema = a.core.now.schema in
     let m = a.core.now.machine in
-    let state = state_of a.session.now in
+    let state = state_of a.running.now in
     let reply = c.begin-reply in
     let next = state_of reply.new.self in
     let last = reply.new.core.machine in
@@ -68,7 +68,7 @@ returns-in-Open-clause-exact c =
     let a = c.args in
     let schema = a.core.now.schema in
     let m = a.core.now.machine in
-    let state = state_of a.session.now in
+    let state = state_of a.running.now in
     let reply = c.open-reply in
     let last = reply.new.core.machine in
     let add = c.add_reply-in-Open in
@@ -83,7 +83,7 @@ returns-in-Split-clause-exact c =
     let a = c.args in
     let schema = a.core.now.schema in
     let m = a.core.now.machine in
-    let state = state_of a.session.now in
+    let state = state_of a.running.now in
     let reply = c.split-reply in
     let next = state_of reply.new.self in
     let last = reply.new.core.machine in
@@ -99,7 +99,7 @@ returns-in-Query-clause-exact c =
     let a = c.args in
     let schema = a.core.now.schema in
     let m = a.core.now.machine in
-    let state = state_of a.session.now in
+    let state = state_of a.running.now in
     let reply = c.query-reply in
     let last = reply.new.core.machine in
     let add = c.add_reply-in-Query in
@@ -114,7 +114,7 @@ returns-in-Explain-clause-exact c =
     let a = c.args in
     let schema = a.core.now.schema in
     let m = a.core.now.machine in
-    let state = state_of a.session.now in
+    let state = state_of a.running.now in
     let add = c.explain in
     let i = c.in-Explain in
     done_as schema a.command (command.Explain i.text) state m state m a.answers.now add.new.answers add.result i.is
@@ -127,7 +127,7 @@ returns-in-Some-clause-exact c =
     let a = c.args in
     let schema = a.core.now.schema in
     let m = a.core.now.machine in
-    let state = state_of a.session.now in
+    let state = state_of a.running.now in
     let reply = c.take_step-reply in
     let last = reply.new.core.machine in
     let add = c.add_reply-in-Some in

@@ -1,5 +1,5 @@
 use Rattle.std.proofs.Common.{◌≡◌, ℕ, List, Some}
-use Rattle.span_steps.specs.Sessions.{state_of}
+use Rattle.span_steps.specs.Running.{state_of}
 use Rattle.span_script.proofs.Runs.{IsAnsweredSoFar}
 use Rattle.span_script.proofs.run.run.Given as goal
 
@@ -13,5 +13,5 @@ invariant-loop g l =
       output_works : g.O.Output.failures l.output ≡ g.O.Output.failures l.fn.output;
       same_schema : l.core.schema ≡ l.fn.core.schema;
       so_far : (script : List ℕ) → remaining l.fn.input ≡ Some script
-          → IsAnsweredSoFar l.fn.core.schema l.fn.core.machine script (written l.fn.output) l.lines (remaining l.input) (state_of l.session) l.core.machine (written l.output) l.answers;
+          → IsAnsweredSoFar l.fn.core.schema l.fn.core.machine script (written l.fn.output) l.lines (remaining l.input) (state_of l.running) l.core.machine (written l.output) l.answers;
     }

@@ -11,6 +11,6 @@ invariant-loop g l =
     record {
       input_works : g.I.Input.failures l.input ≡ g.I.Input.failures l.fn.input;
       output_works : g.O.Output.failures l.output ≡ g.O.Output.failures l.fn.output;
-      stands : (text : List ℕ) → IsStillToCome l.fn.lines (remaining l.fn.input) text → IsStillToCome l.lines (remaining l.input) text;
+      to_come : (text : List ℕ) → IsStillToCome l.fn.lines (remaining l.fn.input) text → IsStillToCome l.lines (remaining l.input) text;
       written : Keeps (append_known (known l.fn.output) l.fn.answers) (append_known (known l.output) l.answers);
     }

@@ -24,8 +24,8 @@ invariant_of-self g c =
       no_lf = still_none lines.buffer.items c.read_after.new.buffer.items lines.start lines.searched lines.end read.front lines.searched_within lines.no_lf;
     }
 
-pub returns-in_err-count-clause-stands : goal.returns-in_err-count-clause-stands
-returns-in_err-count-clause-stands g c =
+pub returns-in_err-count-clause-to_come : goal.returns-in_err-count-clause-to_come
+returns-in_err-count-clause-to_come g c =
     let lines = c.reserve_capacity.new.self in
     let before = g.I.Input.remaining c.args.input.now in
     λ text stood.
@@ -46,8 +46,8 @@ invariant_of-self-then-count-eq0 g c =
       no_lf = still_none lines.buffer.items c.read_after.new.buffer.items lines.start lines.searched lines.end read.front lines.searched_within lines.no_lf;
     }
 
-pub returns-then-count-eq0-clause-stands : goal.returns-then-count-eq0-clause-stands
-returns-then-count-eq0-clause-stands g c =
+pub returns-then-count-eq0-clause-to_come : goal.returns-then-count-eq0-clause-to_come
+returns-then-count-eq0-clause-to_come g c =
     let lines = c.reserve_capacity.new.self in
     let before = g.I.Input.remaining c.args.input.now in
     λ text stood.
@@ -73,8 +73,8 @@ invariant_of-self-2 g c =
       no_lf = still_none lines.buffer.items c.read_after.new.buffer.items lines.start lines.searched lines.end c.read_after.ensures.front lines.searched_within lines.no_lf;
     }
 
-pub returns-clause-stands : goal.returns-clause-stands
-returns-clause-stands g c =
+pub returns-clause-to_come : goal.returns-clause-to_come
+returns-clause-to_come g c =
     let lines = c.reserve_capacity.new.self in
     let before = g.I.Input.remaining c.args.input.now in
     λ text stood.

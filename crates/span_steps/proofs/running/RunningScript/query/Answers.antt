@@ -3,7 +3,7 @@ use Rattle.span_schema.specs.declared.table.Table.{Table}
 use Rattle.span_machine.specs.declared.step.Step.TheVariants as step
 use Rattle.span_machine.specs.declared.step.Reply.TheVariants as reply
 use Rattle.span_steps.specs.Steps.{Takes, IsRead}
-use Rattle.span_steps.proofs.session.Session.query.Goals as goal
+use Rattle.span_steps.proofs.running.RunningScript.query.Goals as goal
 
 pub returns-in-Opened-clause-queried : goal.returns-in-Opened-clause-queried
 returns-in-Opened-clause-queried c =

@@ -5,7 +5,7 @@ use Rattle.span_mutate.specs.declared.mutation.MutationKind.TheVariants as mutat
 use Rattle.span_records.specs.Layouts.{IsOfRecord}
 use Rattle.span_records.specs.Record.{record_fields}
 use Rattle.span_steps.specs.States.{IsDeletion, RefusesRecord, RefusesDelete}
-use Rattle.span_steps.proofs.session.Session.read_deletion.Goals as goal
+use Rattle.span_steps.proofs.running.RunningScript.read_deletion.Goals as goal
 
 pub returns-clause-read : goal.returns-clause-read
 returns-clause-read c =

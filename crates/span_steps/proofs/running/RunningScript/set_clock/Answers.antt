@@ -1,6 +1,6 @@
 use Rattle.std.proofs.Common.{◌<◌, ℕ, refl, subst, arith}
 use Rattle.span_truetime.specs.Limits.{timestamp_end}
-use Rattle.span_steps.proofs.session.Session.set_clock.Goals as goal
+use Rattle.span_steps.proofs.running.RunningScript.set_clock.Goals as goal
 
 pub returns : goal.returns
 returns c =

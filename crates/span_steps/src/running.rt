@@ -7,7 +7,7 @@ ghost use Rattle.span_steps.specs.States.{BeginsLoad, Deletes, EndsLoad, Gathers
 ghost use Rattle.span_mutate.specs.Batches.{row_mutations};
 ghost use Rattle.span_records.specs.Layouts.{IsOfRecord, heading_of};
 ghost use Rattle.span_records.specs.Record.{record_fields};
-ghost use Rattle.span_steps.specs.Sessions.{Adds, AddsAt, Changes, Gathered, count_of, load_of, state_in, state_of, text_of};
+ghost use Rattle.span_steps.specs.Running.{Adds, AddsAt, Changes, Gathered, count_of, load_of, state_in, state_of, text_of};
 
 use super::load::{Load, Records, one_row};
 use super::refused::Refused;
@@ -28,7 +28,7 @@ use std::mem;
 
 /// A script between two lines.
 #[derive(Drop)]
-pub struct Session {
+pub struct RunningScript {
     pub clock: Interval,
     params: Params,
     /// The mutations of the next transaction, without those of the load whose lines are read.
@@ -39,12 +39,12 @@ pub struct Session {
     fields: StringRecord,
 }
 
-impl Session {
+impl RunningScript {
     /// The beginning of a script: the clock is at 0, nothing is set and nothing gathered. It takes no memory.
-    pub fn new(alloc: Global) -> Session
+    pub fn new(alloc: Global) -> RunningScript
         ensures { IsFirst (state_of result) }
     {
-        Session {
+        RunningScript {
             clock: Interval {
                 earliest: 0,
                 latest: 0,

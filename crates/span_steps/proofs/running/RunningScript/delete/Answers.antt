@@ -1,9 +1,9 @@
 use Rattle.std.proofs.Common.{inr}
 use Rattle.span_mutate.specs.declared.mutation.MutationKind.TheVariants as mutation
 use Rattle.span_steps.specs.States.{Gathers, Deletes, RefusesRecord, RefusesDelete}
-use Rattle.span_steps.specs.Sessions.{state_of}
+use Rattle.span_steps.specs.Running.{state_of}
 use Rattle.span_steps.proofs.Commands.{changes_by}
-use Rattle.span_steps.proofs.session.Session.delete.Goals as goal
+use Rattle.span_steps.proofs.running.RunningScript.delete.Goals as goal
 
 pub returns : goal.returns
 returns c =

@@ -4,7 +4,7 @@ use Rattle.span_mutate.specs.declared.batch.Heading.{Heading}
 use Rattle.span_mutate.specs.Batches.{row_mutations}
 use Rattle.span_records.specs.Layouts.{heading_of}
 use Rattle.span_steps.proofs.Loads.{more_gathered}
-use Rattle.span_steps.proofs.session.Session.gather.Goals as goal
+use Rattle.span_steps.proofs.running.RunningScript.gather.Goals as goal
 
 pub returns : goal.returns
 returns c =

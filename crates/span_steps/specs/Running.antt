@@ -17,7 +17,7 @@ use Rattle.span_records.specs.Record.{record_fields}
 use Rattle.span_steps.specs.declared.refused.Refused.{Refused}
 use Rattle.span_steps.specs.declared.load.Load.{Load}
 use Rattle.span_steps.specs.declared.load.Records.{Records}
-use Rattle.span_steps.specs.declared.session.Session.{Session}
+use Rattle.span_steps.specs.declared.running.RunningScript.{RunningScript}
 use Rattle.span_answers.specs.Lines.{refused_line}
 use Rattle.span_steps.specs.States.{OpenLoad, ScriptState}
 
@@ -51,16 +51,16 @@ state_with clock params gathered load =
       load = option_map (load_of (length gathered)) load;
     }
 
-abbrev pub state_of : Session → ScriptState
-state_of session = state_with session.clock session.params (batch_mutations session.gathered.items) session.load
+abbrev pub state_of : RunningScript → ScriptState
+state_of running = state_with running.clock running.params (batch_mutations running.gathered.items) running.load
 
 -- the same with this load
-abbrev pub state_in : Load → Session → ScriptState
-state_in load session = state_with session.clock session.params (batch_mutations session.gathered.items) (Some load)
+abbrev pub state_in : Load → RunningScript → ScriptState
+state_in load running = state_with running.clock running.params (batch_mutations running.gathered.items) (Some load)
 
 -- how many mutations were gathered, without those of a load
-abbrev pub count_of : Session → ℕ
-count_of session = length (batch_mutations session.gathered.items)
+abbrev pub count_of : RunningScript → ℕ
+count_of running = length (batch_mutations running.gathered.items)
 
 -- a record is read as one more row
 abbrev pub AddsRow : Records → List ℕ → Records → Type 0
@@ -75,14 +75,14 @@ text_of (Text text) = Some text.now
 text_of Unreadable = None
 
 -- a change of the state is made, or refused: then nothing is changed
-abbrev pub Changes : {T : Type 0} → (ScriptState → Type 0) → (Refusal → Type 0) → Session → Session → Result T Refusal
+abbrev pub Changes : {T : Type 0} → (ScriptState → Type 0) → (Refusal → Type 0) → RunningScript → RunningScript → Result T Refusal
     → Type 0
 Changes Sets Refuses old new result =
     MatchResult result (λ _. Sets (state_of new))
     (λ why. ((why ≡ OutOfMemory) ⊎ Refuses why) × (state_of new ≡ state_of old))
 
 -- these mutations are gathered, or memory runs out: then nothing is changed
-abbrev pub Gathered : {T : Type 0} → List Mutation → Session → Session → Result T Refusal → Type 0
+abbrev pub Gathered : {T : Type 0} → List Mutation → RunningScript → RunningScript → Result T Refusal → Type 0
 Gathered mutations old new result =
     MatchResult result (λ _. state_of new ≡ record (state_of old) { gathered = (state_of old).gathered ++ mutations })
     (λ why. (why ≡ OutOfMemory) × (state_of new ≡ state_of old))

@@ -4,7 +4,7 @@ use Rattle.span_machine.specs.declared.step.Step.TheVariants as step
 use Rattle.span_machine.specs.declared.step.Reply.TheVariants.{Refused}
 use Rattle.span_steps.specs.Steps.{Takes}
 use Rattle.span_steps.proofs.Taking.{opened_without_memory}
-use Rattle.span_steps.proofs.session.Session.open.Goals as goal
+use Rattle.span_steps.proofs.running.RunningScript.open.Goals as goal
 
 pub returns-in-Err-clause-taken : goal.returns-in-Err-clause-taken
 returns-in-Err-clause-taken c =

@@ -1,7 +1,7 @@
 use Rattle.span_mutate.specs.Batches.{batch_mutations}
 use Rattle.span_steps.proofs.Loads.{row_loaded, row_passed_over, row_refused}
-use Rattle.span_steps.proofs.session.Session.load_record.Goals.{in-Ok+in-Ok-with_record, in-Ok+in-Err-with_record, in-Err}
-use Rattle.span_steps.proofs.session.Session.load_record.Goals as goal
+use Rattle.span_steps.proofs.running.RunningScript.load_record.Goals.{in-Ok+in-Ok-with_record, in-Ok+in-Err-with_record, in-Err}
+use Rattle.span_steps.proofs.running.RunningScript.load_record.Goals as goal
 
 pub returns : goal.returns
 returns c =

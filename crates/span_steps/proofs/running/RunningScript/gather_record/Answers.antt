@@ -1,5 +1,5 @@
 use Rattle.span_steps.proofs.Loads.{gathers_row}
-use Rattle.span_steps.proofs.session.Session.gather_record.Goals as goal
+use Rattle.span_steps.proofs.running.RunningScript.gather_record.Goals as goal
 
 pub returns : goal.returns
 returns c =

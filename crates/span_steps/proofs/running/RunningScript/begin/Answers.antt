@@ -5,7 +5,7 @@ use Rattle.span_machine.specs.declared.step.Reply.TheVariants.{Refused}
 use Rattle.span_steps.specs.Steps.{IsBegun}
 use Rattle.span_steps.proofs.Commands.{begun, begun_refused}
 use Rattle.span_steps.proofs.Loads.{emptied, gathered_alone}
-use Rattle.span_steps.proofs.session.Session.begin.Goals as goal
+use Rattle.span_steps.proofs.running.RunningScript.begin.Goals as goal
 
 pub returns-in-Ok-clause-begun : goal.returns-in-Ok-clause-begun
 returns-in-Ok-clause-begun c =

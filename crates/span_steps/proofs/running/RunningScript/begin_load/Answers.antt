@@ -1,7 +1,7 @@
 use Rattle.span_mutate.specs.Batches.{batch_mutations}
 use Rattle.span_steps.proofs.Loads.{load_begun, load_not_begun}
-use Rattle.span_steps.proofs.session.Session.begin_load.Goals.{in-Ok, in-Err}
-use Rattle.span_steps.proofs.session.Session.begin_load.Goals as goal
+use Rattle.span_steps.proofs.running.RunningScript.begin_load.Goals.{in-Ok, in-Err}
+use Rattle.span_steps.proofs.running.RunningScript.begin_load.Goals as goal
 
 pub returns : goal.returns
 returns c =

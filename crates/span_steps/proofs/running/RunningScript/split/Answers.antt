@@ -1,6 +1,6 @@
 use Rattle.std.proofs.Common.{inl}
 use Rattle.span_steps.proofs.Commands.{split_refused}
-use Rattle.span_steps.proofs.session.Session.split.Goals as goal
+use Rattle.span_steps.proofs.running.RunningScript.split.Goals as goal
 
 pub returns-in-Ok-clause-split : goal.returns-in-Ok-clause-split
 returns-in-Ok-clause-split c =

@@ -1,8 +1,8 @@
 use Rattle.std.proofs.Common.{inr}
 use Rattle.span_steps.specs.States.{Gathers, Writes, RefusesRecord, RefusesWrite}
-use Rattle.span_steps.specs.Sessions.{state_of}
+use Rattle.span_steps.specs.Running.{state_of}
 use Rattle.span_steps.proofs.Commands.{changes_by}
-use Rattle.span_steps.proofs.session.Session.write.Goals as goal
+use Rattle.span_steps.proofs.running.RunningScript.write.Goals as goal
 
 pub returns : goal.returns
 returns c =
