@@ -1,4 +1,4 @@
-use Rattle.std.proofs.Common.{rules, ◌≡◌, ◌∙◌, ℕ, true, false, List, Bool, ap, subst, sym}
+use Rattle.std.proofs.Common.{rules, ◌≡◌, ◌∙◌, ℕ, true, List, ap, subst, sym}
 use Rattle.std.specs.List.{list_all}
 use Rattle.span_value.specs.declared.value.Value.{Value}
 use Rattle.span_schema.specs.Numbers.{other_kinds}
@@ -6,7 +6,7 @@ use Rattle.span_columns.specs.declared.leaf.Leaf.{Leaf}
 use Rattle.span_columns.specs.Picks.{picked_width}
 use Rattle.span_tablescan.specs.NumberTests.{meets, IsWhetherPass}
 use Rattle.span_tablescan.specs.Scans.{AreTestsWhere, IsTestOf}
-use Rattle.span_tablescan.proofs.ScannedRows.{counted_taken, unmet_taken}
+use Rattle.span_tablescan.proofs.ScannedRows.{counted_taken}
 use Rattle.span_tablescan.proofs.count.is_counted.Goals as goal
 
 pub returns : goal.returns
