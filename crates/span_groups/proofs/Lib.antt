@@ -12,3 +12,4 @@ pub mod Parting
 pub mod AddedStates
 pub mod GroupSteps
 mod GroupPlaces
+pub mod OneGroup

@@ -112,7 +112,7 @@ module _ {A : Type 0} (xs : List A) (x : A) (k : ℕ) (y : A) (found : slice_get
   is_last : k ≡ length xs → y ≡ x
   is_last e = sym (get_or_from_slice_get (xs ++ x ∷ []) k y y found) ∙ ap (λ i. get_or (xs ++ x ∷ []) i y) e ∙ get_or-append_seam xs x [] y
 
-states_more : (all : List Aggregate) (rows : List Row) (states : List State) (a : Aggregate) (s : State) → AreStatesOf all rows states → IsStateOf a rows s → AreStatesOf (all ++ a ∷ []) rows (states ++ s ∷ [])
+pub states_more : (all : List Aggregate) (rows : List Row) (states : List State) (a : Aggregate) (s : State) → AreStatesOf all rows states → IsStateOf a rows s → AreStatesOf (all ++ a ∷ []) rows (states ++ s ∷ [])
 states_more all rows states a s h is = record {
   long = omega (arith, h.long, length-append states (s ∷ []), length-append all (a ∷ []));
   each = λ k b t found held. elim (cases_eq k (length all)) [

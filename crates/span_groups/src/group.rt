@@ -15,6 +15,7 @@ ghost use Rattle.span_groups.specs.MergedGroups.{AreWholeGroups, HasGroupAt};
 ghost use Rattle.span_groups.specs.States.{operand_at};
 
 use super::aggregate::State;
+use super::counted::counted_group;
 use super::states::{add_states, put_row, states_at, take_all};
 use indexmap::IndexSet;
 use span_expr::cell::Failure;
@@ -251,8 +252,8 @@ pub(crate) fn rows_of_lists(
     )
 }
 
-/// The groups of the rows where the condition is TRUE.
-pub(crate) fn groups_where(
+/// The groups of the rows where the condition is TRUE, by one pass over the rows.
+fn groups_by_row(
     alloc: Global,
     filter: &Option<Expr>,
     grouping: &Grouping,
@@ -271,6 +272,25 @@ pub(crate) fn groups_where(
         }
     }
     Ok(groups)
+}
+
+/// The groups of the rows where the condition is TRUE. Where the number of all rows alone is wanted, no row is looked at.
+pub(crate) fn groups_where(
+    alloc: Global,
+    filter: &Option<Expr>,
+    grouping: &Grouping,
+    rows: &RowList,
+) -> Result<GroupLists, Failure>
+    ensures { MatchResult result
+        (λ groups. AreGroupsWhere filter.now grouping.now rows.now groups)
+        (λ why. Gives {A = List Row} (Err why) (unless_fault (filter_where filter.now rows.now) (spec.groups grouping.now))) }
+{
+    if let None = filter {
+        if let Some(groups) = counted_group(alloc, grouping, rows)? {
+            return Ok(groups);
+        }
+    }
+    groups_by_row(alloc, filter, grouping, rows)
 }
 
 /// The rows of the groups of the rows where the condition is TRUE: of each group its key, and then its aggregates.

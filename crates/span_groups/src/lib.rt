@@ -2,6 +2,7 @@
 #![tactic(auto)]
 
 mod aggregate;
+mod counted;
 mod firsts;
 pub mod group;
 mod lent;

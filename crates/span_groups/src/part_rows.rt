@@ -153,6 +153,10 @@ fn are_many(alloc: Global, grouping: &Grouping, rows: &RowList) -> Result<bool, 
         return Ok(false);
     }
     let places = grouping.keys.as_slice();
+    if places.is_empty() {
+        // There is one group.
+        return Ok(false);
+    }
     let count = rows.len() / ROWS_FOR_EACH;
     let mut keys = IndexSet::new(alloc);
     for at in 0..count {

@@ -1,7 +1,7 @@
 -- Lists that lie one after another in one list: their number, one of them, and more of them.
-use Rattle.std.proofs.Common.{◌≡◌, ◌∙◌, ◌≤◌, ◌<◌, ◌+◌, ◌-◌, ◌++◌, ◌∷◌, [], ℕ, zero, suc, List, take, drop, length, get_or, ap, sym, subst, refl, arith, length-append, append_assoc}
+use Rattle.std.proofs.Common.{◌≡◌, ◌∙◌, ◌≤◌, ◌<◌, ◌+◌, ◌-◌, ◌++◌, ◌∷◌, [], ℕ, zero, suc, List, take, drop, length, get_or, ap, sym, subst, refl, arith, length-append, append_assoc, replicate}
 use Rattle.std.proofs.lemmas.Grind.{common_steps}
-use Rattle.std.proofs.lemmas.List.{append-nil}
+use Rattle.std.proofs.lemmas.List.{append-nil, take_all}
 use Rattle.std.proofs.Math.Seq.{drop-append-add}
 use Rattle.span_rows.specs.Cuts.{cut_at, AreEnds, shift, start_at}
 
@@ -74,6 +74,33 @@ module _ {A : Type 0} where
       ap (λ (x : List A). x ∷ cut_at e (ends ++ (length all + length more) ∷ []) (all ++ more)) (part_stays at e all more (ends_within e ends (length all) are.1))
       ∙ ap (λ (xs : List (List A)). take (e - at) (drop at all) ∷ xs) (cut_more e ends all more are.1)
 
+-- ---- some more of nothing
+
+ends_empty : (at len count : ℕ) → at ≡ len → AreEnds at (replicate count len) len
+ends_empty at len zero is = is
+ends_empty at len (suc count) is = (omega arith, ends_empty len len count refl)
+
+pub ends_with_empty : (at : ℕ) (ends : List ℕ) (len count : ℕ) → AreEnds at ends len → AreEnds at (ends ++ replicate count len) len
+ends_with_empty at [] len count is = ends_empty at len count is
+ends_with_empty at (e ∷ ends) len count are = (are.0, ends_with_empty e ends len count are.1)
+
+module _ {A : Type 0} where
+  part_empty : (at : ℕ) (all : List A) → at ≡ length all → take (length all - at) (drop at all) ≡ []
+  part_empty at all is =
+      let none : length all - at ≡ 0 = omega arith in
+      ap (λ (n : ℕ). take n (drop at all)) none
+
+  cut_empty : (at count : ℕ) (all : List A) → at ≡ length all → cut_at at (replicate count (length all)) all ≡ replicate count []
+  cut_empty at zero all is = refl
+  cut_empty at (suc count) all is =
+      ap (λ (x : List A). x ∷ cut_at (length all) (replicate count (length all)) all) (part_empty at all is)
+      ∙ ap (λ (xs : List (List A)). [] ∷ xs) (cut_empty (length all) count all refl)
+
+  pub cut_with_empty : (at : ℕ) (ends : List ℕ) (all : List A) (count : ℕ) → AreEnds at ends (length all)
+      → cut_at at (ends ++ replicate count (length all)) all ≡ cut_at at ends all ++ replicate count []
+  cut_with_empty at [] all count is = cut_empty at count all is
+  cut_with_empty at (e ∷ ends) all count are = ap (λ (xs : List (List A)). take (e - at) (drop at all) ∷ xs) (cut_with_empty e ends all count are.1)
+
 -- ---- others after them
 
 pub ends_joined : (at : ℕ) (ends : List ℕ) (len : ℕ) (from : ℕ) (others : List ℕ) (more : ℕ) → AreEnds at ends (len + from) → AreEnds from others more
@@ -104,6 +131,13 @@ module _ {A : Type 0} where
 
 -- ---- the same where the lists are named
 
+-- lists of nothing more; the ends are those of a longer list
+resized : (ends new-ends : List ℕ) (len n count : ℕ) → n ≡ length ends + count → new-ends ≡ take n ends ++ replicate (n - length ends) len → new-ends ≡ ends ++ replicate count len
+resized ends new-ends len n count long is =
+    let front : take n ends ≡ ends = take_all n ends (omega arith) in
+    let more : n - length ends ≡ count = omega arith in
+    is ∙ ap (λ (es : List ℕ). es ++ replicate (n - length ends) len) front ∙ ap (λ (k : ℕ). ends ++ replicate k len) more
+
 module _ {A : Type 0} where
   pub whole_more : (ends new-ends : List ℕ) (all more new : List A) → AreEnds 0 ends (length all) → new ≡ all ++ more → new-ends ≡ ends ++ length new ∷ []
       → AreEnds 0 new-ends (length new)
@@ -125,6 +159,16 @@ module _ {A : Type 0} where
   pub rows_none : (ends new-ends : List ℕ) (all : List A) → AreEnds 0 ends (length all) → new-ends ≡ ends ++ length all ∷ []
       → cut_at 0 new-ends all ≡ cut_at 0 ends all ++ [] ∷ []
   rows_none ends new-ends all are ended = rows_more ends new-ends all [] all are (sym (append-nil all)) ended
+
+  pub whole_empty : (ends new-ends : List ℕ) (all : List A) (n count : ℕ) → AreEnds 0 ends (length all) → n ≡ length ends + count
+      → new-ends ≡ take n ends ++ replicate (n - length ends) (length all) → AreEnds 0 new-ends (length all)
+  whole_empty ends new-ends all n count are long is =
+      subst (λ (es : List ℕ). AreEnds 0 es (length all)) (sym (resized ends new-ends (length all) n count long is)) (ends_with_empty 0 ends (length all) count are)
+
+  pub rows_empty : (ends new-ends : List ℕ) (all : List A) (n count : ℕ) → AreEnds 0 ends (length all) → n ≡ length ends + count
+      → new-ends ≡ take n ends ++ replicate (n - length ends) (length all) → cut_at 0 new-ends all ≡ cut_at 0 ends all ++ replicate count []
+  rows_empty ends new-ends all n count are long is =
+      ap (λ (es : List ℕ). cut_at 0 es all) (resized ends new-ends (length all) n count long is) ∙ cut_with_empty 0 ends all count are
 
   pub whole_joined : (ends others new-ends : List ℕ) (all more new : List A) → AreEnds 0 ends (length all) → AreEnds 0 others (length more) → new ≡ all ++ more
       → new-ends ≡ ends ++ shift (length all) others → AreEnds 0 new-ends (length new)

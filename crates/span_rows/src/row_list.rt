@@ -1,5 +1,5 @@
 //! Rows in one buffer: no row has an allocation of its own.
-ghost use Rattle.std.specs.Prelude.{◌≡◌, ◌==◌, ◌<◌, ◌≤◌, ◌-◌, ◌++◌, ◌∷◌, [], IfOk, OnOk, OnErr, drop, length, slice_index_or, take};
+ghost use Rattle.std.specs.Prelude.{◌≡◌, ◌==◌, ◌<◌, ◌≤◌, ◌-◌, ◌++◌, ◌∷◌, [], IfOk, OnOk, OnErr, drop, length, replicate, slice_index_or, take};
 ghost use Rattle.std.specs.Cmp.Lexicographic.{pointwise};
 ghost use Rattle.std.specs.List.{All};
 ghost use Rattle.span_query.specs.Groups.{are_equal};
@@ -100,6 +100,14 @@ impl RowList {
             return push_none(self.values.as_slice(), &mut self.ends);
         }
         push_values(&mut self.values, &mut self.ends, row)
+    }
+
+    /// Adds a number of rows of no values. An error leaves the rows as they were.
+    pub fn push_empty_rows(&mut self, count: usize) -> Result<(), AllocError>
+        ensures ok { OnOk result (self.new ≡ self.old ++ replicate count []) }
+        ensures err { OnErr result (self.new ≡ self.old) }
+    {
+        push_empty(self.values.as_slice(), &mut self.ends, count)
     }
 
     /// Adds a row, whose values are moved. The only error is out of memory; it leaves the rows as they were.
@@ -257,6 +265,21 @@ fn push_none(values: &[Value], ends: &mut Vec<usize>) -> Result<(), AllocError>
     ensures err { OnErr result (ends.new.items ≡ ends.old.items) }
 {
     ends.push(values.len())?;
+    Ok(())
+}
+
+/// Adds a number of rows of no values. An error leaves all as it was.
+fn push_empty(values: &[Value], ends: &mut Vec<usize>, count: usize) -> Result<(), AllocError>
+    requires { AreEnds 0 ends.old.items (length values.now) }
+    ensures whole { AreEnds 0 ends.new.items (length values.now) }
+    ensures ok { OnOk result
+        (cut_at 0 ends.new.items values.now ≡ cut_at 0 ends.old.items values.now ++ replicate count []) }
+    ensures err { OnErr result (ends.new.items ≡ ends.old.items) }
+{
+    let Some(len) = ends.len().checked_add(count) else {
+        return Err(AllocError);
+    };
+    ends.resize(len, values.len())?;
     Ok(())
 }
 

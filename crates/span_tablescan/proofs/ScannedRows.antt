@@ -34,7 +34,7 @@ use Rattle.span_columns.specs.declared.leaf.Leaf.{Leaf}
 use Rattle.span_columns.specs.declared.leaf.LeafJoin.{LeafJoin}
 use Rattle.span_leaves.specs.Leaves.{width_of}
 use Rattle.span_leaves.specs.Maskable.{IsMaskable}
-use Rattle.span_columns.specs.Picks.{picked, pick_rows}
+use Rattle.span_columns.specs.Picks.{picked, picked_width, pick_rows}
 use Rattle.span_columns.specs.Reads.{has_place, reads_within, condition_reads, leaf_widths, leaf_on_reads, leaf_reads}
 use Rattle.span_leaves.specs.Results.{join_tables, leaf_rows}
 use Rattle.span_leaves.proofs.Picked.{Agrees, agrees, val-picked, pick_rows-append}
@@ -47,6 +47,7 @@ use Rattle.span_tablescan.specs.NumberTests.{meets, AreNeededFor, AreTestsOf, Is
 use Rattle.span_rowreader.specs.Readers.{ArePickedOf}
 use Rattle.span_tablescan.specs.Scans.{passes, kept_row, AreNeeded, AreTestsWhere, IsMaskOf, IsConditionAt, IsAdded, IsAddedWhere, IsTaken}
 use Rattle.span_rowreader.proofs.DeclaredRows.{row_width}
+use Rattle.span_rowreader.proofs.TargetRows.{none_picked}
 use Rattle.span_tablescan.proofs.ShortKeys.{given_on_all, refused_of_all}
 
 -- ---- the mask of a condition
@@ -215,6 +216,15 @@ pub met_added : (schema : List Table) (n : ℕ) (ms : List Bool) (w : Option Exp
     → IsWhetherPass (other_kinds schema n) row (λ cells. list_all (meets cells) tests) true → IsAdded schema n ms key row old new → IsAddedWhere schema n ms w key row (Ok tt) old new
 met_added schema n ms w key row tests old new of whether added =
     passed schema n ms w key row old new (λ t typed own is cells. of.judged t typed own ∙ ap (λ (b : Bool). Some b) (sym (whether.of t.cells (cells_fit schema n t typed own) cells))) added
+
+-- a row of no values is added where it is one of the table that meets them, where they tell whether it passes
+pub counted_taken : (schema : List Table) (n : ℕ) (ms : List Bool) (w : Option Expr) (key row : List ℕ) (tests : List NumberTest) (rows : List Row) (b : Bool) → picked_width ms ≡ 0 → AreTestsWhere schema n w tests
+    → IsWhetherPass (other_kinds schema n) row (λ cells. list_all (meets cells) tests) true → IsWhetherOf schema n key b → IsTaken schema n ms w key row (Ok tt) rows (if b then rows ++ [] ∷ [] else rows)
+counted_taken schema n ms w key row tests rows true none of met own =
+    let more : List Row = rows ++ [] ∷ [] in
+    let added : IsAdded schema n ms key row rows more = record { of = λ t typed its is cells. ap (λ (p : Row). rows ++ p ∷ []) (sym (none_picked ms (declared_row schema t) none)) } in
+    own_taken schema n ms w key row (Ok tt) rows more own (met_added schema n ms w key row tests rows more of met added)
+counted_taken schema n ms w key row tests rows false none of met own = other_taken schema n ms w key row rows own
 
 -- ---- the entries one after another
 

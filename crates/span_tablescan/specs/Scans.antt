@@ -13,7 +13,7 @@ use Rattle.span_expr.specs.Places.{moved, rank}
 use Rattle.span_query.specs.Rows.{Row, OrFault, Rows, ◌>>=◌, keep_if, holds}
 use Rattle.span_rows.specs.Answers.{Adds}
 use Rattle.span_leaves.specs.Leaves.{width_of}
-use Rattle.span_columns.specs.Picks.{picked}
+use Rattle.span_columns.specs.Picks.{picked, picked_width}
 use Rattle.span_columns.specs.Reads.{reads_within}
 use Rattle.span_tablescan.specs.declared.number_test.NumberTest.{NumberTest}
 use Rattle.span_tablescan.specs.declared.scan.Test.{Test}
@@ -76,6 +76,11 @@ pub record IsScan (schema : List Table) (scan : TableScan) : Type 0 where
   pub reader : IsReader schema scan.reader
   pub needed : AreNeeded schema scan.reader.table scan.leaf.now.filter scan.needed
   pub test : IsTestOf schema scan.reader.table scan.leaf.now.reads scan.leaf.now.filter scan.needed scan.test
+
+-- its rows have no values, and each of the table that meets the needed tests is kept
+pub record IsCount (scan : TableScan) : Type 0 where
+  pub test : scan.test ≡ Always
+  pub width : picked_width scan.reader.mask ≡ 0
 
 -- ---- what was added
 

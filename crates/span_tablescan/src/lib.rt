@@ -1,6 +1,7 @@
 //! Leaves of one table: their rows are read as a shard lends them, and comparisons of numbers judged where a row is packed.
 #![tactic(auto)]
 
+mod count;
 mod narrow;
 mod number_test;
 pub mod scan;

@@ -1,7 +1,7 @@
 use Rattle.span_rows.specs.RowPlaces.{rows_at}
 use Rattle.span_groups.specs.GroupStates.{HaveKeys}
 use Rattle.span_groups.proofs.Passes.{HavePassed}
-use Rattle.span_groups.proofs.group.groups_where.Given as goal
+use Rattle.span_groups.proofs.group.groups_by_row.Given as goal
 
 abbrev pub invariant-loop-at : goal.invariant-loop-at
 invariant-loop-at l = record {

@@ -9,8 +9,8 @@ use Rattle.span_groups.specs.GroupStates.{AreGroupLists, HaveKeys}
 use Rattle.span_rows.specs.Filtering.{holds_where}
 use Rattle.span_groups.proofs.GroupSteps.{read_there}
 use Rattle.span_groups.proofs.Passes.{HavePassed, passed_none, pass_fails, take_fails, pass_keeps, pass_drops, groups_passed}
-use Rattle.span_groups.proofs.group.groups_where.Goals.{then-branch+in_ok-take_row_at, else-branch}
-use Rattle.span_groups.proofs.group.groups_where.Goals as goal
+use Rattle.span_groups.proofs.group.groups_by_row.Goals.{then-branch+in_ok-take_row_at, else-branch}
+use Rattle.span_groups.proofs.group.groups_by_row.Goals as goal
 
 pub returns-in_err-is_kept : goal.returns-in_err-is_kept
 returns-in_err-is_kept c =

@@ -1,0 +1,100 @@
+//! Rows of no values, of a leaf of one table all of whose condition is tested at the packed cells: they are counted, and none is read.
+ghost use Rattle.std.specs.Prelude.{◌≡◌, ◌++◌, ◌∷◌, [], List, Ok, IfOk, replicate, true, if◌then◌else◌};
+ghost use Rattle.span_schema.specs.Numbers.{IsTable};
+ghost use Rattle.span_query.specs.Rows.{Row};
+ghost use Rattle.span_columns.specs.Picks.{picked_width};
+ghost use Rattle.span_tablescan.specs.Given.{IsGivenOn};
+ghost use Rattle.span_tablescan.specs.Scans.{IsCount, IsScan, IsTakenBy};
+
+use super::number_test::meets_all;
+use super::scan::{TableScan, Test};
+use span_columns::narrow::picked_width;
+use span_rows::row_list::RowList;
+use span_schema::schema::Schema;
+use span_shard::shard::Entry;
+use span_shard::snapshot::Snapshot;
+use std::alloc::{AllocError, Global};
+
+/// Whether the rows of a scan have no values, and each that meets the tests of its packed cells is kept.
+pub(crate) fn is_count(scan: &TableScan<'_>) -> bool
+    ensures { result ≡ true → IsCount scan.now }
+{
+    match &scan.test {
+        Test::Always => picked_width(scan.reader.mask.as_slice()) == 0,
+        _ => false,
+    }
+}
+
+/// Whether an entry is a row of the scan's table that is kept.
+fn is_counted(schema: &Schema, scan: &TableScan<'_>, entry: &Entry) -> bool
+    requires table { IsTable schema.now scan.now.reader.table }
+    requires scan { IsScan schema.now scan.now }
+    requires count { IsCount scan.now }
+    ensures { (rows : List Row)
+        → IsTakenBy schema.now scan.now entry.now.key.now entry.now.row.now (Ok tt) rows (if result then rows ++ [] ∷ [] else rows) }
+{
+    let reader = &scan.reader;
+    if !meets_all(
+        scan.needed.as_slice(),
+        schema.other_kinds(reader.table),
+        entry.row,
+    ) {
+        return false;
+    }
+    reader.is_own_key(schema, entry.key)
+}
+
+/// A number of rows, and one more where an entry is a row of the scan's table that is kept. The only error is that it is none of 64 bits.
+fn count_entry(
+    schema: &Schema,
+    scan: &TableScan<'_>,
+    entry: &Entry,
+    count: usize,
+) -> Result<usize, AllocError>
+    requires table { IsTable schema.now scan.now.reader.table }
+    requires scan { IsScan schema.now scan.now }
+    requires count { IsCount scan.now }
+    ensures { IfOk result
+        (λ more. IsTakenBy schema.now scan.now entry.now.key.now entry.now.row.now (Ok tt) (replicate count []) (replicate more [])) }
+{
+    if !is_counted(schema, scan, entry) {
+        return Ok(count);
+    }
+    count.checked_add(1).ok_or(AllocError)
+}
+
+/// How many of the rows that the snapshot lends are kept.
+fn count_rows(
+    schema: &Schema,
+    scan: &TableScan<'_>,
+    snapshot: Snapshot<'_>,
+) -> Result<usize, AllocError>
+    requires table { IsTable schema.now scan.now.reader.table }
+    requires scan { IsScan schema.now scan.now }
+    requires count { IsCount scan.now }
+    ensures { IfOk result (λ count. IsGivenOn schema.now scan.now.leaf.now snapshot.entry (Ok (replicate count []))) }
+{
+    let mut count = 0;
+    for entry in snapshot.with_short_keys(scan.reader.most) {
+        count = count_entry(schema, scan, &entry, count)?;
+    }
+    Ok(count)
+}
+
+/// The rows that the scan takes of those that the snapshot lends, each of no values. The only error is out of memory.
+pub(crate) fn counted_rows(
+    alloc: Global,
+    schema: &Schema,
+    scan: &TableScan<'_>,
+    snapshot: Snapshot<'_>,
+) -> Result<RowList, AllocError>
+    requires table { IsTable schema.now scan.now.reader.table }
+    requires scan { IsScan schema.now scan.now }
+    requires count { IsCount scan.now }
+    ensures { IfOk result (λ rows. IsGivenOn schema.now scan.now.leaf.now snapshot.entry (Ok rows)) }
+{
+    let count = count_rows(schema, scan, snapshot)?;
+    let mut rows = RowList::new(alloc);
+    rows.push_empty_rows(count)?;
+    Ok(rows)
+}
