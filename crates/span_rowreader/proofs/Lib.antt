@@ -4,6 +4,7 @@ pub mod KeyPlaces
 pub mod RowWidths
 pub mod ReadTables
 pub mod KeyLengths
+mod Numbers
 pub mod PlacedRows
 pub mod Placing
 pub mod TargetRows

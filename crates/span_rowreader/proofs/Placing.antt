@@ -1,5 +1,5 @@
 -- Values put at their places one after another.
-use Rattle.std.proofs.Common.{◌≡◌, ℕ, suc, ◌+◌, ◌-◌, ◌<◌, ◌≤◌, ◌^◌, List, [], ◌∷◌, ◌++◌, Bool, true, false, not, refl, sym, ◌∙◌, ap, subst, append_assoc, arith, length, length-append, length-drop, drop, get_or, set, if◌then◌else◌}
+use Rattle.std.proofs.Common.{◌≡◌, ℕ, suc, ◌+◌, ◌-◌, ◌<◌, ◌≤◌, ◌^◌, List, [], ◌∷◌, ◌++◌, Bool, true, false, not, Option, Some, None, MatchOption, Result, Ok, Err, IfOk, refl, sym, ◌∙◌, ap, subst, append_assoc, arith, length, length-append, length-drop, drop, get_or, set, if◌then◌else◌}
 use Rattle.std.proofs.lemmas.Bool.{and_parts, not-true}
 use Rattle.std.proofs.lemmas.List.{drop_more, drop-drop, drop_all}
 use Rattle.span_value.specs.declared.value.Value.{Value}
@@ -20,7 +20,7 @@ use Rattle.span_keycode.proofs.KeyLaws.{values_of, values_back, place_within}
 use Rattle.span_rowcode.specs.Rows.{AreCells, IsRow, IsNoCell, IsCell, IsCellSkip, row_code}
 use Rattle.span_rowcode.specs.Limits.{longest_row}
 use Rattle.span_rowcode.proofs.CellSkips.{cell_once}
-use Rattle.span_rowreader.specs.Placed.{is_wanted, wants_none, put, placed, IsColumnPut, AreColumnsPut, IsLevelPut, IsNoLevel, IsKeyPut, IsCellPut, AreCellsPut}
+use Rattle.span_rowreader.specs.Placed.{is_wanted, wants_none, put, placed, IsColumnPut, IsColumnRead, AreColumnsPut, IsLevelPut, IsNoLevel, IsKeyPut, IsCellPut, IsCellRead, AreCellsPut}
 use Rattle.span_rowreader.proofs.KeyPlaces.{has_key_columns}
 
 -- ---- one value
@@ -49,6 +49,28 @@ cell_put ms k place bs old new v n small wanted read e = record {
 
 pub cell_skipped : (ms : List Bool) (k : Kind) (place : ℕ) (bs : List ℕ) (old : List Value) (n : ℕ) → is_wanted ms place ≡ false → IsCellSkip k bs n → IsCellPut ms k place bs old old n
 cell_skipped ms k place bs old n not_wanted skip = record { within = skip.within; put = λ w more f code. (put_not ms place w old not_wanted, skip.past w more f code) }
+
+-- what was read and put at a place that the mask has
+
+columns_read : (ms : List Bool) (c : KeyPart) (place : ℕ) (bs : List ℕ) (old new : List Value) (found : Option ℕ) → is_wanted ms place ≡ true → MatchOption found (IsNoColumn c bs) (λ n. IsColumnRead c place bs old new n)
+    → MatchOption found (IsNoColumn c bs) (λ n. IsColumnPut ms c place bs old new n)
+columns_read ms c place bs old new None wanted none = none
+columns_read ms c place bs old new (Some n) wanted one = column_put ms c place bs old new one.value n wanted one.read one.put
+
+cells_read : (ms : List Bool) (k : Kind) (place : ℕ) (bs : List ℕ) (old new : List Value) (found : Option ℕ) → length bs < 2 ^ 32 → is_wanted ms place ≡ true → MatchOption found (IsNoCell k bs) (λ n. IsCellRead k place bs old new n)
+    → MatchOption found (IsNoCell k bs) (λ n. IsCellPut ms k place bs old new n)
+cells_read ms k place bs old new None small wanted none = none
+cells_read ms k place bs old new (Some n) small wanted one = cell_put ms k place bs old new one.value n small wanted one.read one.put
+
+pub any_column_put : {E : Type 0} (ms : List Bool) (c : KeyPart) (place : ℕ) (bs : List ℕ) (old new : List Value) (r : Result (Option ℕ) E) → is_wanted ms place ≡ true
+    → IfOk r (λ found. MatchOption found (IsNoColumn c bs) (λ n. IsColumnRead c place bs old new n)) → IfOk r (λ found. MatchOption found (IsNoColumn c bs) (λ n. IsColumnPut ms c place bs old new n))
+any_column_put ms c place bs old new (Ok found) wanted so = columns_read ms c place bs old new found wanted so
+any_column_put ms c place bs old new (Err e) wanted so = tt
+
+pub any_cell_put : {E : Type 0} (ms : List Bool) (k : Kind) (place : ℕ) (bs : List ℕ) (old new : List Value) (r : Result (Option ℕ) E) → length bs < 2 ^ 32 → is_wanted ms place ≡ true
+    → IfOk r (λ found. MatchOption found (IsNoCell k bs) (λ n. IsCellRead k place bs old new n)) → IfOk r (λ found. MatchOption found (IsNoCell k bs) (λ n. IsCellPut ms k place bs old new n))
+any_cell_put ms k place bs old new (Ok found) small wanted so = cells_read ms k place bs old new found small wanted so
+any_cell_put ms k place bs old new (Err e) small wanted so = tt
 
 -- a row is as it was where the mask has none of the places
 pub none_put : (ms : List Bool) (ps : List ℕ) (vs row : List Value) → wants_none ms ps ≡ true → row ≡ placed ms ps vs row

@@ -3,6 +3,7 @@ pub mod Placed
 pub mod Entries
 pub mod Longest
 pub mod Narrowed
+pub mod Numbers
 pub mod Readers
 pub mod LeafReaders
 pub mod Steps

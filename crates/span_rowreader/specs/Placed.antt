@@ -7,7 +7,8 @@ use Rattle.span_schema.specs.declared.table.Table.{Table}
 use Rattle.span_schema.specs.declared.layout.KeyPart.{KeyPart}
 use Rattle.span_keycode.specs.Coding.{Fits, AreFit, column_code, tuple_code}
 use Rattle.span_keycode.specs.Keys.{IsKey, key_code}
-use Rattle.span_rowcode.specs.Rows.{IsRow, cell_code, row_code}
+use Rattle.span_keycode.specs.Reads.{IsColumn}
+use Rattle.span_rowcode.specs.Rows.{IsCell, IsRow, cell_code, row_code}
 use Rattle.span_mutate.specs.declared.row.TableRow.{TableRow}
 use Rattle.span_mutate.specs.Typed.{IsTyped}
 use Rattle.span_shard.specs.Rows.{code_of}
@@ -31,6 +32,12 @@ abbrev pub placed : List Bool → List ℕ → List Value → List Value → Lis
 placed ms [] vs row = row
 placed ms (p ∷ ps) [] row = row
 placed ms (p ∷ ps) (v ∷ vs) row = placed ms ps vs (put ms p v row)
+
+-- a value of the column is coded in the first n bytes, and was put at a place
+pub record IsColumnRead (c : KeyPart) (place : ℕ) (bytes : List ℕ) (old new : List Value) (n : ℕ) : Type 0 where
+  pub value : Value
+  pub read : IsColumn c bytes value n
+  pub put : new ≡ slice_set old place value
 
 -- whatever value of the column is coded at the front, in n bytes, it was put at its place
 pub record IsColumnPut (ms : List Bool) (c : KeyPart) (place : ℕ) (bytes : List ℕ) (old new : List Value) (n : ℕ) : Type 0 where
@@ -57,6 +64,12 @@ pub record IsNoLevel (cs : List KeyPart) (places : List ℕ) (bytes : List ℕ) 
 -- whatever key of table n the bytes code, its values were put at these places; found is not true where they code none
 pub record IsKeyPut (schema : List Table) (n : ℕ) (places : List ℕ) (ms : List Bool) (bytes : List ℕ) (old new : List Value) (found : Bool) : Type 0 where
   pub put : (vs : List Value) → IsKey schema n vs → bytes ≡ key_code schema n vs → (found ≡ true) × (new ≡ placed ms places vs old)
+
+-- a cell of the kind is coded in the first n bytes, and was put at a place
+pub record IsCellRead (k : Kind) (place : ℕ) (bytes : List ℕ) (old new : List Value) (n : ℕ) : Type 0 where
+  pub value : Value
+  pub read : IsCell k bytes value n
+  pub put : new ≡ slice_set old place value
 
 -- whatever cell of the kind is coded at the front, in n bytes, it was put at its place
 pub record IsCellPut (ms : List Bool) (k : Kind) (place : ℕ) (bytes : List ℕ) (old new : List Value) (n : ℕ) : Type 0 where

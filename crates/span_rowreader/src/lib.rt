@@ -6,6 +6,7 @@ pub mod decode;
 mod keys;
 pub mod leaf_reader;
 pub mod longest;
+mod number;
 pub mod place;
 pub mod reader;
 mod steps;

@@ -1,5 +1,6 @@
 //! Values put at their places in a row, as far as a mask has the places.
 ghost use Rattle.std.specs.Prelude.{◌≡◌, slice_set};
+ghost use Rattle.span_value.specs.declared.value.Value.TheVariants.{Int};
 ghost use Rattle.span_rowreader.specs.Placed as spec;
 
 use span_value::value::Value;
@@ -28,4 +29,14 @@ pub(crate) fn put_value(row: &mut Vec<Value>, place: usize, value: Value)
     if place < row.len() {
         row[place] = value;
     }
+}
+
+/// The same of a number.
+pub(crate) fn put_number(row: &mut Vec<Value>, place: usize, number: i64)
+    ensures { row.new.items ≡ slice_set row.old.items place (Int number) }
+{
+    if place >= row.len() {
+        return;
+    }
+    row[place] = Value::Int(number);
 }
