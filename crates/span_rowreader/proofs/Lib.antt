@@ -9,4 +9,5 @@ pub mod PlacedRows
 pub mod Placing
 pub mod TargetRows
 pub mod Along
+pub mod KeyReads
 pub mod WholeKeys

@@ -7,4 +7,5 @@ pub mod Numbers
 pub mod Readers
 pub mod LeafReaders
 pub mod Steps
+pub mod Reads
 pub mod WholeKeys

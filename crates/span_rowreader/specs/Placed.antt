@@ -5,7 +5,7 @@ use Rattle.span_value.specs.declared.value.Value.{Value}
 use Rattle.span_value.specs.declared.value.Kind.{Kind}
 use Rattle.span_schema.specs.declared.table.Table.{Table}
 use Rattle.span_schema.specs.declared.layout.KeyPart.{KeyPart}
-use Rattle.span_keycode.specs.Coding.{Fits, AreFit, column_code, tuple_code}
+use Rattle.span_keycode.specs.Coding.{Fits, column_code}
 use Rattle.span_keycode.specs.Keys.{IsKey, key_code}
 use Rattle.span_keycode.specs.Reads.{IsColumn}
 use Rattle.span_rowcode.specs.Rows.{IsCell, IsRow, cell_code, row_code}
@@ -43,23 +43,6 @@ pub record IsColumnRead (c : KeyPart) (place : ℕ) (bytes : List ℕ) (old new 
 pub record IsColumnPut (ms : List Bool) (c : KeyPart) (place : ℕ) (bytes : List ℕ) (old new : List Value) (n : ℕ) : Type 0 where
   pub within : n ≤ length bytes
   pub put : (v : Value) (more : List ℕ) → Fits c.kind v → bytes ≡ column_code c v ++ more → (new ≡ put ms place v old) × (more ≡ drop n bytes)
-
--- the same of the values of several columns, whose places are the first of these
-pub record AreColumnsPut (ms : List Bool) (cs : List KeyPart) (places : List ℕ) (bytes : List ℕ) (old new : List Value) (n : ℕ) : Type 0 where
-  pub within : n ≤ length bytes
-  pub put : (vs : List Value) (more : List ℕ) → AreFit cs vs → bytes ≡ tuple_code cs vs ++ more
-      → (more ≡ drop n bytes) × ((us : List Value) → placed ms places (vs ++ us) old ≡ placed ms (drop (length cs) places) us new)
-
--- the same of a level of a key, which begins with the number of its table
-pub record IsLevelPut (ms : List Bool) (cs : List KeyPart) (places : List ℕ) (bytes : List ℕ) (old new : List Value) (n : ℕ) : Type 0 where
-  pub within : n ≤ length bytes
-  pub long : length cs ≤ length places
-  pub put : (table : ℕ) (vs : List Value) (more : List ℕ) → AreFit cs vs → bytes ≡ table ∷ (tuple_code cs vs ++ more)
-      → (more ≡ drop n bytes) × ((us : List Value) → placed ms places (vs ++ us) old ≡ placed ms (drop (length cs) places) us new)
-
--- no level with values of the columns, for each of which there is a place, is coded at the front
-pub record IsNoLevel (cs : List KeyPart) (places : List ℕ) (bytes : List ℕ) : Type 0 where
-  pub none : (table : ℕ) (vs : List Value) (more : List ℕ) → AreFit cs vs → bytes ≡ table ∷ (tuple_code cs vs ++ more) → length cs ≤ length places → ⊥
 
 -- whatever key of table n the bytes code, its values were put at these places; found is not true where they code none
 pub record IsKeyPut (schema : List Table) (n : ℕ) (places : List ℕ) (ms : List Bool) (bytes : List ℕ) (old new : List Value) (found : Bool) : Type 0 where

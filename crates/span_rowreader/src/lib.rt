@@ -9,5 +9,6 @@ pub mod longest;
 mod number;
 pub mod place;
 pub mod reader;
+mod reads;
 mod steps;
 mod whole_key;

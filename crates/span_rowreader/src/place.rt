@@ -15,13 +15,6 @@ pub fn is_wanted(wanted: &[bool], place: usize) -> bool
     wanted[place]
 }
 
-/// Whether the mask has none of the places.
-pub(crate) fn wants_none(wanted: &[bool], places: &[usize]) -> bool
-    ensures { result ≡ spec.wants_none wanted.now places.now }
-{
-    places.iter().all(|place| !is_wanted(wanted, *place))
-}
-
 /// Puts a value at a place of a row, if the row has the place.
 pub(crate) fn put_value(row: &mut Vec<Value>, place: usize, value: Value)
     ensures { row.new.items ≡ slice_set row.old.items place value }
