@@ -171,8 +171,9 @@ fn put_nulls(row: &mut Vec<Value>, len: usize) -> Result<(), AllocError>
     ensures { OnOk result (row.new.items ≡ replicate len Null) }
 {
     row.clear();
+    row.reserve(len)?;
     for _ in 0..len {
-        row.push(Value::Null)?;
+        row.push_reserved(Value::Null);
     }
     Ok(())
 }
