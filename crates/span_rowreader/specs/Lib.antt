@@ -3,7 +3,9 @@ pub mod Placed
 pub mod Entries
 pub mod Longest
 pub mod Narrowed
+pub mod Numbers
 pub mod Readers
 pub mod LeafReaders
 pub mod Steps
+pub mod Reads
 pub mod WholeKeys

@@ -5,9 +5,10 @@ use Rattle.span_value.specs.declared.value.Value.{Value}
 use Rattle.span_value.specs.declared.value.Kind.{Kind}
 use Rattle.span_schema.specs.declared.table.Table.{Table}
 use Rattle.span_schema.specs.declared.layout.KeyPart.{KeyPart}
-use Rattle.span_keycode.specs.Coding.{Fits, AreFit, column_code, tuple_code}
+use Rattle.span_keycode.specs.Coding.{Fits, column_code}
 use Rattle.span_keycode.specs.Keys.{IsKey, key_code}
-use Rattle.span_rowcode.specs.Rows.{IsRow, cell_code, row_code}
+use Rattle.span_keycode.specs.Reads.{IsColumn}
+use Rattle.span_rowcode.specs.Rows.{IsCell, IsRow, cell_code, row_code}
 use Rattle.span_mutate.specs.declared.row.TableRow.{TableRow}
 use Rattle.span_mutate.specs.Typed.{IsTyped}
 use Rattle.span_shard.specs.Rows.{code_of}
@@ -32,31 +33,26 @@ placed ms [] vs row = row
 placed ms (p ∷ ps) [] row = row
 placed ms (p ∷ ps) (v ∷ vs) row = placed ms ps vs (put ms p v row)
 
+-- a value of the column is coded in the first n bytes, and was put at a place
+pub record IsColumnRead (c : KeyPart) (place : ℕ) (bytes : List ℕ) (old new : List Value) (n : ℕ) : Type 0 where
+  pub value : Value
+  pub read : IsColumn c bytes value n
+  pub put : new ≡ slice_set old place value
+
 -- whatever value of the column is coded at the front, in n bytes, it was put at its place
 pub record IsColumnPut (ms : List Bool) (c : KeyPart) (place : ℕ) (bytes : List ℕ) (old new : List Value) (n : ℕ) : Type 0 where
   pub within : n ≤ length bytes
   pub put : (v : Value) (more : List ℕ) → Fits c.kind v → bytes ≡ column_code c v ++ more → (new ≡ put ms place v old) × (more ≡ drop n bytes)
 
--- the same of the values of several columns, whose places are the first of these
-pub record AreColumnsPut (ms : List Bool) (cs : List KeyPart) (places : List ℕ) (bytes : List ℕ) (old new : List Value) (n : ℕ) : Type 0 where
-  pub within : n ≤ length bytes
-  pub put : (vs : List Value) (more : List ℕ) → AreFit cs vs → bytes ≡ tuple_code cs vs ++ more
-      → (more ≡ drop n bytes) × ((us : List Value) → placed ms places (vs ++ us) old ≡ placed ms (drop (length cs) places) us new)
-
--- the same of a level of a key, which begins with the number of its table
-pub record IsLevelPut (ms : List Bool) (cs : List KeyPart) (places : List ℕ) (bytes : List ℕ) (old new : List Value) (n : ℕ) : Type 0 where
-  pub within : n ≤ length bytes
-  pub long : length cs ≤ length places
-  pub put : (table : ℕ) (vs : List Value) (more : List ℕ) → AreFit cs vs → bytes ≡ table ∷ (tuple_code cs vs ++ more)
-      → (more ≡ drop n bytes) × ((us : List Value) → placed ms places (vs ++ us) old ≡ placed ms (drop (length cs) places) us new)
-
--- no level with values of the columns, for each of which there is a place, is coded at the front
-pub record IsNoLevel (cs : List KeyPart) (places : List ℕ) (bytes : List ℕ) : Type 0 where
-  pub none : (table : ℕ) (vs : List Value) (more : List ℕ) → AreFit cs vs → bytes ≡ table ∷ (tuple_code cs vs ++ more) → length cs ≤ length places → ⊥
-
 -- whatever key of table n the bytes code, its values were put at these places; found is not true where they code none
 pub record IsKeyPut (schema : List Table) (n : ℕ) (places : List ℕ) (ms : List Bool) (bytes : List ℕ) (old new : List Value) (found : Bool) : Type 0 where
   pub put : (vs : List Value) → IsKey schema n vs → bytes ≡ key_code schema n vs → (found ≡ true) × (new ≡ placed ms places vs old)
+
+-- a cell of the kind is coded in the first n bytes, and was put at a place
+pub record IsCellRead (k : Kind) (place : ℕ) (bytes : List ℕ) (old new : List Value) (n : ℕ) : Type 0 where
+  pub value : Value
+  pub read : IsCell k bytes value n
+  pub put : new ≡ slice_set old place value
 
 -- whatever cell of the kind is coded at the front, in n bytes, it was put at its place
 pub record IsCellPut (ms : List Bool) (k : Kind) (place : ℕ) (bytes : List ℕ) (old new : List Value) (n : ℕ) : Type 0 where

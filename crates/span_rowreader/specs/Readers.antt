@@ -1,5 +1,5 @@
 -- Reading of a table's rows, of the columns alone that a mask has.
-use Rattle.std.specs.Prelude.{◌≡◌, ℕ, ◌≤◌, List, Bool, true, not, length, IfSome, drop, map, replicate, if◌then◌else◌}
+use Rattle.std.specs.Prelude.{◌≡◌, ℕ, ◌≤◌, List, Bool, true, length, IfSome, drop, map, replicate, if◌then◌else◌}
 use Rattle.span_value.specs.declared.value.Value.{Value}
 use Rattle.span_schema.specs.declared.table.Table.{Table}
 use Rattle.span_schema.specs.Numbers.{key_places, other_places}
@@ -14,6 +14,7 @@ use Rattle.span_rowreader.specs.declared.reader.TableReader.{TableReader}
 use Rattle.span_rowreader.specs.Meaning.{declared_row}
 use Rattle.span_rowreader.specs.Longest.{IsLongest}
 use Rattle.span_rowreader.specs.Placed.{is_wanted, wants_none}
+use Rattle.span_rowreader.specs.Reads.{AreReadsOf}
 use Rattle.span_rowreader.specs.Steps.{key_steps}
 use Rattle.span_rowreader.specs.WholeKeys.{IsTableByLength}
 
@@ -28,8 +29,7 @@ pub record IsReader (schema : List Table) (r : TableReader) : Type 0 where
   pub by_length : IfSome r.by_length (IsTableByLength schema r.table)
   pub steps : r.steps ≡ key_steps schema r.table
   pub all : r.all ≡ replicate (picked_width r.mask) true
-  pub key : r.key ≡ map (target r.mask) (key_places schema r.table)
-  pub reads_key : r.reads_key ≡ not (wants_none r.all r.key)
+  pub reads : AreReadsOf schema r.table (map (target r.mask) (key_places schema r.table)) r.all r.reads
   pub others : r.others ≡ map (target r.mask) (other_places schema r.table)
   pub others_read : r.others_read ≤ length r.others
   pub others_left : wants_none r.all (drop r.others_read r.others) ≡ true

@@ -2,13 +2,38 @@
 ghost use Rattle.std.specs.Prelude.{◌≡◌, ◌≤◌, IfOk, MatchOption, drop, length, true};
 ghost use Rattle.span_rowcode.specs.declared.pack.TheConstants.{MOST_BYTES};
 ghost use Rattle.span_rowcode.specs.Rows.{IsNoCell};
-ghost use Rattle.span_rowreader.specs.Placed.{IsCellPut, AreCellsPut, wants_none};
+ghost use Rattle.span_rowreader.specs.Placed.{IsCellPut, IsCellRead, AreCellsPut, wants_none};
 
-use super::place::{is_wanted, put_value};
+use super::number::cell_number;
+use super::place::{is_wanted, put_number, put_value};
 use span_rowcode::cell::{after, read_cell, skip_cell};
 use span_rowcode::pack::MOST_BYTES;
 use span_value::value::{Kind, Value};
 use std::alloc::{AllocError, Global};
+
+/// Puts the cell of a kind at the front of bytes at its place, which is wanted, by the value that it is.
+#[inline(never)]
+fn put_any_cell(
+    alloc: Global,
+    kind: Kind,
+    place: usize,
+    bytes: &[u8],
+    row: &mut Vec<Value>,
+) -> Result<Option<usize>, AllocError>
+    requires { length bytes.now ≤ MOST_BYTES }
+    ensures { IfOk result
+        (λ found.
+        MatchOption found (IsNoCell kind bytes.now)
+        (λ n. IsCellRead kind place bytes.now row.old.items row.new.items n)) }
+{
+    match read_cell(alloc, kind, bytes)? {
+        None => Ok(None),
+        Some((value, width)) => {
+            put_value(row, place, value);
+            Ok(Some(width))
+        }
+    }
+}
 
 /// Puts the cell of a kind at the front of bytes at its place, if it is wanted, and returns how many bytes code it. None
 /// if no cell of the kind is coded there. A cell that is not wanted is skipped.
@@ -29,12 +54,12 @@ fn put_cell(
     if !is_wanted(wanted, place) {
         return Ok(Some(skip_cell(kind, bytes)));
     }
-    match read_cell(alloc, kind, bytes)? {
-        None => Ok(None),
-        Some((value, width)) => {
-            put_value(row, place, value);
-            Ok(Some(width))
+    match cell_number(kind, bytes) {
+        Some(number) => {
+            put_number(row, place, number);
+            Ok(Some(9))
         }
+        None => put_any_cell(alloc, kind, place, bytes, row),
     }
 }
 

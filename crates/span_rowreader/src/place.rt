@@ -1,5 +1,6 @@
 //! Values put at their places in a row, as far as a mask has the places.
 ghost use Rattle.std.specs.Prelude.{◌≡◌, slice_set};
+ghost use Rattle.span_value.specs.declared.value.Value.TheVariants.{Int};
 ghost use Rattle.span_rowreader.specs.Placed as spec;
 
 use span_value::value::Value;
@@ -14,13 +15,6 @@ pub fn is_wanted(wanted: &[bool], place: usize) -> bool
     wanted[place]
 }
 
-/// Whether the mask has none of the places.
-pub(crate) fn wants_none(wanted: &[bool], places: &[usize]) -> bool
-    ensures { result ≡ spec.wants_none wanted.now places.now }
-{
-    places.iter().all(|place| !is_wanted(wanted, *place))
-}
-
 /// Puts a value at a place of a row, if the row has the place.
 pub(crate) fn put_value(row: &mut Vec<Value>, place: usize, value: Value)
     ensures { row.new.items ≡ slice_set row.old.items place value }
@@ -28,4 +22,14 @@ pub(crate) fn put_value(row: &mut Vec<Value>, place: usize, value: Value)
     if place < row.len() {
         row[place] = value;
     }
+}
+
+/// The same of a number.
+pub(crate) fn put_number(row: &mut Vec<Value>, place: usize, number: i64)
+    ensures { row.new.items ≡ slice_set row.old.items place (Int number) }
+{
+    if place >= row.len() {
+        return;
+    }
+    row[place] = Value::Int(number);
 }

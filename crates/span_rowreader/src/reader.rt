@@ -1,18 +1,20 @@
 //! Reading of a table's rows, of the columns alone that a mask has: a value is put at its place among these, and no other is made.
 ghost use Rattle.std.specs.Prelude.{◌≡◌, ◌≤◌, ◌⊎◌, IfOk, OnOk, MatchResult, drop, length, map, replicate, take, true};
 ghost use Rattle.span_value.specs.declared.value.Value.TheVariants.{Null};
-ghost use Rattle.span_schema.specs.Numbers.{IsTable};
+ghost use Rattle.span_schema.specs.Numbers.{IsTable, key_places};
 ghost use Rattle.span_leaves.specs.Leaves.{width_of};
 ghost use Rattle.span_columns.specs.Picks.{picked_width};
 ghost use Rattle.span_rowreader.specs.Entries.{IsWhetherOf};
 ghost use Rattle.span_rowreader.specs.Placed.{IsNoRowOf, wants_none};
+ghost use Rattle.span_rowreader.specs.Reads.{AreReadsOf};
+ghost use Rattle.span_rowreader.specs.Steps.{key_steps};
 ghost use Rattle.span_rowreader.specs.Readers as spec;
 ghost use Rattle.span_rowreader.specs.Readers.{IsReader, ArePickedOf};
 
 use super::cells::put_cells;
-use super::keys::put_key;
 use super::longest::longest_key;
-use super::place::{is_wanted, wants_none};
+use super::place::is_wanted;
+use super::reads::{KeyRead, key_reads, put_key};
 use super::steps::{KeyStep, goes_along, key_steps};
 use super::whole_key::{WholeKey, is_own_by_length, table_by_length};
 use span_columns::narrow::picked_width;
@@ -38,10 +40,8 @@ pub struct TableReader {
     pub mask: Seq<bool>,
     /// TRUE for each of these.
     all: Seq<bool>,
-    /// The place of each column of the key among those that are read, or a place after all of them.
-    key: Seq<usize>,
-    /// Whether a column of the key is read.
-    reads_key: bool,
+    /// The columns of the key up to the last that is read, each with its place among those that are read, or a place after all of them.
+    reads: Seq<KeyRead>,
     /// The place of each other column among those that are read, or a place after all of them.
     others: Seq<usize>,
     /// How many of the other columns there are up to the last that is read.
@@ -107,6 +107,27 @@ fn mask_before(mask: &[bool], width: usize) -> &[bool]
     &mask[..width.min(mask.len())]
 }
 
+/// The columns of a table's keys up to the last that is wanted.
+fn wanted_reads(
+    alloc: Global,
+    schema: &Schema,
+    table: usize,
+    steps: &[KeyStep],
+    mask: &[bool],
+    wanted: &[bool],
+) -> Result<Seq<KeyRead>, AllocError>
+    requires table { IsTable schema.now table }
+    requires steps { steps.now ≡ key_steps schema.now table }
+    ensures { IfOk result
+        (λ reads. AreReadsOf schema.now table (map (spec.target mask.now) (key_places schema.now table)) wanted.now reads) }
+{
+    let places = targets(alloc, mask, schema.key_places(table))?;
+    let count = count_to_last(wanted, places.as_slice());
+    let mut reads = key_reads(alloc, steps, places.as_slice())?;
+    reads.truncate(count);
+    Ok(Seq::from_vec(reads))
+}
+
 /// What reads the columns of a table that the front of a mask has.
 pub fn table_reader(
     alloc: Global,
@@ -121,19 +142,25 @@ pub fn table_reader(
 {
     let front = mask_before(mask, width_of(schema, table));
     let all = all_of(alloc, front)?;
-    let key = targets(alloc, front, schema.key_places(table))?;
+    let steps = key_steps(alloc, schema, table)?;
+    let reads = wanted_reads(
+        alloc,
+        schema,
+        table,
+        steps.as_slice(),
+        front,
+        all.as_slice(),
+    )?;
     let others = targets(alloc, front, schema.other_places(table))?;
-    let reads_key = !wants_none(all.as_slice(), key.as_slice());
     let others_read = count_to_last(all.as_slice(), others.as_slice());
     Ok(TableReader {
         table,
         most: longest_key(schema, table),
         by_length: table_by_length(schema, table),
-        steps: key_steps(alloc, schema, table)?,
+        steps,
         mask: copy_mask(alloc, front)?,
         all,
-        key,
-        reads_key,
+        reads,
         others,
         others_read,
     })
@@ -144,8 +171,9 @@ fn put_nulls(row: &mut Vec<Value>, len: usize) -> Result<(), AllocError>
     ensures { OnOk result (row.new.items ≡ replicate len Null) }
 {
     row.clear();
+    row.reserve(len)?;
     for _ in 0..len {
-        row.push(Value::Null)?;
+        row.push_reserved(Value::Null);
     }
     Ok(())
 }
@@ -197,16 +225,7 @@ impl TableReader {
         if !put_cells(alloc, kinds, others, all, self.others_read, cells, row)? {
             return Err(Refusal::BadRow);
         }
-        if !put_key(
-            alloc,
-            schema,
-            self.table,
-            self.key.as_slice(),
-            all,
-            self.reads_key,
-            key,
-            row,
-        )? {
+        if !put_key(alloc, self.reads.as_slice(), all, key, row)? {
             return Err(Refusal::BadKey);
         }
         Ok(())

@@ -1,9 +1,21 @@
-use Rattle.std.proofs.Common.{sym, ◌∙◌}
+use Rattle.std.proofs.Common.{ℤ, sym, ap, ◌∙◌, set}
+use Rattle.std.specs.Int.{w64}
+use Rattle.std.proofs.lemmas.Int.{to_z-of_z}
 use Rattle.std.proofs.lemmas.Option.{MatchOption-at_some}
-use Rattle.span_rowreader.proofs.Placing.{column_put}
+use Rattle.span_value.specs.declared.value.Value.TheVariants.{Int}
+use Rattle.span_rowreader.proofs.Placing.{column_put, any_column_put}
+use Rattle.span_rowreader.proofs.Numbers.{number_fits}
 use Rattle.span_rowreader.proofs.keys.put_column.Goals as goal
 
 pub returns-in-Some : goal.returns-in-Some
 returns-in-Some c =
-    column_put c.args.wanted.now c.args.column c.args.place c.args.bytes.now c.args.row.now.items c.put_value.new.row.items c.in-Some.value c.in-Some.width
-    (sym c.is_wanted.ensures ∙ c.if-not-is_wanted.false) (MatchOption-at_some _ _ _ c.in-Some.is c.in_ok-read_value.ensures) c.put_value.ensures
+    let old = c.args.row.now.items in
+    let read = MatchOption-at_some _ _ _ c.in-Some.is c.column_number.ensures in
+    column_put c.args.wanted.now c.args.column c.args.place c.args.bytes.now old c.put_number.new.row.items (Int c.in-Some.number) 9
+    (sym c.is_wanted.ensures ∙ c.if-not-is_wanted.false) read
+    (c.put_number.ensures ∙ ap (λ (z : ℤ). set old c.args.place (Int z)) (to_z-of_z w64 c.in-Some.number (number_fits c.args.column.kind c.in-Some.number read.fits)))
+
+pub returns-in-None : goal.returns-in-None
+returns-in-None c =
+    any_column_put c.args.wanted.now c.args.column c.args.place c.args.bytes.now c.args.row.now.items c.put_any_column.new.row.items _
+    (sym c.is_wanted.ensures ∙ c.if-not-is_wanted.false) c.put_any_column.ensures
