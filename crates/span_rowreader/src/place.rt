@@ -24,12 +24,16 @@ pub(crate) fn put_value(row: &mut Vec<Value>, place: usize, value: Value)
     }
 }
 
-/// The same of a number.
+/// The same of a number. Where NULL is at the place, nothing is dropped.
 pub(crate) fn put_number(row: &mut Vec<Value>, place: usize, number: i64)
     ensures { row.new.items ≡ slice_set row.old.items place (Int number) }
 {
     if place >= row.len() {
         return;
     }
-    row[place] = Value::Int(number);
+    if matches!(&row[place], Value::Null) {
+        row[place] = Value::Int(number);
+    } else {
+        put_value(row, place, Value::Int(number));
+    }
 }
