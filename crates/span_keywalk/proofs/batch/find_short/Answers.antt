@@ -51,6 +51,6 @@ returns-clause-none c = λ has empty.
     let r = c.of-2.ensures in
     let over : l.count ≡ 0 = none_counted l.numbers l.count (omega (arith, l.invariant.places, l.invariant.count)) (sym r.batch ∙ empty) in
     elim c.if-count-eq0.branch [
-      then-count-eq0 w ↦ ended cs ns _ _ c.args.stop (r.left ∙ none_left l.left (sym w.of-is ∙ (sym r.none ∙ has)))
+      | then-count-eq0 w ↦ ended cs ns _ _ c.args.stop (r.left ∙ none_left l.left (sym w.of-is ∙ (sym r.none ∙ has)))
       | else-count-eq0 w ↦ absurd (omega (arith, w.if-count-eq0.false))
     ]
