@@ -8,7 +8,7 @@ use Rattle.span_arena.specs.Cells.{cell_at}
 use Rattle.span_keytree.specs.Entries.{Entry}
 use Rattle.span_keytree.specs.Items.{entry}
 use Rattle.span_keytree.specs.Nexts.{Nexts, next_of}
-use Rattle.span_keywalk.specs.Walks.{is_stop, walked_in, short_entries, cell_entries, AreBelow}
+use Rattle.span_keywalk.specs.Walks.{is_stop, walked_in, short_entries, cell_entries, AreBelow, AreShortOf}
 use Rattle.span_keywalk.proofs.Walking.{walked_more}
 use mir.Val.{bool_byte}
 
@@ -43,25 +43,25 @@ below_last : (m : ℕ) (es : List Entry) (e : Entry) → AreBelow m es → e.cha
 below_last m [] e all last = (last, tt)
 below_last m (x ∷ es) e all last = (all.0, below_last m es e all.1 last)
 
--- what is found, and then the short ones of what is left
-pub same_found : (cs : List Cell) (ns : Nexts) (most : ℕ) (stop : Option ℕ) (xs ys : List ℕ) (n m : ℕ) (o p : Option ℕ) → xs ≡ ys → n ≡ m → o ≡ p
-    → cell_entries cs xs ++ short_entries most (walked_in cs ns n o stop) ≡ cell_entries cs ys ++ short_entries most (walked_in cs ns m p stop)
-same_found cs ns most stop xs ys n m o p e f g =
-    ap (λ (zs : List ℕ). cell_entries cs zs ++ short_entries most (walked_in cs ns n o stop)) e
-    ∙ ap (λ (k : ℕ). cell_entries cs ys ++ short_entries most (walked_in cs ns k o stop)) f
-    ∙ ap (λ (q : Option ℕ). cell_entries cs ys ++ short_entries most (walked_in cs ns m q stop)) g
+-- the same by other names
+pub same_short : (cs : List Cell) (ns : Nexts) (most : ℕ) (stop : Option ℕ) (es : List Entry) (xs ys : List ℕ) (n m : ℕ) (o p : Option ℕ) → xs ≡ ys → n ≡ m → o ≡ p
+    → AreShortOf cs ns most stop es ys m p → AreShortOf cs ns most stop es xs n o
+same_short cs ns most stop es xs ys n m o p e f g h =
+    subst (λ (zs : List ℕ). AreShortOf cs ns most stop es zs n o) (sym e)
+    (subst (λ (k : ℕ). AreShortOf cs ns most stop es ys k o) (sym f)
+    (subst (λ (q : Option ℕ). AreShortOf cs ns most stop es ys m q) (sym g) h))
+
+-- nothing is found, and then more
+pub short_after : (cs : List Cell) (ns : Nexts) (most : ℕ) (stop : Option ℕ) (es : List Entry) (xs ys : List ℕ) (n m : ℕ) (o p : Option ℕ) → xs ≡ []
+    → AreShortOf cs ns most stop es xs n o → AreShortOf cs ns most stop (walked_in cs ns n o stop) ys m p → AreShortOf cs ns most stop es ys m p
+short_after cs ns most stop es xs ys n m o p none first later = record {
+  short = later.short ∙ sym (ap (λ (zs : List ℕ). cell_entries cs zs ++ short_entries most (walked_in cs ns n o stop)) none) ∙ first.short;
+  found = later.found;
+  below = later.below;
+}
 
 -- a key on
-pub record HasFound (cs : List Cell) (ns : Nexts) (most n i count : ℕ) (stop : Option ℕ) (numbers : List ℕ) (b : Bool) (next : Option ℕ) : Type 0 where
-  pub short : cell_entries cs (take (count + bool_byte b) (set numbers count i)) ++ short_entries most (walked_in cs ns (n - 1) next stop)
-      ≡ cell_entries cs (take count numbers) ++ short_entries most (walked_in cs ns n (Some i) stop)
-  pub found : AreBelow (length cs) (cell_entries cs (take (count + bool_byte b) (set numbers count i)))
-  pub below : AreBelow (length cs) (walked_in cs ns (n - 1) next stop)
-
 module _ (cs : List Cell) (ns : Nexts) (most i : ℕ) where
-  first : Entry
-  first = entry (cell_at cs i).key i
-
   joined : (b : Bool) (xs ys : List Entry) → cond b (xs ++ entry (cell_at cs i).key i ∷ []) xs ++ ys ≡ xs ++ cond b (entry (cell_at cs i).key i ∷ ys) ys
   joined true xs ys = append_assoc xs (entry (cell_at cs i).key i ∷ []) ys
   joined false xs ys = refl
@@ -74,19 +74,19 @@ module _ (cs : List Cell) (ns : Nexts) (most i : ℕ) where
   below_gathered true m es all here = below_last m es (entry (cell_at cs i).key i) all here
   below_gathered false m es all here = all
 
-  pub found_step : (n count : ℕ) (stop : Option ℕ) (numbers : List ℕ) (b : Bool) (next : Option ℕ) → 0 < n → is_stop i stop ≡ false → count < length numbers → b ≡ nat_le (length (cell_at cs i).key) most → next ≡ next_of ns i
-      → AreBelow (length cs) (walked_in cs ns n (Some i) stop) → AreBelow (length cs) (cell_entries cs (take count numbers)) → HasFound cs ns most n i count stop numbers b next
-  found_step n count stop numbers b next some miss fits short on below found =
+  pub found_step : (n count : ℕ) (stop : Option ℕ) (numbers : List ℕ) (b : Bool) (next : Option ℕ) (es : List Entry) → 0 < n → is_stop i stop ≡ false → count < length numbers → b ≡ nat_le (length (cell_at cs i).key) most → next ≡ next_of ns i
+      → AreShortOf cs ns most stop es (take count numbers) n (Some i) → AreShortOf cs ns most stop es (take (count + bool_byte b) (set numbers count i)) (n - 1) next
+  found_step n count stop numbers b next es some miss fits short on so_far =
       let walk : walked_in cs ns n (Some i) stop ≡ entry (cell_at cs i).key i ∷ walked_in cs ns (n - 1) next stop =
       walked_more (cell_at cs) (next_of ns) n i stop some miss ∙ ap (λ (o : Option ℕ). entry (cell_at cs i).key i ∷ walked_in cs ns (n - 1) o stop) (sym on) in
-      let both : AreBelow (length cs) (entry (cell_at cs i).key i ∷ walked_in cs ns (n - 1) next stop) = subst (AreBelow (length cs)) walk below in
+      let both : AreBelow (length cs) (entry (cell_at cs i).key i ∷ walked_in cs ns (n - 1) next stop) = subst (AreBelow (length cs)) walk so_far.below in
       let rest : List Entry = short_entries most (walked_in cs ns (n - 1) next stop) in
       let here : cell_entries cs (take (count + bool_byte b) (set numbers count i)) ≡ cond b (cell_entries cs (take count numbers) ++ entry (cell_at cs i).key i ∷ []) (cell_entries cs (take count numbers)) =
       ap (cell_entries cs) (taken numbers count i b fits) ∙ gathered b (take count numbers) in
       let shorter : short_entries most (walked_in cs ns n (Some i) stop) ≡ cond b (entry (cell_at cs i).key i ∷ rest) rest =
       ap (short_entries most) walk ∙ ap (λ (a : Bool). cond a (entry (cell_at cs i).key i ∷ rest) rest) (sym short) in
       record {
-        short = ap (λ (es : List Entry). es ++ rest) here ∙ joined b (cell_entries cs (take count numbers)) rest ∙ ap (λ (es : List Entry). cell_entries cs (take count numbers) ++ es) (sym shorter);
-        found = subst (AreBelow (length cs)) (sym here) (below_gathered b (length cs) (cell_entries cs (take count numbers)) found both.0);
+        short = ap (λ (xs : List Entry). xs ++ rest) here ∙ joined b (cell_entries cs (take count numbers)) rest ∙ ap (λ (xs : List Entry). cell_entries cs (take count numbers) ++ xs) (sym shorter) ∙ so_far.short;
+        found = subst (AreBelow (length cs)) (sym here) (below_gathered b (length cs) (cell_entries cs (take count numbers)) so_far.found both.0);
         below = both.1;
       }

@@ -1,5 +1,5 @@
 -- What a walk hands out.
-use Rattle.std.specs.Prelude.{ℕ, zero, suc, ◌<◌, List, [], ◌∷◌, length, Option, Some, None, Bool, false, nat_eq, nat_le, filter, map, if◌then◌else◌}
+use Rattle.std.specs.Prelude.{◌≡◌, ℕ, zero, suc, ◌<◌, List, [], ◌∷◌, ◌++◌, length, Option, Some, None, Bool, false, nat_eq, nat_le, filter, map, if◌then◌else◌}
 use Rattle.std.specs.List.{AllByRecursion}
 use Rattle.span_arena.specs.declared.cell.Cell.{Cell}
 use Rattle.span_arena.specs.declared.token.Chain.{Chain}
@@ -32,6 +32,13 @@ cell_entries cs numbers = map (λ i. entry (cell_at cs i).key i) numbers
 -- each entry has a cell below n
 abbrev pub AreBelow : ℕ → List Entry → Type 0
 AreBelow n es = AllByRecursion (λ e. e.chain.number < n) es
+
+-- The numbers are those of short keys' cells, and at most `left` entries are left from a cell on: these numbers' entries and the short ones of
+-- what is left are the short ones of es.
+pub record AreShortOf (cs : List Cell) (ns : Nexts) (most : ℕ) (stop : Option ℕ) (es : List Entry) (numbers : List ℕ) (left : ℕ) (at : Option ℕ) : Type 0 where
+  pub short : cell_entries cs numbers ++ short_entries most (walked_in cs ns left at stop) ≡ short_entries most es
+  pub found : AreBelow (length cs) (cell_entries cs numbers)
+  pub below : AreBelow (length cs) (walked_in cs ns left at stop)
 
 -- the chains from one on, by the links, and at most n of them
 abbrev pub chains_from : (ℕ → Option ℕ) → ℕ → Option ℕ → List Chain

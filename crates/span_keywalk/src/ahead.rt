@@ -90,11 +90,10 @@ impl Ahead {
         &mut self,
         arena: &Arena,
         nexts: &NextLinks,
-        at: Option<u32>,
+        number: u32,
         stop: Option<u32>,
     ) -> usize {
         if self.seen == 0 {
-            let number = number_of(at);
             self.is_in_order = is_near(nexts, number);
             self.seen = if self.is_in_order {
                 MOST_PASSED

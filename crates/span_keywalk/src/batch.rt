@@ -1,6 +1,6 @@
 //! The next short keys of a walk, found a batch at a time.
-ghost use Rattle.std.specs.Prelude.{◌≡◌, ◌++◌, ◌<◌, ◌≤◌, [], ◌∷◌, false, length, take, IsTrue, MatchOption};
-ghost use Rattle.span_keywalk.specs.Walks.{cell_entries, short_entries, walked_in, AreBelow};
+ghost use Rattle.std.specs.Prelude.{◌≡◌, ◌<◌, ◌≤◌, [], ◌∷◌, false, length, take, IsTrue, MatchOption};
+ghost use Rattle.span_keywalk.specs.Walks.{walked_in, AreBelow, AreShortOf};
 
 use crate::walk::is_stop;
 use span_arena::arena::Arena;
@@ -72,7 +72,7 @@ pub(crate) struct Found {
     pub at: Option<u32>,
     /// How many chains the walk may yet come to.
     pub left: usize,
-    /// None was found, and there may be more.
+    /// Nothing was found, and there may be more.
     pub has_none: bool,
 }
 
@@ -82,6 +82,7 @@ impl Found {
         ensures batch { result.batch ≡ [] }
         ensures at { result.at ≡ at }
         ensures left { result.left ≡ left }
+        ensures none { result.has_none ≡ false }
     {
         Found::of([NO_CHAIN; BATCH_KEYS], 0, at, left, false)
     }
@@ -114,19 +115,16 @@ pub(crate) fn find_short(
     arena: &Arena,
     nexts: &NextLinks,
     most: usize,
-    at: Option<u32>,
+    mut number: u32,
     stop: Option<u32>,
-    left: usize,
+    mut left: usize,
     keys: usize,
 ) -> Found
-    requires below { AreBelow (length arena.now.cells) (walked_in arena.now.cells nexts.now left at stop) }
+    requires below { AreBelow (length arena.now.cells) (walked_in arena.now.cells nexts.now left (Some number) stop) }
     requires places { length nexts.now.next ≡ length arena.now.cells }
     requires keys { 0 < keys }
-    ensures short { cell_entries arena.now.cells result.batch
-        ++ short_entries most (walked_in arena.now.cells nexts.now result.left result.at stop)
-        ≡ short_entries most (walked_in arena.now.cells nexts.now left at stop) }
-    ensures found { AreBelow (length arena.now.cells) (cell_entries arena.now.cells result.batch) }
-    ensures below { AreBelow (length arena.now.cells) (walked_in arena.now.cells nexts.now result.left result.at stop) }
+    ensures short { let all = walked_in arena.now.cells nexts.now left (Some number) stop in
+        AreShortOf arena.now.cells nexts.now most stop all result.batch result.left result.at }
     ensures more { IsTrue result.has_none → result.left < left }
     ensures empty { IsTrue result.has_none → result.batch ≡ [] }
     ensures none { result.has_none ≡ false → result.batch ≡ []
@@ -135,11 +133,6 @@ pub(crate) fn find_short(
     let last = left.saturating_sub(keys);
     let mut numbers = [NO_CHAIN; BATCH_KEYS];
     let mut count: usize = 0;
-    let mut left = left;
-    let Some(first) = at else {
-        return Found::of(numbers, count, None, left, false);
-    };
-    let mut number = first;
     while left > last {
         if is_stop(number, stop) {
             return Found::of(numbers, count, Some(number), left, false);

@@ -2,9 +2,9 @@
 //!
 //! Which keys are short is found a batch at a time, by lengths and links alone; then the batch is handed out.
 ghost use Rattle.std.specs.Iterator.{YieldsFirstBy, item_count};
-ghost use Rattle.std.specs.Prelude.{◌≡◌, ◌++◌, ◌<◌, [], length, false, IsTrue};
+ghost use Rattle.std.specs.Prelude.{◌≡◌, ◌<◌, [], length, false, IsTrue};
 ghost use Rattle.span_keytree.specs.Entries.{entry_of};
-ghost use Rattle.span_keywalk.specs.Walks.{cell_entries, short_entries, walked_in, AreBelow};
+ghost use Rattle.span_keywalk.specs.Walks.{short_entries, walked_in, AreBelow, AreShortOf};
 
 use crate::ahead::Ahead;
 use crate::batch::{Found, find_short};
@@ -101,18 +101,18 @@ fn one_batch(
 ) -> Found
     requires below { AreBelow (length arena.now.cells) (walked_in arena.now.cells nexts.now left at stop) }
     requires places { length nexts.now.next ≡ length arena.now.cells }
-    ensures short { cell_entries arena.now.cells result.batch
-        ++ short_entries most (walked_in arena.now.cells nexts.now result.left result.at stop)
-        ≡ short_entries most (walked_in arena.now.cells nexts.now left at stop) }
-    ensures found { AreBelow (length arena.now.cells) (cell_entries arena.now.cells result.batch) }
-    ensures below { AreBelow (length arena.now.cells) (walked_in arena.now.cells nexts.now result.left result.at stop) }
+    ensures short { let all = walked_in arena.now.cells nexts.now left at stop in
+        AreShortOf arena.now.cells nexts.now most stop all result.batch result.left result.at }
     ensures more { IsTrue result.has_none → result.left < left }
     ensures empty { IsTrue result.has_none → result.batch ≡ [] }
     ensures none { result.has_none ≡ false → result.batch ≡ []
         → walked_in arena.now.cells nexts.now result.left result.at stop ≡ [] }
 {
-    let keys = ahead.look_before(arena, nexts, at, stop).max(1);
-    let found = find_short(arena, nexts, most, at, stop, left, keys);
+    let Some(number) = at else {
+        return Found::none(at, left);
+    };
+    let keys = ahead.look_before(arena, nexts, number, stop).max(1);
+    let found = find_short(arena, nexts, most, number, stop, left, keys);
     ahead.look_after(arena, &found.batch, left.saturating_sub(found.left));
     found
 }
@@ -130,11 +130,8 @@ fn find_more(
 )
     requires below { AreBelow (length arena.now.cells) (walked_in arena.now.cells nexts.now found.old.left found.old.at stop) }
     requires places { length nexts.now.next ≡ length arena.now.cells }
-    ensures short { cell_entries arena.now.cells found.new.batch
-        ++ short_entries most (walked_in arena.now.cells nexts.now found.new.left found.new.at stop)
-        ≡ short_entries most (walked_in arena.now.cells nexts.now found.old.left found.old.at stop) }
-    ensures found { AreBelow (length arena.now.cells) (cell_entries arena.now.cells found.new.batch) }
-    ensures below { AreBelow (length arena.now.cells) (walked_in arena.now.cells nexts.now found.new.left found.new.at stop) }
+    ensures short { let all = walked_in arena.now.cells nexts.now found.old.left found.old.at stop in
+        AreShortOf arena.now.cells nexts.now most stop all found.new.batch found.new.left found.new.at }
     ensures none { found.new.batch ≡ [] → walked_in arena.now.cells nexts.now found.new.left found.new.at stop ≡ [] }
 {
     *found = one_batch(arena, nexts, ahead, most, found.at, stop, found.left);

@@ -1,14 +1,11 @@
-use Rattle.std.proofs.Common.{◌≡◌, ◌-◌, ◌≤◌, ◌++◌, length, take, Some}
-use Rattle.span_keywalk.specs.Walks.{cell_entries, short_entries, walked_in, AreBelow}
+use Rattle.std.proofs.Common.{◌≡◌, ◌-◌, ◌≤◌, length, take, Some}
+use Rattle.span_keywalk.specs.Walks.{walked_in, AreShortOf}
 use Rattle.span_keywalk.proofs.batch.find_short.Given as goal
 
 -- what was found, and the short ones of what is left, are all short ones
 abbrev pub invariant-loop-left : goal.invariant-loop-left
 invariant-loop-left l = record {
-  short : cell_entries l.arena.cells (take l.count l.numbers) ++ short_entries l.most (walked_in l.arena.cells l.nexts l.left (Some l.number) l.stop)
-      ≡ short_entries l.most (walked_in l.arena.cells l.nexts l.fn.left l.fn.at l.stop);
-  found : AreBelow (length l.arena.cells) (cell_entries l.arena.cells (take l.count l.numbers));
-  below : AreBelow (length l.arena.cells) (walked_in l.arena.cells l.nexts l.left (Some l.number) l.stop);
+  short : AreShortOf l.arena.cells l.nexts l.most l.stop (walked_in l.arena.cells l.nexts l.fn.left (Some l.fn.number) l.stop) (take l.count l.numbers) l.left (Some l.number);
   count : l.count ≤ 32;
   places : length l.numbers ≡ 32;
   left : l.left ≤ l.fn.left;
