@@ -33,8 +33,7 @@ cell_entries cs numbers = map (λ i. entry (cell_at cs i).key i) numbers
 abbrev pub AreBelow : ℕ → List Entry → Type 0
 AreBelow n es = AllByRecursion (λ e. e.chain.number < n) es
 
--- The numbers are those of short keys' cells, and at most `left` entries are left from a cell on: these numbers' entries and the short ones of
--- what is left are the short ones of es.
+-- the entries of these cells, and then the short ones of at most `left` that are left from a cell on, are the short ones of es
 pub record AreShortOf (cs : List Cell) (ns : Nexts) (most : ℕ) (stop : Option ℕ) (es : List Entry) (numbers : List ℕ) (left : ℕ) (at : Option ℕ) : Type 0 where
   pub short : cell_entries cs numbers ++ short_entries most (walked_in cs ns left at stop) ≡ short_entries most es
   pub found : AreBelow (length cs) (cell_entries cs numbers)

@@ -85,7 +85,7 @@ impl Ahead {
         }
     }
 
-    /// Before a batch: the walk looks ahead from a chain where it has come to the end of what was looked at. How many keys the batch may pass.
+    /// Before a batch: the walk looks ahead where it has come to the end of what was looked at. How many keys the batch may pass.
     pub(crate) fn look_before(
         &mut self,
         arena: &Arena,
@@ -328,8 +328,8 @@ fn look_at_rows(arena: &Arena, batch: &Batch) -> bool {
     are_rows
 }
 
-// Looks at the keys of a batch, first at all of them and then at their newest rows: so that several wait for memory at once. Whether each may be
-// one.
+// Looks at the keys of a batch, first at all of them and then at their newest rows: so that several wait for memory at once. Whether each
+// may be one.
 fn look_at_batch(arena: &Arena, batch: &Batch, has_rows: bool) -> bool {
     look_at_keys(arena, batch) && (!has_rows || look_at_rows(arena, batch))
 }

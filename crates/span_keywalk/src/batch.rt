@@ -109,8 +109,8 @@ impl Found {
     }
 }
 
-/// Goes on from a chain over at most `keys` keys, and finds those of at most `most` bytes. Lengths and links alone are read. Each number is put,
-/// and that of a short key stays: which are short can't be guessed, and a wrong guess takes longer than both.
+/// Goes on from a chain over at most `keys` keys, and finds those of at most `most` bytes. Lengths and links alone are read. Each number is
+/// put, and that of a short key stays: which are short can't be guessed, and a wrong guess takes longer than both.
 pub(crate) fn find_short(
     arena: &Arena,
     nexts: &NextLinks,

@@ -117,8 +117,8 @@ fn one_batch(
     found
 }
 
-// Finds the next batch in which there is a key; or at the end of the walk one in which there is none. It is no part of the walk's loop: what most
-// keys take is short without it, and inlined there.
+// Finds the next batch in which there is a key, or at the end of the walk one in which there is none. It is no part of the walk's loop:
+// what most keys take is short without it, and inlined there.
 #[inline(never)]
 fn find_more(
     arena: &Arena,
@@ -128,7 +128,8 @@ fn find_more(
     stop: Option<u32>,
     found: &mut Found,
 )
-    requires below { AreBelow (length arena.now.cells) (walked_in arena.now.cells nexts.now found.old.left found.old.at stop) }
+    requires below { AreBelow (length arena.now.cells)
+        (walked_in arena.now.cells nexts.now found.old.left found.old.at stop) }
     requires places { length nexts.now.next ≡ length arena.now.cells }
     ensures short { let all = walked_in arena.now.cells nexts.now found.old.left found.old.at stop in
         AreShortOf arena.now.cells nexts.now most stop all found.new.batch found.new.left found.new.at }

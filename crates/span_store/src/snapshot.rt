@@ -88,20 +88,18 @@ impl<'a> Iterator for ShortRows<'a> {
 
     ghost remaining = { item_count (λ v. v) };
 
-    #[inline]
     fn next(&mut self) -> Option<Entry<'a>> {
         next_row(&mut self.walk, self.arena, self.s)
     }
 }
 
 /// The next row at s of the keys that are left.
-#[inline]
 fn next_row<'a>(walk: &mut ShortWalk<'a>, arena: &'a Arena, s: u64) -> Option<Entry<'a>>
     requires { All (λ e. IsChain arena.now e.chain.number) walk.old }
     ensures chains { All (λ e. IsChain arena.now e.chain.number) walk.new }
-    ensures row { MatchOption result
-        ((filter_map (seen_entry arena.now s) walk.old ≡ []) × (filter_map (seen_entry arena.now s) walk.new ≡ []))
-        (λ e. filter_map (seen_entry arena.now s) walk.old ≡ entry_row e ∷ filter_map (seen_entry arena.now s) walk.new) }
+    ensures row { let rows = filter_map (seen_entry arena.now s) in MatchOption result
+        ((rows walk.old ≡ []) × (rows walk.new ≡ []))
+        (λ e. rows walk.old ≡ entry_row e ∷ rows walk.new) }
 {
     while let Some((key, chain)) = walk.next() {
         if let Some(row) = row_in(arena, chain, s) {
