@@ -1,3 +1,4 @@
+pub mod Batches
 pub mod From
 pub mod Fronts
 pub mod Looks

@@ -1,5 +1,5 @@
 -- What a walk hands out.
-use Rattle.std.specs.Prelude.{ℕ, zero, suc, ◌<◌, List, [], ◌∷◌, length, Option, Some, None, Bool, false, not, nat_eq, nat_le, if◌then◌else◌}
+use Rattle.std.specs.Prelude.{◌≡◌, ℕ, zero, suc, ◌<◌, List, [], ◌∷◌, ◌++◌, length, Option, Some, None, Bool, false, nat_eq, nat_le, filter, map, if◌then◌else◌}
 use Rattle.std.specs.List.{AllByRecursion}
 use Rattle.span_arena.specs.declared.cell.Cell.{Cell}
 use Rattle.span_arena.specs.declared.token.Chain.{Chain}
@@ -21,24 +21,23 @@ walked f g (suc n) (Some i) stop = (if is_stop i stop then [] else entry (f i).k
 abbrev pub walked_in : List Cell → Nexts → ℕ → Option ℕ → Option ℕ → List Entry
 walked_in cs ns n at stop = walked (cell_at cs) (next_of ns) n at stop
 
--- whether there is an entry, and the key of the first has more than `most` bytes
-abbrev pub begins_long : ℕ → List Entry → Bool
-begins_long most [] = false
-begins_long most (e ∷ es) = not (nat_le (length e.key) most)
+-- those whose keys have at most `most` bytes
+abbrev pub short_entries : ℕ → List Entry → List Entry
+short_entries most es = filter (λ e. nat_le (length e.key) most) es
 
--- without the first entry, where its key has more than `most` bytes
-abbrev pub without_long_first : ℕ → List Entry → List Entry
-without_long_first most [] = []
-without_long_first most (e ∷ es) = (if nat_le (length e.key) most then e ∷ es else es)
-
--- without the entries before the first whose key has at most `most` bytes
-abbrev pub without_long : ℕ → List Entry → List Entry
-without_long most [] = []
-without_long most (e ∷ es) = (if nat_le (length e.key) most then e ∷ es else without_long most es)
+-- the entries of cells
+abbrev pub cell_entries : List Cell → List ℕ → List Entry
+cell_entries cs numbers = map (λ i. entry (cell_at cs i).key i) numbers
 
 -- each entry has a cell below n
 abbrev pub AreBelow : ℕ → List Entry → Type 0
 AreBelow n es = AllByRecursion (λ e. e.chain.number < n) es
+
+-- the entries of these cells, and then the short ones of at most `left` that are left from a cell on, are the short ones of es
+pub record AreShortOf (cs : List Cell) (ns : Nexts) (most : ℕ) (stop : Option ℕ) (es : List Entry) (numbers : List ℕ) (left : ℕ) (at : Option ℕ) : Type 0 where
+  pub short : cell_entries cs numbers ++ short_entries most (walked_in cs ns left at stop) ≡ short_entries most es
+  pub found : AreBelow (length cs) (cell_entries cs numbers)
+  pub below : AreBelow (length cs) (walked_in cs ns left at stop)
 
 -- the chains from one on, by the links, and at most n of them
 abbrev pub chains_from : (ℕ → Option ℕ) → ℕ → Option ℕ → List Chain

@@ -5,10 +5,11 @@
 //! followed together, and each key is looked at, with its newest row where the caller is to read it.
 //!
 //! Keys that were put in order lie one after another, and memory is waited for at few of them; but where a walk passes over most of them,
-//! those that it hands out lie apart. They are then found by lengths and links alone, and looked at, a few together.
+//! those of a batch lie apart. They are then looked at together, before the first of them is handed out.
 //!
 //! Nothing that a walk hands out rests on it.
 
+use crate::batch::{BATCH_KEYS, Batch};
 use span_arena::arena::Arena;
 use span_arena::token::{Chain, NO_CHAIN};
 use span_keycode::key::MOST_BYTES;
@@ -33,14 +34,11 @@ const FIRST_KEYS: usize = 64;
 /// The next key's number differs by no more where keys were put in order: memory is waited for at few of them.
 const NEAR: u32 = 8;
 
-/// How many keys are looked at together among longer ones, where keys were put in order.
-const SHORT_KEYS: usize = 32;
+/// How many keys a batch passes over at most.
+const MOST_PASSED: usize = 512;
 
-/// Among how many keys these are found at most.
-const NEAR_KEYS: usize = 512;
-
-/// How many keys a walk passes before it looks ahead again where there were fewer of them: to find these takes longer then than to wait.
-const RARE_KEYS: usize = 8192;
+/// The keys of a batch lie apart where there are no more among so many.
+const APART: usize = 2;
 
 /// More levels than a tree of 2^32 keys has above the lowest.
 const MOST_TURNS: usize = 64;
@@ -54,10 +52,10 @@ pub(crate) struct Ahead {
     pub most: usize,
     /// The newest rows are looked at too.
     pub has_rows: bool,
-    /// How many keys are looked at already.
+    /// How many keys are looked at already, or are passed before the next try.
     seen: usize,
-    /// Keys were passed over since keys were last looked at.
-    is_sparse: bool,
+    /// These were put in order: where few of them are handed out, these are looked at once they are found.
+    is_in_order: bool,
 }
 
 impl Ahead {
@@ -67,19 +65,8 @@ impl Ahead {
             most: usize::MAX,
             has_rows: false,
             seen: FIRST_KEYS,
-            is_sparse: false,
+            is_in_order: false,
         }
-    }
-
-    /// How many keys are looked at already.
-    pub(crate) fn seen(&self) -> usize {
-        self.seen
-    }
-
-    /// The walk has passed over some of these.
-    pub(crate) fn pass_seen(&mut self, keys: usize) {
-        self.seen = self.seen.saturating_sub(keys);
-        self.is_sparse = true;
     }
 
     /// The walk is at a chain; it looks ahead where it has come to the end of what was looked at.
@@ -95,7 +82,33 @@ impl Ahead {
             self.seen -= 1;
         } else {
             self.seen = look_from(arena, nexts, self, number, stop);
-            self.is_sparse = false;
+        }
+    }
+
+    /// Before a batch: the walk looks ahead where it has come to the end of what was looked at. How many keys the batch may pass.
+    pub(crate) fn look_before(
+        &mut self,
+        arena: &Arena,
+        nexts: &NextLinks,
+        number: u32,
+        stop: Option<u32>,
+    ) -> usize {
+        if self.seen == 0 {
+            self.is_in_order = is_near(nexts, number);
+            self.seen = if self.is_in_order {
+                MOST_PASSED
+            } else {
+                look(arena, nexts, self, number, number_of(stop))
+            };
+        }
+        self.seen.min(MOST_PASSED)
+    }
+
+    /// After a batch, which has passed over some keys: its keys are looked at together where they lie apart.
+    pub(crate) fn look_after(&mut self, arena: &Arena, batch: &Batch, passed: usize) {
+        self.seen = self.seen.saturating_sub(passed);
+        if self.is_in_order && batch.len() <= passed / APART {
+            self.is_in_order = look_at_batch(arena, batch, self.has_rows);
         }
     }
 }
@@ -110,13 +123,10 @@ fn look_from(
     number: u32,
     stop: Option<u32>,
 ) -> usize {
-    if !is_near(nexts, number) {
-        return look(arena, nexts, ahead, number, number_of(stop));
-    }
-    if ahead.is_sparse {
-        look_along(arena, nexts, ahead, number, number_of(stop))
-    } else {
+    if is_near(nexts, number) {
         FIRST_KEYS
+    } else {
+        look(arena, nexts, ahead, number, number_of(stop))
     }
 }
 
@@ -294,37 +304,12 @@ fn step(arena: &Arena, nexts: &NextLinks, lane: Lane, ahead: &Ahead) -> u32 {
     nexts.number_after(lane.at)
 }
 
-/// Short keys that come next.
-type ShortKeys = [u32; SHORT_KEYS];
-
-// The next few keys of at most `most` bytes from a chain on, and how many keys lie up to the last of them. Lengths and links alone are read of
-// those between them. Each is put, and a short one stays: which are short can't be guessed, and a wrong guess takes longer than both.
-fn short_keys(
-    arena: &Arena,
-    nexts: &NextLinks,
-    most: usize,
-    number: u32,
-    stop: u32,
-) -> (ShortKeys, usize) {
-    let mut numbers = [NO_CHAIN; SHORT_KEYS];
-    let mut count: usize = 0;
-    let mut at = number;
-    for passed in 0..NEAR_KEYS {
-        if at == stop || at as usize >= arena.numbers() || count >= SHORT_KEYS {
-            return (numbers, passed);
-        }
-        numbers[count] = at;
-        count += arena.has_short_key(at, most) as usize;
-        at = nexts.number_after(at);
-    }
-    (numbers, NEAR_KEYS)
-}
-
-// Looks at the keys; whether each may be one.
-fn look_at_keys(arena: &Arena, keys: &ShortKeys) -> bool {
+// Looks at the keys of a batch; whether each may be one.
+fn look_at_keys(arena: &Arena, batch: &Batch) -> bool {
+    let numbers = batch.numbers();
     let mut are_keys = true;
-    for i in 0..SHORT_KEYS {
-        let number = keys[i];
+    for i in 0..batch.len().min(BATCH_KEYS) {
+        let number = numbers[i];
         if (number as usize) < arena.numbers() {
             are_keys = are_keys && arena.key(number).len() <= MOST_BYTES;
         }
@@ -332,31 +317,21 @@ fn look_at_keys(arena: &Arena, keys: &ShortKeys) -> bool {
     are_keys
 }
 
-// Looks at the newest row of each of the keys; whether each may be one.
-fn look_at_rows(arena: &Arena, keys: &ShortKeys) -> bool {
+// Looks at the newest row of each key of a batch; whether each may be one.
+fn look_at_rows(arena: &Arena, batch: &Batch) -> bool {
+    let numbers = batch.numbers();
     let mut are_rows = true;
-    for i in 0..SHORT_KEYS {
-        let is_row = !is_no_row(arena, keys[i]);
+    for i in 0..batch.len().min(BATCH_KEYS) {
+        let is_row = !is_no_row(arena, numbers[i]);
         are_rows = are_rows && is_row;
     }
     are_rows
 }
 
-// Looks at the next few short keys, first at all of them and then at their rows: so that several wait for memory at once. How many keys the walk
-// passes before it looks ahead again.
-fn look_along(arena: &Arena, nexts: &NextLinks, ahead: &Ahead, number: u32, stop: u32) -> usize {
-    let (keys, passed) = short_keys(arena, nexts, ahead.most, number, stop);
-    if !look_at_keys(arena, &keys) {
-        return FIRST_KEYS;
-    }
-    if ahead.has_rows && !look_at_rows(arena, &keys) {
-        return FIRST_KEYS;
-    }
-    if passed < NEAR_KEYS {
-        passed
-    } else {
-        RARE_KEYS
-    }
+// Looks at the keys of a batch, first at all of them and then at their newest rows: so that several wait for memory at once. Whether each
+// may be one.
+fn look_at_batch(arena: &Arena, batch: &Batch, has_rows: bool) -> bool {
+    look_at_keys(arena, batch) && (!has_rows || look_at_rows(arena, batch))
 }
 
 // How many lanes have gone on.

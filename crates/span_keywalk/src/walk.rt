@@ -1,13 +1,14 @@
 //! A walk over keys in order.
 ghost use Rattle.std.specs.Iterator.{YieldsFirstBy, item_count};
-ghost use Rattle.std.specs.Prelude.{◌≡◌, ℕ, ◌*◌, ◌<◌, ◌≤◌, ◌^◌, [], false, length, IsTrue};
+ghost use Rattle.std.specs.Prelude.{◌≡◌, ℕ, ◌*◌, ◌<◌, ◌^◌, [], length};
 ghost use Rattle.span_keytree.specs.Entries.{entries_from, entries_under, entry_of};
 ghost use Rattle.span_keytree.specs.Items.{entries_between};
 ghost use Rattle.span_keytree.specs.Roots.{entries_at, AreTwoSearches, IsIndex, IsSearchCost};
-ghost use Rattle.span_keywalk.specs.Walks.{begins_long, is_stop, walked_in, without_long, without_long_first, AreBelow};
+ghost use Rattle.span_keywalk.specs.Walks.{is_stop, short_entries};
 
 use crate::ahead::Ahead;
 use crate::find::{first_from, first_past};
+use crate::short::{ShortWalk, short_from};
 use span_arena::arena::Arena;
 use span_arena::steps::Steps;
 use span_arena::token::Chain;
@@ -75,91 +76,24 @@ impl<'a> Walk<'a> {
         self.ahead.has_rows = true;
     }
 
-    /// Passes over the keys before the first that has at most `most` bytes. Lengths and links alone are read of them.
-    pub fn skip_long(&mut self, most: usize)
-        ensures { self.new ≡ without_long most self.old }
+    /// The keys that have at most `most` bytes. Lengths and links alone are read of the others.
+    pub fn with_short_keys(self, most: usize) -> ShortWalk<'a>
+        ensures { result ≡ short_entries most self.entry }
     {
-        self.ahead.most = most;
-        if self.skip_first_long(most) {
-            while self.skip_seen(most) {}
-        }
-    }
-
-    // Passes over keys that have more than `most` bytes, as far as was looked ahead and then one more; whether there may be others.
-    fn skip_seen(&mut self, most: usize) -> bool
-        ensures rest { without_long most self.new ≡ without_long most self.old }
-        ensures more { IsTrue result → length self.new < length self.old }
-        ensures none { result ≡ false → begins_long most self.new ≡ false }
-    {
-        let last = self.left.saturating_sub(self.ahead.seen());
-        let (at, left) = past_long(
-            self.arena, self.nexts, self.at, self.stop, most, self.left, last,
-        );
-        self.ahead.pass_seen(self.left - left);
-        self.at = at;
-        self.left = left;
-        left <= last && self.skip_first_long(most)
-    }
-
-    // Passes over the first key, if it has more than `most` bytes; whether it has.
-    fn skip_first_long(&mut self, most: usize) -> bool
-        ensures long { result ≡ begins_long most self.old }
-        ensures rest { self.new ≡ without_long_first most self.old }
-    {
-        if self.left == 0 {
-            return false;
-        }
-        let Some(at) = self.at else {
-            return false;
-        };
-        if is_stop(at, self.stop) || self.arena.has_short_key(at, most) {
-            return false;
-        }
-        self.ahead.pass(self.arena, self.nexts, at, self.stop);
-        self.left -= 1;
-        self.at = self.nexts.after(at);
-        true
+        let Walk {
+            arena,
+            nexts,
+            at,
+            stop,
+            left,
+            mut ahead,
+        } = self;
+        ahead.most = most;
+        short_from(arena, nexts, ahead, most, at, stop, left)
     }
 }
 
-// From a chain on past the keys that have more than `most` bytes, while more than `last` chains are left: the chain come to, and how many are
-// left. What the loop reads again and again lies in variables of its own: a walk that is lent is written to memory at each key.
-fn past_long(
-    arena: &Arena,
-    nexts: &NextLinks,
-    at: Option<u32>,
-    stop: Option<u32>,
-    most: usize,
-    left: usize,
-    last: usize,
-) -> (Option<u32>, usize)
-    requires below { AreBelow (length arena.now.cells) (walked_in arena.now.cells nexts.now left at stop) }
-    requires places { length nexts.now.next ≡ length arena.now.cells }
-    requires last { last ≤ left }
-    ensures rest { without_long most (walked_in arena.now.cells nexts.now result.1 result.0 stop)
-        ≡ without_long most (walked_in arena.now.cells nexts.now left at stop) }
-    ensures below { AreBelow (length arena.now.cells) (walked_in arena.now.cells nexts.now result.1 result.0 stop) }
-    ensures fewer { length (walked_in arena.now.cells nexts.now result.1 result.0 stop)
-        ≤ length (walked_in arena.now.cells nexts.now left at stop) }
-    ensures passed { result.1 ≤ left }
-    ensures none { last < result.1 → begins_long most (walked_in arena.now.cells nexts.now result.1 result.0 stop) ≡ false }
-{
-    let mut at = at;
-    let mut left = left;
-    while left > last {
-        let Some(number) = at else {
-            return (at, left);
-        };
-        if is_stop(number, stop) || arena.has_short_key(number, most) {
-            return (at, left);
-        }
-        at = nexts.after(number);
-        left -= 1;
-    }
-    (at, left)
-}
-
-fn is_stop(at: u32, stop: Option<u32>) -> bool
+pub(crate) fn is_stop(at: u32, stop: Option<u32>) -> bool
     ensures { result ≡ is_stop at stop }
 {
     match stop {

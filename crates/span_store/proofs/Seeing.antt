@@ -6,14 +6,14 @@ use Rattle.span_keycode.specs.declared.range.KeyRange.{KeyRange}
 use Rattle.span_arena.specs.declared.version.Version as arena
 use Rattle.span_arena.specs.Content.{Content, newest_upto, IsChain}
 use Rattle.span_keytree.specs.Entries.{entries_in, entries_under, Entry}
-use Rattle.span_keywalk.specs.Walks.{without_long}
+use Rattle.span_keywalk.specs.Walks.{short_entries}
 use Rattle.span_maderows.specs.Made.{begins_with}
 use Rattle.span_maderows.proofs.Lists.{filter-map}
 use Rattle.span_store.specs.declared.chain.Version.{Version}
 use Rattle.span_store.specs.declared.node.PreparedNode.{PreparedNode}
 use Rattle.span_store.specs.KeyVersions.{KeyVersions}
 use Rattle.span_store.specs.Versions.{newest_at, row_at}
-use Rattle.span_store.specs.Reads.{KeyRow, is_within, seen_at, snapshot, versions_alone, versions_alone_at, seen_entry, has_short_key, short_rows}
+use Rattle.span_store.specs.Reads.{KeyRow, is_within, seen_at, snapshot, versions_alone, versions_alone_at, seen_entry, has_short_key}
 use Rattle.span_store.specs.Stored.{version_of, chain_versions, kept_entry, all_kept}
 
 pub row_found : (vs : List arena.Version) (s : ℕ) (v : arena.Version) → newest_upto s vs ≡ Some v → row_at (map version_of vs) s ≡ v.image
@@ -85,53 +85,32 @@ long_row : (most : ℕ) (key : List ℕ) (o : Option (List ℕ)) (rest : List Ke
 long_row most key None rest long = refl
 long_row most key (Some row) rest long = ap (λ (b : Bool). cond b (the_row key row ∷ filter (has_short_key most) rest) (filter (has_short_key most) rest)) long
 
--- a key that is too long has no row among them
-pub long_skipped : (a : Content) (s most : ℕ) (es fs : List Entry) (e : Entry) → es ≡ e ∷ fs → nat_le (length e.key) most ≡ false → short_rows a s most es ≡ short_rows a s most fs
-long_skipped a s most es fs e is long = ap (short_rows a s most) is ∙ long_row most e.key (row_at (chain_versions a e.chain.number) s) (filter_map (seen_entry a s) fs) long
+short_row : (most : ℕ) (key : List ℕ) (o : Option (List ℕ)) (rest rows : List KeyRow) → nat_le (length key) most ≡ true → rest ≡ filter (has_short_key most) rows
+    → cons_option (option_map (the_row key) o) rest ≡ first_short most rows (option_map (the_row key) o)
+short_row most key None rest rows short is = is
+short_row most key (Some row) rest rows short is =
+    ap (λ (l : List KeyRow). the_row key row ∷ l) is ∙ sym (ap (λ (b : Bool). cond b (the_row key row ∷ filter (has_short_key most) rows) (filter (has_short_key most) rows)) short)
 
--- nor has one that has no row at s
-pub unseen_skipped : (a : Content) (s most : ℕ) (es fs : List Entry) (e : Entry) → es ≡ e ∷ fs → row_at (chain_versions a e.chain.number) s ≡ None → short_rows a s most es ≡ short_rows a s most fs
-unseen_skipped a s most es fs e is none =
-    ap (short_rows a s most) is ∙ ap (λ (o : Option (List ℕ)). first_short most (filter_map (seen_entry a s) fs) (option_map (the_row e.key) o)) none
+-- the rows of the short keys are the rows with short keys
+pub short_seen : (a : Content) (s most : ℕ) (es : List Entry) → filter_map (seen_entry a s) (short_entries most es) ≡ filter (has_short_key most) (filter_map (seen_entry a s) es)
+short_seen a s most [] = refl
+short_seen a s most (e ∷ es) = cases (nat_le (length e.key) most) refl (short_seen a s most es)
+  where
+    cases : (b : Bool) → nat_le (length e.key) most ≡ b → filter_map (seen_entry a s) (short_entries most es) ≡ filter (has_short_key most) (filter_map (seen_entry a s) es)
+        → filter_map (seen_entry a s) (cond b (e ∷ short_entries most es) (short_entries most es)) ≡ filter (has_short_key most) (filter_map (seen_entry a s) (e ∷ es))
+    cases true is rest = short_row most e.key (row_at (chain_versions a e.chain.number) s) (filter_map (seen_entry a s) (short_entries most es)) (filter_map (seen_entry a s) es) is rest
+    cases false is rest = rest ∙ sym (long_row most e.key (row_at (chain_versions a e.chain.number) s) (filter_map (seen_entry a s) es) is)
+
+-- a key that has no row at s has none among the rows
+pub unseen_skipped : (a : Content) (s : ℕ) (es fs : List Entry) (e : Entry) → es ≡ e ∷ fs → row_at (chain_versions a e.chain.number) s ≡ None → filter_map (seen_entry a s) es ≡ filter_map (seen_entry a s) fs
+unseen_skipped a s es fs e is none =
+    ap (filter_map (seen_entry a s)) is ∙ ap (λ (o : Option (List ℕ)). cons_option (option_map (the_row e.key) o) (filter_map (seen_entry a s) fs)) none
 
 -- any other has its row first
-pub short_first : (a : Content) (s most : ℕ) (es fs : List Entry) (e : Entry) (row : List ℕ) → es ≡ e ∷ fs → nat_le (length e.key) most ≡ true → row_at (chain_versions a e.chain.number) s ≡ Some row → short_rows a s most es ≡ the_row e.key row ∷ short_rows a s most fs
-short_first a s most es fs e row is short some =
-    ap (short_rows a s most) is ∙ ap (λ (o : Option (List ℕ)). first_short most (filter_map (seen_entry a s) fs) (option_map (the_row e.key) o)) some
-    ∙ ap (λ (b : Bool). cond b (the_row e.key row ∷ short_rows a s most fs) (short_rows a s most fs)) short
+pub seen_first : (a : Content) (s : ℕ) (es fs : List Entry) (e : Entry) (row : List ℕ) → es ≡ e ∷ fs → row_at (chain_versions a e.chain.number) s ≡ Some row → filter_map (seen_entry a s) es ≡ the_row e.key row ∷ filter_map (seen_entry a s) fs
+seen_first a s es fs e row is some =
+    ap (filter_map (seen_entry a s)) is ∙ ap (λ (o : Option (List ℕ)). cons_option (option_map (the_row e.key) o) (filter_map (seen_entry a s) fs)) some
 
--- ---- long keys passed over
-
-pub short_left : (a : Content) (s most : ℕ) (es : List Entry) → short_rows a s most (without_long most es) ≡ short_rows a s most es
-short_left a s most [] = refl
-short_left a s most (e ∷ es) = cases (nat_le (length e.key) most) (short_left a s most es) refl
-  where
-    cases : (b : Bool) → short_rows a s most (without_long most es) ≡ short_rows a s most es → nat_le (length e.key) most ≡ b → short_rows a s most (cond b (e ∷ es) (without_long most es)) ≡ short_rows a s most (e ∷ es)
-    cases true rest is = refl
-    cases false rest is = rest ∙ sym (long_skipped a s most (e ∷ es) es e refl is)
-
-pub chains_short : (a : Content) (most : ℕ) (es : List Entry) → All (λ (x : Entry). IsChain a x.chain.number) es → All (λ (x : Entry). IsChain a x.chain.number) (without_long most es)
-chains_short a most [] all = all
-chains_short a most (e ∷ es) all = cases (nat_le (length e.key) most) (chains_short a most es (chains_left a (e ∷ es) es e refl all))
-  where
-    cases : (b : Bool) → All (λ (x : Entry). IsChain a x.chain.number) (without_long most es) → All (λ (x : Entry). IsChain a x.chain.number) (cond b (e ∷ es) (without_long most es))
-    cases true rest = all
-    cases false rest = rest
-
--- the first key that is left is not too long
-pub first_is_short : (most : ℕ) (es fs : List Entry) (e : Entry) → without_long most es ≡ e ∷ fs → nat_le (length e.key) most ≡ true
-first_is_short most [] fs e is = absurd (let f : [] ≡ e ∷ fs = is in cc)
-first_is_short most (x ∷ xs) fs e is = cases (nat_le (length x.key) most) (first_is_short most xs fs e) refl is
-  where
-    cases : (b : Bool) → (without_long most xs ≡ e ∷ fs → nat_le (length e.key) most ≡ true) → nat_le (length x.key) most ≡ b → cond b (x ∷ xs) (without_long most xs) ≡ e ∷ fs → nat_le (length e.key) most ≡ true
-    cases true rest short f = let same : x ≡ e = cc in ap (λ (y : Entry). nat_le (length y.key) most) (sym same) ∙ short
-    cases false rest long f = rest f
-
--- no more keys are left than there were
-pub short_shrinks : (most : ℕ) (es fs : List Entry) (e : Entry) → without_long most es ≡ e ∷ fs → length fs < length es
-short_shrinks most [] fs e is = absurd (let f : [] ≡ e ∷ fs = is in cc)
-short_shrinks most (x ∷ xs) fs e is = cases (nat_le (length x.key) most) (short_shrinks most xs fs e) is
-  where
-    cases : (b : Bool) → (without_long most xs ≡ e ∷ fs → length fs < length xs) → cond b (x ∷ xs) (without_long most xs) ≡ e ∷ fs → length fs < suc (length xs)
-    cases true rest f = let same : xs ≡ fs = cc in subst (λ (l : List Entry). length l < suc (length xs)) same (omega arith)
-    cases false rest f = omega (arith, rest f)
+-- one key fewer is left
+pub fewer_left : (es fs : List Entry) (e : Entry) → es ≡ e ∷ fs → length fs < length es
+fewer_left es fs e is = subst (λ (l : List Entry). length fs < length l) (sym is) (omega arith)

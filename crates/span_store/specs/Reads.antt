@@ -44,7 +44,3 @@ seen_entry a s e = seen_at s (versions_alone_at a e)
 -- the row has a key of at most `most` bytes
 abbrev pub has_short_key : ℕ → KeyRow → Bool
 has_short_key most r = nat_le (length r.key) most
-
--- the rows that are seen at s of keys of at most `most` bytes
-abbrev pub short_rows : Content → ℕ → ℕ → List IndexEntry → List KeyRow
-short_rows a s most es = filter (has_short_key most) (filter_map (seen_entry a s) es)

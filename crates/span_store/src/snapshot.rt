@@ -2,17 +2,15 @@
 ghost use Rattle.std.specs.Prelude.{◌≡◌, [], ◌∷◌, All, MatchOption, filter};
 ghost use Rattle.std.specs.Iterator.{YieldsFirstBy, item_count};
 ghost use Rattle.span_arena.specs.Content.{IsChain};
-ghost use Rattle.span_keytree.specs.Entries.{entry_of};
-ghost use Rattle.span_keywalk.specs.Walks.{without_long};
-ghost use Rattle.span_store.specs.Reads.{entry_row, has_short_key, short_rows};
-ghost use Rattle.span_store.specs.Reads.{snapshot};
+ghost use Rattle.std.specs.List.{filter_map};
+ghost use Rattle.span_store.specs.Reads.{entry_row, has_short_key, seen_entry, snapshot};
 
 use super::place::row_in;
 use super::search::walk;
 use super::store::Store;
 use span_arena::arena::Arena;
-use span_arena::token::Chain;
 use span_keycode::range::KeyRange;
+use span_keywalk::short::ShortWalk;
 use span_keywalk::walk::Walk;
 use std::marker::Model;
 
@@ -54,10 +52,9 @@ impl<'a> Snapshot<'a> {
     {
         let Snapshot { walk, arena, s } = self;
         ShortRows {
-            walk,
+            walk: walk.with_short_keys(most),
             arena,
             s,
-            most,
         }
     }
 }
@@ -65,21 +62,21 @@ impl<'a> Snapshot<'a> {
 /// The rows of a snapshot whose keys are short. Contracts see those that are left.
 #[derive(Drop)]
 pub struct ShortRows<'a> {
-    walk: Walk<'a>,
+    walk: ShortWalk<'a>,
     arena: &'a Arena,
     s: u64,
-    most: usize,
 }
 
 impl<'a> Model for ShortRows<'a> {
     ghost use Rattle.std.specs.Prelude.{List, All};
+    ghost use Rattle.std.specs.List.{filter_map};
     ghost use Rattle.span_arena.specs.Content.{IsChain};
-    ghost use Rattle.span_store.specs.Reads.{short_rows};
+    ghost use Rattle.span_store.specs.Reads.{seen_entry};
     ghost use Rattle.span_store.specs.Reads.{KeyRow};
 
     ghost Value = { List KeyRow };
 
-    ghost view = { λ v. short_rows v.arena.now v.s v.most v.walk };
+    ghost view = { λ v. filter_map (seen_entry v.arena.now v.s) v.walk };
 
     ghost invariant = { λ v. All (λ e. IsChain v.arena.now e.chain.number) v.walk };
 }
@@ -92,19 +89,19 @@ impl<'a> Iterator for ShortRows<'a> {
     ghost remaining = { item_count (λ v. v) };
 
     fn next(&mut self) -> Option<Entry<'a>> {
-        next_row(&mut self.walk, self.arena, self.s, self.most)
+        next_row(&mut self.walk, self.arena, self.s)
     }
 }
 
-/// The next row at s of the keys that are left and have at most `most` bytes.
-fn next_row<'a>(walk: &mut Walk<'a>, arena: &'a Arena, s: u64, most: usize) -> Option<Entry<'a>>
+/// The next row at s of the keys that are left.
+fn next_row<'a>(walk: &mut ShortWalk<'a>, arena: &'a Arena, s: u64) -> Option<Entry<'a>>
     requires { All (λ e. IsChain arena.now e.chain.number) walk.old }
     ensures chains { All (λ e. IsChain arena.now e.chain.number) walk.new }
-    ensures row { MatchOption result
-        ((short_rows arena.now s most walk.old ≡ []) × (short_rows arena.now s most walk.new ≡ []))
-        (λ e. short_rows arena.now s most walk.old ≡ entry_row e ∷ short_rows arena.now s most walk.new) }
+    ensures row { let rows = filter_map (seen_entry arena.now s) in MatchOption result
+        ((rows walk.old ≡ []) × (rows walk.new ≡ []))
+        (λ e. rows walk.old ≡ entry_row e ∷ rows walk.new) }
 {
-    while let Some((key, chain)) = next_short(walk, most) {
+    while let Some((key, chain)) = walk.next() {
         if let Some(row) = row_in(arena, chain, s) {
             return Some(Entry {
                 key,
@@ -113,16 +110,6 @@ fn next_row<'a>(walk: &mut Walk<'a>, arena: &'a Arena, s: u64, most: usize) -> O
         }
     }
     None
-}
-
-/// The first key that is left and has at most `most` bytes. The longer ones before it are passed over.
-fn next_short<'a>(walk: &mut Walk<'a>, most: usize) -> Option<(&'a [u8], Chain)>
-    ensures { MatchOption result
-        ((without_long most walk.old ≡ []) × (walk.new ≡ []))
-        (λ e. without_long most walk.old ≡ entry_of e ∷ walk.new) }
-{
-    walk.skip_long(most);
-    walk.next()
 }
 
 /// The rows of a store in a range at s.

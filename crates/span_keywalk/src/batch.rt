@@ -1,0 +1,152 @@
+//! The next short keys of a walk, found a batch at a time.
+ghost use Rattle.std.specs.Prelude.{◌≡◌, ◌<◌, ◌≤◌, [], ◌∷◌, false, length, take, IsTrue, MatchOption};
+ghost use Rattle.span_keywalk.specs.Walks.{walked_in, AreBelow, AreShortOf};
+
+use crate::walk::is_stop;
+use span_arena::arena::Arena;
+use span_arena::token::NO_CHAIN;
+use span_keytree::next::NextLinks;
+use std::marker::Model;
+
+/// How many keys a batch has at most.
+pub(crate) const BATCH_KEYS: usize = 32;
+
+/// Numbers of chains whose keys are short. Contracts see those that were not handed out.
+#[derive(Debug, Drop)]
+pub(crate) struct Batch {
+    numbers: [u32; BATCH_KEYS],
+    begin: usize,
+    end: usize,
+}
+
+impl Model for Batch {
+    ghost use Rattle.std.specs.Prelude.{ℕ, ◌≤◌, List, slice_range};
+
+    ghost Value = { List ℕ };
+
+    ghost view = { λ b. slice_range b.numbers b.begin b.end };
+
+    ghost invariant = { λ b. (b.begin ≤ b.end) × (b.end ≤ 32) };
+}
+
+impl Batch {
+    /// The first `count` of these numbers.
+    fn of(numbers: [u32; BATCH_KEYS], count: usize) -> Batch
+        requires { count ≤ 32 }
+        ensures { result ≡ take count numbers }
+    {
+        Batch {
+            numbers,
+            begin: 0,
+            end: count,
+        }
+    }
+
+    /// The next number.
+    pub(crate) fn next(&mut self) -> Option<u32>
+        ensures { MatchOption result ((self.old ≡ []) × (self.new ≡ [])) (λ number. self.old ≡ number ∷ self.new) }
+    {
+        if self.begin == self.end {
+            return None;
+        }
+        let number = self.numbers[self.begin];
+        self.begin += 1;
+        Some(number)
+    }
+
+    /// The numbers, of which the first `len` are those of chains: all that the batch had.
+    pub(crate) fn numbers(&self) -> &[u32; BATCH_KEYS] {
+        &self.numbers
+    }
+
+    /// How many numbers the batch had.
+    pub(crate) fn len(&self) -> usize {
+        self.end
+    }
+}
+
+/// What was found from a chain on, and where the walk is then.
+#[derive(Debug, Drop)]
+pub(crate) struct Found {
+    pub batch: Batch,
+    pub at: Option<u32>,
+    /// How many chains the walk may yet come to.
+    pub left: usize,
+    /// Nothing was found, and there may be more.
+    pub has_none: bool,
+}
+
+impl Found {
+    /// Nothing yet.
+    pub(crate) fn none(at: Option<u32>, left: usize) -> Found
+        ensures batch { result.batch ≡ [] }
+        ensures at { result.at ≡ at }
+        ensures left { result.left ≡ left }
+        ensures none { result.has_none ≡ false }
+    {
+        Found::of([NO_CHAIN; BATCH_KEYS], 0, at, left, false)
+    }
+
+    fn of(
+        numbers: [u32; BATCH_KEYS],
+        count: usize,
+        at: Option<u32>,
+        left: usize,
+        has_none: bool,
+    ) -> Found
+        requires { count ≤ 32 }
+        ensures batch { result.batch ≡ take count numbers }
+        ensures at { result.at ≡ at }
+        ensures left { result.left ≡ left }
+        ensures none { result.has_none ≡ has_none }
+    {
+        Found {
+            batch: Batch::of(numbers, count),
+            at,
+            left,
+            has_none,
+        }
+    }
+}
+
+/// Goes on from a chain over at most `keys` keys, and finds those of at most `most` bytes. Lengths and links alone are read. Each number is
+/// put, and that of a short key stays: which are short can't be guessed, and a wrong guess takes longer than both.
+pub(crate) fn find_short(
+    arena: &Arena,
+    nexts: &NextLinks,
+    most: usize,
+    mut number: u32,
+    stop: Option<u32>,
+    mut left: usize,
+    keys: usize,
+) -> Found
+    requires below { AreBelow (length arena.now.cells) (walked_in arena.now.cells nexts.now left (Some number) stop) }
+    requires places { length nexts.now.next ≡ length arena.now.cells }
+    requires keys { 0 < keys }
+    ensures short { let all = walked_in arena.now.cells nexts.now left (Some number) stop in
+        AreShortOf arena.now.cells nexts.now most stop all result.batch result.left result.at }
+    ensures more { IsTrue result.has_none → result.left < left }
+    ensures empty { IsTrue result.has_none → result.batch ≡ [] }
+    ensures none { result.has_none ≡ false → result.batch ≡ []
+        → walked_in arena.now.cells nexts.now result.left result.at stop ≡ [] }
+{
+    let last = left.saturating_sub(keys);
+    let mut numbers = [NO_CHAIN; BATCH_KEYS];
+    let mut count: usize = 0;
+    while left > last {
+        if is_stop(number, stop) {
+            return Found::of(numbers, count, Some(number), left, false);
+        }
+        if count >= BATCH_KEYS {
+            return Found::of(numbers, count, Some(number), left, false);
+        }
+        numbers[count] = number;
+        count += arena.has_short_key(number, most) as usize;
+        left -= 1;
+        let Some(next) = nexts.after(number) else {
+            return Found::of(numbers, count, None, left, false);
+        };
+        number = next;
+    }
+    Found::of(numbers, count, Some(number), left, count == 0 && left > 0)
+}

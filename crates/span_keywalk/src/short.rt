@@ -1,0 +1,142 @@
+//! A walk over the short keys alone, in order.
+//!
+//! Which keys are short is found a batch at a time, by lengths and links alone; then the batch is handed out.
+ghost use Rattle.std.specs.Iterator.{YieldsFirstBy, item_count};
+ghost use Rattle.std.specs.Prelude.{◌≡◌, ◌<◌, [], length, false, IsTrue};
+ghost use Rattle.span_keytree.specs.Entries.{entry_of};
+ghost use Rattle.span_keywalk.specs.Walks.{short_entries, walked_in, AreBelow, AreShortOf};
+
+use crate::ahead::Ahead;
+use crate::batch::{Found, find_short};
+use span_arena::arena::Arena;
+use span_arena::token::Chain;
+use span_keytree::next::NextLinks;
+use std::marker::Model;
+
+/// Keys of at most `most` bytes with their chains, the keys lent. Contracts see the entries that are left.
+#[derive(Drop)]
+pub struct ShortWalk<'a> {
+    arena: &'a Arena,
+    nexts: &'a NextLinks,
+    stop: Option<u32>,
+    most: usize,
+    ahead: Ahead,
+    found: Found,
+}
+
+impl<'a> Model for ShortWalk<'a> {
+    ghost use Rattle.std.specs.Prelude.{◌≡◌, ◌++◌, List, length};
+    ghost use Rattle.span_keytree.specs.Entries.{Entry};
+    ghost use Rattle.span_keywalk.specs.Walks.{cell_entries, short_entries, walked_in, AreBelow};
+
+    ghost Value = { List Entry };
+
+    ghost view = { λ w. cell_entries w.arena.now.cells w.found.batch
+        ++ short_entries w.most (walked_in w.arena.now.cells w.nexts.now w.found.left w.found.at w.stop) };
+
+    ghost invariant = { λ w.
+        AreBelow (length w.arena.now.cells) (cell_entries w.arena.now.cells w.found.batch)
+        × AreBelow (length w.arena.now.cells) (walked_in w.arena.now.cells w.nexts.now w.found.left w.found.at w.stop)
+        × (length w.nexts.now.next ≡ length w.arena.now.cells) };
+}
+
+impl<'a> Iterator for ShortWalk<'a> {
+    type Item = (&'a [u8], Chain);
+
+    ghost next_gives = { YieldsFirstBy entry_of (λ w. w) };
+
+    ghost remaining = { item_count (λ w. w) };
+
+    #[inline]
+    fn next(&mut self) -> Option<(&'a [u8], Chain)> {
+        if let Some(number) = self.found.batch.next() {
+            return Some((self.arena.key(number), Chain { number }));
+        }
+        find_more(
+            self.arena,
+            self.nexts,
+            &mut self.ahead,
+            self.most,
+            self.stop,
+            &mut self.found,
+        );
+        let number = self.found.batch.next()?;
+        Some((self.arena.key(number), Chain { number }))
+    }
+}
+
+/// The keys of at most `most` bytes of those that a walk is to come to.
+pub(crate) fn short_from<'a>(
+    arena: &'a Arena,
+    nexts: &'a NextLinks,
+    ahead: Ahead,
+    most: usize,
+    at: Option<u32>,
+    stop: Option<u32>,
+    left: usize,
+) -> ShortWalk<'a>
+    requires below { AreBelow (length arena.now.cells) (walked_in arena.now.cells nexts.now left at stop) }
+    requires places { length nexts.now.next ≡ length arena.now.cells }
+    ensures { result ≡ short_entries most (walked_in arena.now.cells nexts.now left at stop) }
+{
+    ShortWalk {
+        arena,
+        nexts,
+        stop,
+        most,
+        ahead,
+        found: Found::none(at, left),
+    }
+}
+
+// A batch more, with the look ahead that is due.
+fn one_batch(
+    arena: &Arena,
+    nexts: &NextLinks,
+    ahead: &mut Ahead,
+    most: usize,
+    at: Option<u32>,
+    stop: Option<u32>,
+    left: usize,
+) -> Found
+    requires below { AreBelow (length arena.now.cells) (walked_in arena.now.cells nexts.now left at stop) }
+    requires places { length nexts.now.next ≡ length arena.now.cells }
+    ensures short { let all = walked_in arena.now.cells nexts.now left at stop in
+        AreShortOf arena.now.cells nexts.now most stop all result.batch result.left result.at }
+    ensures more { IsTrue result.has_none → result.left < left }
+    ensures empty { IsTrue result.has_none → result.batch ≡ [] }
+    ensures none { result.has_none ≡ false → result.batch ≡ []
+        → walked_in arena.now.cells nexts.now result.left result.at stop ≡ [] }
+{
+    let Some(number) = at else {
+        return Found::none(at, left);
+    };
+    let keys = ahead.look_before(arena, nexts, number, stop).max(1);
+    let found = find_short(arena, nexts, most, number, stop, left, keys);
+    ahead.look_after(arena, &found.batch, left.saturating_sub(found.left));
+    found
+}
+
+// Finds the next batch in which there is a key, or at the end of the walk one in which there is none. It is no part of the walk's loop:
+// what most keys take is short without it, and inlined there.
+#[inline(never)]
+fn find_more(
+    arena: &Arena,
+    nexts: &NextLinks,
+    ahead: &mut Ahead,
+    most: usize,
+    stop: Option<u32>,
+    found: &mut Found,
+)
+    requires below { AreBelow (length arena.now.cells)
+        (walked_in arena.now.cells nexts.now found.old.left found.old.at stop) }
+    requires places { length nexts.now.next ≡ length arena.now.cells }
+    ensures short { let all = walked_in arena.now.cells nexts.now found.old.left found.old.at stop in
+        AreShortOf arena.now.cells nexts.now most stop all found.new.batch found.new.left found.new.at }
+    ensures none { found.new.batch ≡ [] → walked_in arena.now.cells nexts.now found.new.left found.new.at stop ≡ [] }
+{
+    *found = one_batch(arena, nexts, ahead, most, found.at, stop, found.left);
+    while found.has_none {
+        *found = one_batch(arena, nexts, ahead, most, found.at, stop, found.left);
+    }
+}
