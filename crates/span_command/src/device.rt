@@ -2,7 +2,7 @@
 ghost use Rattle.std.specs.Prelude.{◌≡◌, ◌≤◌, ◌<◌, ℕ, List, Option, None, length, take, IfOk, IfErr, IfSome, IfNone, OnOk};
 ghost use Rattle.std.specs.Io.KnownBytes.{Appends, Consumes, IsAtEnd, Keeps, ReadConsumes, WriteAppends};
 ghost use Rattle.span_command.specs.Limits.{longest_input};
-ghost use Rattle.span_command.specs.declared.device.TheConstants.{MOST_BYTES};
+ghost use Rattle.span_command.specs.declared.device.TheConstants.{LONGEST_INPUT};
 ghost use Rattle.span_command.specs.Device.{risen, failures_of, remaining_input};
 
 use span_value::refusal::Refusal;
@@ -10,11 +10,11 @@ use std::io;
 use std::io::{ErrorKind, Read, Write};
 
 /// An input gives at most this many bytes; a read beyond them is a failure.
-pub const MOST_BYTES: u64 = 1 << 63;
+pub const LONGEST_INPUT: u64 = 1 << 63;
 
 /// The limit is the number that the definitions name.
 pub fn limit_is_stated()
-    ensures { MOST_BYTES ≡ longest_input }
+    ensures { LONGEST_INPUT ≡ longest_input }
 {}
 
 /// What a script is read from.
@@ -89,7 +89,7 @@ impl<R: Read> Input for Counted<R> {
     fn read(&mut self, buffer: &mut [u8]) -> Result<usize, Refusal> {
         if let Some(count) = read_some(&mut self.device, buffer) {
             let bytes = self.bytes.saturating_add(count as u64);
-            if bytes <= MOST_BYTES {
+            if bytes <= LONGEST_INPUT {
                 self.bytes = bytes;
                 return Ok(count);
             }

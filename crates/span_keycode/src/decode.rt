@@ -4,7 +4,7 @@ ghost use Rattle.span_schema.specs.Numbers.{IsTable, parent_of};
 ghost use Rattle.span_keycode.specs.Keys.{key_code, IsKey, IsCodedKey};
 ghost use Rattle.span_keycode.specs.Reads.{IsNoKey, IsUncoded};
 
-use crate::key::MOST_BYTES;
+use crate::key::LONGEST_KEY;
 use crate::tuple::read_tuple;
 use crate::value::after;
 use span_schema::schema::Schema;
@@ -30,7 +30,7 @@ pub fn decode_key(alloc: Global, schema: &Schema, bytes: &[u8]) -> Result<RowKey
         (λ key. IsCodedKey schema.now key.table key.values × (bytes.now ≡ key_code schema.now key.table key.values))
         (λ why. ((why ≡ Refusal.BadKey) × IsNoKey schema.now bytes.now) ⊎ (why ≡ Refusal.OutOfMemory)) }
 {
-    if bytes.len() > MOST_BYTES {
+    if bytes.len() > LONGEST_KEY {
         return Err(Refusal::BadKey);
     }
     match read_key(alloc, schema, bytes)? {

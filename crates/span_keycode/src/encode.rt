@@ -6,7 +6,7 @@ ghost use Rattle.span_keycode.specs.Limits.{inline_bytes, IsTooLong};
 ghost use Rattle.span_keycode.specs.Keys.{IsCodedKey, key_code, level_code, level_of, encode_cause};
 
 use crate::column::{have_kinds, push_tuple};
-use crate::key::{INLINE_BYTES, Key, MOST_BYTES};
+use crate::key::{INLINE_BYTES, Key, LONGEST_KEY};
 use smallvec::SmallVec;
 use span_schema::schema::Schema;
 use span_value::refusal::Refusal;
@@ -38,7 +38,7 @@ pub fn encode_key(
         return Err(Refusal::WrongType);
     }
     let bytes = code(alloc, schema, table, values)?;
-    if bytes.len() > MOST_BYTES {
+    if bytes.len() > LONGEST_KEY {
         return Err(Refusal::KeyTooLong);
     }
     Ok(Key::from_small_vec(bytes))

@@ -5,7 +5,7 @@ ghost use Rattle.span_keycode.specs.Limits.{longest_key};
 ghost use Rattle.span_keycode.specs.Coding.{escaped, plain};
 ghost use Rattle.span_keycode.specs.Keys.{key_code, values_len};
 
-use crate::key::MOST_BYTES;
+use crate::key::LONGEST_KEY;
 use span_schema::schema::Schema;
 use span_value::value::Value;
 
@@ -19,9 +19,9 @@ pub fn code_len(schema: &Schema, table: usize, values: &[Value]) -> Option<usize
         (λ len. (len ≡ length (key_code schema.now table values.now)) × (len ≤ longest_key)) }
 {
     // One byte a level, the number of its table.
-    let left = left_after(MOST_BYTES, schema.path_of(table).len())?;
+    let left = left_after(LONGEST_KEY, schema.path_of(table).len())?;
     let left = left_after_values(left, values)?;
-    Some(MOST_BYTES - left)
+    Some(LONGEST_KEY - left)
 }
 
 // The rest of a number of bytes after some of them; nothing where there are fewer.

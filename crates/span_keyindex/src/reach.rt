@@ -5,7 +5,7 @@
 use crate::near::SEARCH_LANES;
 use span_arena::arena::Arena;
 use span_arena::token::NO_CHAIN;
-use span_keycode::key::MOST_BYTES;
+use span_keycode::key::LONGEST_KEY;
 use span_keytree::next::NextLinks;
 
 /// How many cells up are looked at: of most parts of the tree that a key more changes these are all.
@@ -38,7 +38,7 @@ fn places_after(
 // The cell above a cell, whose key is looked at too.
 fn cell_above(arena: &Arena, at: u32) -> u32 {
     let above = arena.above(at);
-    if above as usize >= arena.numbers() || arena.key(above).len() > MOST_BYTES {
+    if above as usize >= arena.numbers() || arena.key(above).len() > LONGEST_KEY {
         return NO_CHAIN;
     }
     above

@@ -12,7 +12,7 @@
 use crate::batch::{BATCH_KEYS, Batch};
 use span_arena::arena::Arena;
 use span_arena::token::{Chain, NO_CHAIN};
-use span_keycode::key::MOST_BYTES;
+use span_keycode::key::LONGEST_KEY;
 use span_keytree::next::{NextLinks, number_of};
 use span_keytree::tree::TreeRoot;
 
@@ -289,7 +289,7 @@ fn is_none(arena: &Arena, number: u32, ahead: &Ahead) -> bool {
     if number as usize >= arena.numbers() {
         return true;
     }
-    arena.key(number).len() > MOST_BYTES || (ahead.has_rows && is_no_row(arena, number))
+    arena.key(number).len() > LONGEST_KEY || (ahead.has_rows && is_no_row(arena, number))
 }
 
 // A key on. A lane stays at its end, and at what is none.
@@ -311,7 +311,7 @@ fn look_at_keys(arena: &Arena, batch: &Batch) -> bool {
     for i in 0..batch.len().min(BATCH_KEYS) {
         let number = numbers[i];
         if (number as usize) < arena.numbers() {
-            are_keys = are_keys && arena.key(number).len() <= MOST_BYTES;
+            are_keys = are_keys && arena.key(number).len() <= LONGEST_KEY;
         }
     }
     are_keys

@@ -5,7 +5,7 @@ ghost use Rattle.span_value.specs.declared.value.Kind.TheVariants as kind;
 ghost use Rattle.span_rowcode.specs.Rows.{IsCell, IsNoCell, IsCellSkip};
 ghost use Rattle.span_rowcode.specs.Cells.{IsNoBody, IsBody, HasBytes, HasNoBytes};
 
-use crate::pack::MOST_BYTES;
+use crate::pack::LONGEST_ROW;
 use span_value::seq::Seq;
 use span_value::text::Text;
 use span_value::value::{Kind, Value};
@@ -17,7 +17,7 @@ pub fn read_cell(
     kind: Kind,
     bytes: &[u8],
 ) -> Result<Option<(Value, usize)>, AllocError>
-    requires { length bytes.now ≤ MOST_BYTES }
+    requires { length bytes.now ≤ LONGEST_ROW }
     ensures { IfOk result (λ found. MatchOption found (IsNoCell kind bytes.now) (λ r. IsCell kind bytes.now r.0 r.1)) }
 {
     if bytes.len() == 0 {
@@ -35,7 +35,7 @@ pub fn read_cell(
 
 /// How many bytes code the cell of a kind at the front of bytes. It allocates nothing.
 pub fn skip_cell(kind: Kind, bytes: &[u8]) -> usize
-    requires { length bytes.now ≤ MOST_BYTES }
+    requires { length bytes.now ≤ LONGEST_ROW }
     ensures { IsCellSkip kind bytes.now result }
 {
     if bytes.len() == 0 {
@@ -53,7 +53,7 @@ pub fn skip_cell(kind: Kind, bytes: &[u8]) -> usize
 
 // How many bytes are a length in four bytes and the bytes after it.
 fn skip_bytes(rest: &[u8]) -> usize
-    requires { length rest.now ≤ MOST_BYTES }
+    requires { length rest.now ≤ LONGEST_ROW }
     ensures within { result ≤ length rest.now }
     ensures found { (found more : List ℕ)
         → rest.now ≡ to_be_bytes w32 (length found) ++ (found ++ more)
@@ -81,7 +81,7 @@ fn front(bytes: &[u8], len: usize) -> &[u8]
 }
 
 fn read_body(alloc: Global, kind: Kind, rest: &[u8]) -> Result<Option<(Value, usize)>, AllocError>
-    requires { length rest.now ≤ MOST_BYTES }
+    requires { length rest.now ≤ LONGEST_ROW }
     ensures { IfOk result (λ found. MatchOption found (IsNoBody kind rest.now) (λ r. IsBody kind rest.now r.0 r.1)) }
 {
     match kind {
@@ -115,7 +115,7 @@ fn flag_body(rest: &[u8]) -> Option<(Value, usize)>
 }
 
 fn bytes_body(alloc: Global, rest: &[u8]) -> Result<Option<(Value, usize)>, AllocError>
-    requires { length rest.now ≤ MOST_BYTES }
+    requires { length rest.now ≤ LONGEST_ROW }
     ensures { IfOk result
         (λ found. MatchOption found (IsNoBody kind.Bytes rest.now) (λ r. IsBody kind.Bytes rest.now r.0 r.1)) }
 {
@@ -129,7 +129,7 @@ fn bytes_body(alloc: Global, rest: &[u8]) -> Result<Option<(Value, usize)>, Allo
 }
 
 fn text_body(alloc: Global, rest: &[u8]) -> Result<Option<(Value, usize)>, AllocError>
-    requires { length rest.now ≤ MOST_BYTES }
+    requires { length rest.now ≤ LONGEST_ROW }
     ensures { IfOk result (λ found. MatchOption found (IsNoBody kind.Str rest.now) (λ r. IsBody kind.Str rest.now r.0 r.1)) }
 {
     match bytes_at(rest) {
@@ -143,7 +143,7 @@ fn text_body(alloc: Global, rest: &[u8]) -> Result<Option<(Value, usize)>, Alloc
 
 // The bytes after their length in four bytes.
 fn bytes_at(rest: &[u8]) -> Option<&[u8]>
-    requires { length rest.now ≤ MOST_BYTES }
+    requires { length rest.now ≤ LONGEST_ROW }
     ensures { MatchOption result (HasNoBytes rest.now) (λ bytes. HasBytes rest.now bytes.now) }
 {
     if rest.len() < 4 {

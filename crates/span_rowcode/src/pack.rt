@@ -1,7 +1,7 @@
 //! Packing rows.
 ghost use Rattle.std.specs.Prelude.{◌≡◌, ◌⊎◌, ◌+◌, ◌<◌, ◌≤◌, ◌++◌, ◌∷◌, MatchOption, MatchResult, OnOk, length};
 ghost use Rattle.span_rowcode.specs.Limits.{longest_row};
-ghost use Rattle.span_rowcode.specs.declared.pack.TheConstants.{MOST_BYTES};
+ghost use Rattle.span_rowcode.specs.declared.pack.TheConstants.{LONGEST_ROW};
 ghost use Rattle.span_rowcode.specs.Rows.{bytes_code, cell_code, row_code};
 ghost use Rattle.std.specs.Int.{to_be_bytes, w64};
 
@@ -10,11 +10,11 @@ use span_value::value::Value;
 use std::alloc::{AllocError, Global};
 
 /// The most bytes of a packed row.
-pub const MOST_BYTES: usize = 1_048_576;
+pub const LONGEST_ROW: usize = 1_048_576;
 
 /// The limit is the number that the definitions name.
 pub fn limit_is_stated()
-    ensures { MOST_BYTES ≡ longest_row }
+    ensures { LONGEST_ROW ≡ longest_row }
 {}
 
 /// The packed row of these cells: the values of a row's columns outside the primary key, in the order of their declaration.
@@ -29,7 +29,7 @@ pub fn pack(alloc: Global, cells: &[Value]) -> Result<Vec<u8>, Refusal>
     match bytes_left(cells) {
         None => Err(Refusal::RowTooLong),
         Some(left) => {
-            let mut bytes = Vec::with_capacity(alloc, MOST_BYTES - left)?;
+            let mut bytes = Vec::with_capacity(alloc, LONGEST_ROW - left)?;
             push_row(&mut bytes, cells)?;
             Ok(bytes)
         }
@@ -39,10 +39,10 @@ pub fn pack(alloc: Global, cells: &[Value]) -> Result<Vec<u8>, Refusal>
 // What is left of the most bytes.
 fn bytes_left(cells: &[Value]) -> Option<usize>
     ensures { MatchOption result
-        (MOST_BYTES < length (row_code cells.now))
-        (λ left. left + length (row_code cells.now) ≡ MOST_BYTES) }
+        (LONGEST_ROW < length (row_code cells.now))
+        (λ left. left + length (row_code cells.now) ≡ LONGEST_ROW) }
 {
-    let mut left = MOST_BYTES;
+    let mut left = LONGEST_ROW;
     for cell in cells {
         match bytes_left_after_cell(cell, left) {
             None => return None,
@@ -54,7 +54,7 @@ fn bytes_left(cells: &[Value]) -> Option<usize>
 
 /// What is left of this many bytes after the code of a cell. None where it has more.
 pub fn bytes_left_after_cell(cell: &Value, left: usize) -> Option<usize>
-    requires { left ≤ MOST_BYTES }
+    requires { left ≤ LONGEST_ROW }
     ensures { MatchOption result (left < length (cell_code cell.now)) (λ rest. rest + length (cell_code cell.now) ≡ left) }
 {
     match cell {
@@ -67,7 +67,7 @@ pub fn bytes_left_after_cell(cell: &Value, left: usize) -> Option<usize>
 }
 
 fn bytes_left_after_bytes(bytes: &[u8], left: usize) -> Option<usize>
-    requires { left ≤ MOST_BYTES }
+    requires { left ≤ LONGEST_ROW }
     ensures { MatchOption result (left < length bytes.now + 5) (λ rest. rest + (length bytes.now + 5) ≡ left) }
 {
     if bytes.len() > left {
@@ -77,7 +77,7 @@ fn bytes_left_after_bytes(bytes: &[u8], left: usize) -> Option<usize>
 }
 
 fn push_row(out: &mut Vec<u8>, cells: &[Value]) -> Result<(), AllocError>
-    requires { length (row_code cells.now) ≤ MOST_BYTES }
+    requires { length (row_code cells.now) ≤ LONGEST_ROW }
     ensures { OnOk result (out.new.items ≡ out.old.items ++ row_code cells.now) }
 {
     for cell in cells {
@@ -88,7 +88,7 @@ fn push_row(out: &mut Vec<u8>, cells: &[Value]) -> Result<(), AllocError>
 
 /// Adds the code of a cell.
 pub fn push_cell(out: &mut Vec<u8>, cell: &Value) -> Result<(), AllocError>
-    requires { length (cell_code cell.now) ≤ MOST_BYTES }
+    requires { length (cell_code cell.now) ≤ LONGEST_ROW }
     ensures { OnOk result (out.new.items ≡ out.old.items ++ cell_code cell.now) }
 {
     match cell {
@@ -111,7 +111,7 @@ fn push_number(out: &mut Vec<u8>, number: u64) -> Result<(), AllocError>
 }
 
 fn push_bytes(out: &mut Vec<u8>, bytes: &[u8]) -> Result<(), AllocError>
-    requires { length bytes.now ≤ MOST_BYTES }
+    requires { length bytes.now ≤ LONGEST_ROW }
     ensures { OnOk result (out.new.items ≡ out.old.items ++ bytes_code bytes.now) }
 {
     out.push(1)?;

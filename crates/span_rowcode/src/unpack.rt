@@ -4,7 +4,7 @@ ghost use Rattle.span_schema.specs.Numbers.{IsTable, other_kinds};
 ghost use Rattle.span_rowcode.specs.Rows.{AreCells, IsRow, IsNoRow, row_code};
 
 use crate::cell::{after, read_cell};
-use crate::pack::MOST_BYTES;
+use crate::pack::LONGEST_ROW;
 use span_schema::schema::Schema;
 use span_value::refusal::Refusal;
 use span_value::value::{Kind, Value};
@@ -26,7 +26,7 @@ pub fn unpack(
         ((why ≡ Refusal.BadRow) × IsNoRow (other_kinds schema.now table) bytes.now)
         ⊎ (why ≡ Refusal.OutOfMemory)) }
 {
-    if bytes.len() > MOST_BYTES {
+    if bytes.len() > LONGEST_ROW {
         return Err(Refusal::BadRow);
     }
     match read_row(alloc, schema.other_kinds(table), bytes)? {
@@ -36,7 +36,7 @@ pub fn unpack(
 }
 
 fn read_row(alloc: Global, kinds: &[Kind], bytes: &[u8]) -> Result<Option<Vec<Value>>, AllocError>
-    requires { length bytes.now ≤ MOST_BYTES }
+    requires { length bytes.now ≤ LONGEST_ROW }
     ensures { IfOk result
         (λ found.
         MatchOption found (IsNoRow kinds.now bytes.now)

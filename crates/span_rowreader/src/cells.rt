@@ -1,13 +1,13 @@
 //! Packed cells, read straight into their places in a row.
 ghost use Rattle.std.specs.Prelude.{◌≡◌, ◌≤◌, IfOk, MatchOption, drop, length, true};
-ghost use Rattle.span_rowcode.specs.declared.pack.TheConstants.{MOST_BYTES};
+ghost use Rattle.span_rowcode.specs.declared.pack.TheConstants.{LONGEST_ROW};
 ghost use Rattle.span_rowcode.specs.Rows.{IsNoCell};
 ghost use Rattle.span_rowreader.specs.Placed.{IsCellPut, IsCellRead, AreCellsPut, wants_none};
 
 use super::number::cell_number;
 use super::place::{is_wanted, put_number, put_value};
 use span_rowcode::cell::{after, read_cell, skip_cell};
-use span_rowcode::pack::MOST_BYTES;
+use span_rowcode::pack::LONGEST_ROW;
 use span_value::value::{Kind, Value};
 use std::alloc::{AllocError, Global};
 
@@ -20,7 +20,7 @@ fn put_any_cell(
     bytes: &[u8],
     row: &mut Vec<Value>,
 ) -> Result<Option<usize>, AllocError>
-    requires { length bytes.now ≤ MOST_BYTES }
+    requires { length bytes.now ≤ LONGEST_ROW }
     ensures { IfOk result
         (λ found.
         MatchOption found (IsNoCell kind bytes.now)
@@ -45,7 +45,7 @@ fn put_cell(
     bytes: &[u8],
     row: &mut Vec<Value>,
 ) -> Result<Option<usize>, AllocError>
-    requires { length bytes.now ≤ MOST_BYTES }
+    requires { length bytes.now ≤ LONGEST_ROW }
     ensures { IfOk result
         (λ found.
         MatchOption found (IsNoCell kind bytes.now)
@@ -81,7 +81,7 @@ pub(crate) fn put_cells(
     ensures { IfOk result
         (λ found. AreCellsPut kinds.now places.now wanted.now bytes.now row.old.items row.new.items found) }
 {
-    if bytes.len() > MOST_BYTES {
+    if bytes.len() > LONGEST_ROW {
         return Ok(false);
     }
     let mut at = 0;

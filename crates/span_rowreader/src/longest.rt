@@ -3,7 +3,7 @@ ghost use Rattle.std.specs.Prelude.{◌≡◌};
 ghost use Rattle.span_schema.specs.Numbers.{IsTable};
 ghost use Rattle.span_rowreader.specs.Longest as spec;
 
-use span_keycode::key::MOST_BYTES;
+use span_keycode::key::LONGEST_KEY;
 use span_schema::schema::Schema;
 use span_value::value::Kind;
 
@@ -14,8 +14,8 @@ fn longest_value(kind: Kind) -> usize
     match kind {
         Kind::Int => 9,
         Kind::Bool => 2,
-        Kind::Str => MOST_BYTES,
-        Kind::Bytes => MOST_BYTES,
+        Kind::Str => LONGEST_KEY,
+        Kind::Bytes => LONGEST_KEY,
     }
 }
 

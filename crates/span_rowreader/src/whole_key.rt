@@ -7,7 +7,7 @@ ghost use Rattle.span_rowreader.specs.Entries.{IsWhetherOf};
 ghost use Rattle.span_rowreader.specs.WholeKeys as spec;
 ghost use Rattle.span_rowreader.specs.WholeKeys.{HasNumberAt, IsDecided, IsTableByLength, IsWholeKey};
 
-use span_keycode::key::MOST_BYTES;
+use span_keycode::key::LONGEST_KEY;
 use span_schema::layout::KeyPart;
 use span_schema::schema::Schema;
 use span_value::value::Kind;
@@ -48,10 +48,10 @@ fn whole_key(schema: &Schema, table: usize) -> Option<WholeKey>
     let columns = schema.key_columns(table);
     let own = schema.own_key_columns(table);
     // No schema has a table of as many columns.
-    if columns.len() > MOST_BYTES {
+    if columns.len() > LONGEST_KEY {
         return None;
     }
-    if own.len() > MOST_BYTES {
+    if own.len() > LONGEST_KEY {
         return None;
     }
     if !are_numbers(columns) {

@@ -2,11 +2,11 @@
 ghost use Rattle.std.specs.Prelude.{◌≡◌, ◌+◌, ◌<◌, ◌≤◌, ◌++◌, MatchOption, MatchResult, OnOk, length};
 ghost use Rattle.std.specs.Option.{option_copied, unwrap_or};
 ghost use Rattle.span_rowcode.specs.Rows.{cell_code, row_code};
-ghost use Rattle.span_rowcode.specs.declared.pack.TheConstants.{MOST_BYTES};
+ghost use Rattle.span_rowcode.specs.declared.pack.TheConstants.{LONGEST_ROW};
 ghost use Rattle.span_mutate.specs.Database.{merge_cells};
 ghost use Rattle.span_shard.specs.Overlay.{IsMergedRow, IsMergeRefused};
 
-use span_rowcode::pack::{MOST_BYTES, bytes_left_after_cell, push_cell};
+use span_rowcode::pack::{LONGEST_ROW, bytes_left_after_cell, push_cell};
 use span_value::refusal::Refusal;
 use span_value::value::Value;
 use std::alloc::{AllocError, Global};
@@ -25,7 +25,7 @@ pub(crate) fn pack_merged(
     match bytes_left(named, old) {
         None => Err(Refusal::RowTooLong),
         Some(left) => {
-            let mut bytes = Vec::with_capacity(alloc, MOST_BYTES - left)?;
+            let mut bytes = Vec::with_capacity(alloc, LONGEST_ROW - left)?;
             push_row(&mut bytes, named, old)?;
             Ok(bytes)
         }
@@ -35,10 +35,10 @@ pub(crate) fn pack_merged(
 // What is left of the most bytes.
 fn bytes_left(named: &[Option<Value>], old: &[Value]) -> Option<usize>
     ensures { MatchOption result
-        (MOST_BYTES < length (row_code (merge_cells named.now old.now)))
-        (λ left. left + length (row_code (merge_cells named.now old.now)) ≡ MOST_BYTES) }
+        (LONGEST_ROW < length (row_code (merge_cells named.now old.now)))
+        (λ left. left + length (row_code (merge_cells named.now old.now)) ≡ LONGEST_ROW) }
 {
-    let mut left = MOST_BYTES;
+    let mut left = LONGEST_ROW;
     for i in 0..named.len() {
         match bytes_left_after(&named[i], old.get(i), left) {
             None => return None,
@@ -50,7 +50,7 @@ fn bytes_left(named: &[Option<Value>], old: &[Value]) -> Option<usize>
 
 // What is left after a column's value: the one that is named, else the one that was there.
 fn bytes_left_after(named: &Option<Value>, old: Option<&Value>, left: usize) -> Option<usize>
-    requires { left ≤ MOST_BYTES }
+    requires { left ≤ LONGEST_ROW }
     ensures { MatchOption result
         (left < length (cell_code (unwrap_or named.now (unwrap_or (option_copied old.entry) Value.Null))))
         (λ rest.
@@ -65,7 +65,7 @@ fn bytes_left_after(named: &Option<Value>, old: Option<&Value>, left: usize) -> 
 }
 
 fn push_row(out: &mut Vec<u8>, named: &[Option<Value>], old: &[Value]) -> Result<(), AllocError>
-    requires { length (row_code (merge_cells named.now old.now)) ≤ MOST_BYTES }
+    requires { length (row_code (merge_cells named.now old.now)) ≤ LONGEST_ROW }
     ensures { OnOk result (out.new.items ≡ out.old.items ++ row_code (merge_cells named.now old.now)) }
 {
     for i in 0..named.len() {
@@ -80,7 +80,7 @@ fn push_value(
     named: &Option<Value>,
     old: Option<&Value>,
 ) -> Result<(), AllocError>
-    requires { length (cell_code (unwrap_or named.now (unwrap_or (option_copied old) Value.Null))) ≤ MOST_BYTES }
+    requires { length (cell_code (unwrap_or named.now (unwrap_or (option_copied old) Value.Null))) ≤ LONGEST_ROW }
     ensures { OnOk result
         (out.new.items
         ≡ out.old.items ++ cell_code (unwrap_or named.now (unwrap_or (option_copied old.entry) Value.Null))) }

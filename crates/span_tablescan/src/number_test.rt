@@ -4,7 +4,7 @@ ghost use Rattle.std.specs.List.{AllByRecursion, list_all};
 ghost use Rattle.span_value.specs.declared.value.Kind.TheVariants as kind;
 ghost use Rattle.span_value.specs.declared.value.Value.TheVariants.{Int};
 ghost use Rattle.span_schema.specs.Numbers.{IsTable};
-ghost use Rattle.span_rowcode.specs.declared.pack.TheConstants.{MOST_BYTES};
+ghost use Rattle.span_rowcode.specs.declared.pack.TheConstants.{LONGEST_ROW};
 ghost use Rattle.span_rowcode.specs.Cells.{IsNoBody, IsBody};
 ghost use Rattle.span_expr.specs.declared.expr.Expr.TheVariants.{Literal};
 ghost use Rattle.span_expr.specs.Operators.{holds};
@@ -14,7 +14,7 @@ ghost use Rattle.span_tablescan.specs.NumberTests.{AddsNeeded, AddsTests, AreMor
 use span_expr::expr::{Comparison, Expr};
 use span_leaves::table::width_of;
 use span_rowcode::cell::{after, skip_cell};
-use span_rowcode::pack::MOST_BYTES;
+use span_rowcode::pack::LONGEST_ROW;
 use span_schema::schema::Schema;
 use span_value::seq::Seq;
 use span_value::value::{Kind, Value};
@@ -273,7 +273,7 @@ pub(crate) fn number_tests(
 /// The bytes of a packed row from one of its cells on.
 fn cells_from<'a>(kinds: &[Kind], cell: usize, bytes: &'a [u8]) -> &'a [u8]
     requires cell { cell ≤ length kinds.now }
-    requires len { length bytes.now ≤ MOST_BYTES }
+    requires len { length bytes.now ≤ LONGEST_ROW }
     ensures { IsRestOf kinds.now cell bytes.now result.now }
 {
     let mut at = 0;
@@ -295,7 +295,7 @@ fn eight_at(rest: &[u8]) -> Option<i64>
 
 /// The number that is coded at the front of bytes. None where it is NULL, or none is coded there.
 fn number_at(bytes: &[u8]) -> Option<i64>
-    requires { length bytes.now ≤ MOST_BYTES }
+    requires { length bytes.now ≤ LONGEST_ROW }
     ensures { IsNumberFound bytes.now result }
 {
     if bytes.len() == 0 {
@@ -330,7 +330,7 @@ fn meets_number(test: &NumberTest, number: i64) -> bool
 /// Whether the cells of a packed row meet a test.
 fn meets_test(test: &NumberTest, kinds: &[Kind], bytes: &[u8]) -> bool
     requires number { IsNumberAt kinds.now test.now.cell }
-    requires len { length bytes.now ≤ MOST_BYTES }
+    requires len { length bytes.now ≤ LONGEST_ROW }
     ensures { IsWhetherPass kinds.now bytes.now (λ cells. spec.meets cells test.now) result }
 {
     match number_at(cells_from(kinds, test.cell, bytes)) {
@@ -344,7 +344,7 @@ pub(crate) fn meets_all(tests: &[NumberTest], kinds: &[Kind], bytes: &[u8]) -> b
     requires { AllByRecursion (λ test. IsNumberAt kinds.now test.cell) tests.now }
     ensures { IsWhetherPass kinds.now bytes.now (λ cells. list_all (spec.meets cells) tests.now) result }
 {
-    if bytes.len() > MOST_BYTES {
+    if bytes.len() > LONGEST_ROW {
         return false;
     }
     for test in tests {

@@ -6,8 +6,8 @@ use Rattle.span_rowreader.specs.Placed.{IsCellPut, wants_none}
 use Rattle.span_rowreader.proofs.Placing.{all_cells_left, cell_at, no_cell_at, cells_stop, too_long}
 use Rattle.span_rowreader.proofs.cells.put_cells.Goals as goal
 
-pub returns-then-bytes-gt-MOST_BYTES : goal.returns-then-bytes-gt-MOST_BYTES
-returns-then-bytes-gt-MOST_BYTES c = too_long c.args.wanted.now c.args.kinds.now c.args.places.now c.args.bytes.now c.args.row.now.items c.if-bytes-gt-MOST_BYTES.true
+pub returns-then-bytes-gt-LONGEST_ROW : goal.returns-then-bytes-gt-LONGEST_ROW
+returns-then-bytes-gt-LONGEST_ROW c = too_long c.args.wanted.now c.args.kinds.now c.args.places.now c.args.bytes.now c.args.row.now.items c.if-bytes-gt-LONGEST_ROW.true
 
 pub loop-i-init : goal.loop-i-init
 loop-i-init c = record { most = omega arith; within = omega arith; left = all_cells_left c.args.wanted.now c.args.kinds.now c.args.places.now c.args.bytes.now c.args.row.now.items }

@@ -1,11 +1,11 @@
 use Rattle.std.proofs.Common.{◌≡◌, ◌≤◌, ◌++◌, length, drop}
 use Rattle.span_rowcode.specs.Rows.{row_code}
-use Rattle.span_rowcode.specs.declared.pack.TheConstants.{MOST_BYTES}
+use Rattle.span_rowcode.specs.declared.pack.TheConstants.{LONGEST_ROW}
 use Rattle.span_mutate.specs.Database.{merge_cells}
 use Rattle.span_shard.proofs.merge.push_row.Given as goal
 
 abbrev pub invariant-loop-i : goal.invariant-loop-i
 invariant-loop-i l = record {
-  short : length (row_code (merge_cells (drop l.i l.named) (drop l.i l.old))) ≤ MOST_BYTES;
+  short : length (row_code (merge_cells (drop l.i l.named) (drop l.i l.old))) ≤ LONGEST_ROW;
   code : l.out.items ++ row_code (merge_cells (drop l.i l.named) (drop l.i l.old)) ≡ l.fn.out.items ++ row_code (merge_cells l.named l.old);
 }
