@@ -1,6 +1,7 @@
 #!/usr/bin/env python3
 """Counts the allocations of a query by the proved program: one whose range is a single key asks for as many with 256 rows in its slot as with one,
-so that it touches the rows of its range alone. A query over the whole table asks for more with more rows, or nothing would be measured here.
+so that it touches the rows of its range alone; and so does one that only counts all rows, of which none is read. A query over the whole table asks
+for more with more rows, or nothing would be measured here.
 
 The program and the counting library are those of run.py.
 """
@@ -11,11 +12,12 @@ import tempfile
 
 import run
 
-IN_RANGE = {
+OF_ONE_COST = {
     "one key": "SELECT uid, email FROM Users WHERE uid = 1",
     "one key of a further condition": "SELECT uid FROM Users WHERE uid = 1 AND email IS NULL",
     "one root of a join": "SELECT u.uid, a.aid FROM Users u JOIN Albums a ON a.uid = u.uid WHERE u.uid = 1",
     "keys at most the first": "SELECT uid FROM Users WHERE uid <= 1",
+    "rows that are counted": "SELECT COUNT(*) FROM Users",
 }
 WHOLE = "SELECT uid, email FROM Users"
 SCHEMA = """CREATE TABLE Users (uid INT64 NOT NULL, email STRING(MAX)) PRIMARY KEY (uid);
@@ -54,7 +56,7 @@ def main():
     wrong = 0
     with tempfile.TemporaryDirectory() as folder:
         library = run.built_library(folder, "refuse_allocation")
-        for name, text in IN_RANGE.items():
+        for name, text in OF_ONE_COST.items():
             few, many = (allocations_of_query(folder, library, users, text) for users in (1, 256))
             print(f"scans: {name}: {few} allocations with 1 row, {many} with 256")
             wrong += few != many
