@@ -86,13 +86,23 @@ class KeptByTheKit:
             sys.exit("libraries: this kit keeps nothing of rt ci: name a clone in which it has run")
         self.rt, self.kept = rt, rt.Kept(crates)
 
-    def put(self, crate):
-        """Puts the crate's library into its out/, unless it is there; whether it is there then. Copies, so that what is kept stays as it is."""
-        place, out = self.kept.place(crate, False, self.kept.key(crate)), os.path.join(crate.folder, "out")
+    def files(self, crate):
+        """Where the files of the crate's out/ are kept, and these files, each with its sum; None where they are not. Those below were asked for first."""
+        place = self.kept.place(crate, False, self.kept.key(crate))
         if not os.path.isdir(place):
-            return False
+            return None
         with open(os.path.join(place, "made.json"), encoding="utf-8") as file:
-            files = json.load(file)["files"]
+            files = [tuple(it) for it in json.load(file)["files"]]
+        # (as `Kept.is_built` notes it of the files in out/)
+        self.kept.rlibs[crate.name] = hashlib.sha256(repr(files).encode()).hexdigest()
+        return place, files
+
+    def put(self, crate):
+        """Puts what is kept of the crate into its out/, unless it is there; whether it is there then. Copies, so that what is kept stays as it is."""
+        out, found = os.path.join(crate.folder, "out"), self.files(crate)
+        if found is None:
+            return False
+        place, files = found
         if not is_there(self.rt, out, files):
             shutil.rmtree(os.path.join(out, "rlib"), ignore_errors=True)
             for number, (path, _) in enumerate(files):
@@ -101,9 +111,34 @@ class KeptByTheKit:
                 shutil.copyfile(os.path.join(place, str(number)), to)
         if not is_there(self.rt, out, files) or [path for path, _ in files] != self.kept.made(crate, False):
             return False
-        self.kept.is_built(crate)
-        write_stamp(crate)
+        if not crate.is_program:
+            write_stamp(crate)
         return True
+
+
+def can_be_kept():
+    """Whether the kit keeps what `rt ci` proves, and can on this machine."""
+    rt = program()
+    return hasattr(rt, "Kept") and rt.Kept([]).at is not None
+
+
+def put_program(name):
+    """Puts a program that `rt ci` has proved and built of the same files on this machine into its out/; whether the kit kept it."""
+    if not can_be_kept():
+        return False
+    here = os.getcwd()
+    try:
+        rt = toolchain()
+        crates = crates_of(rt, TOP)
+        wanted = next(crate for crate in crates if crate.name == name)
+        source = KeptByTheKit(rt, crates)
+        if not all(source.files(crate) for crate in crates if crate in wanted.below()) or not source.put(wanted):
+            return False
+        for path in source.kept.made(wanted, False):
+            os.chmod(os.path.join(wanted.folder, "out", path), 0o755)
+        return True
+    finally:
+        os.chdir(here)
 
 
 class OfAClone:

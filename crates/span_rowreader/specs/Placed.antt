@@ -44,7 +44,7 @@ pub record IsColumnPut (ms : List Bool) (c : KeyPart) (place : ℕ) (bytes : Lis
   pub within : n ≤ length bytes
   pub put : (v : Value) (more : List ℕ) → Fits c.kind v → bytes ≡ column_code c v ++ more → (new ≡ put ms place v old) × (more ≡ drop n bytes)
 
--- whatever key of table n the bytes code, its values were put at these places; found is not true where they code none
+-- whatever key of table n the bytes code, its values were put at these places, and found is true
 pub record IsKeyPut (schema : List Table) (n : ℕ) (places : List ℕ) (ms : List Bool) (bytes : List ℕ) (old new : List Value) (found : Bool) : Type 0 where
   pub put : (vs : List Value) → IsKey schema n vs → bytes ≡ key_code schema n vs → (found ≡ true) × (new ≡ placed ms places vs old)
 
@@ -59,7 +59,7 @@ pub record IsCellPut (ms : List Bool) (k : Kind) (place : ℕ) (bytes : List ℕ
   pub within : n ≤ length bytes
   pub put : (v : Value) (more : List ℕ) → Fits k v → bytes ≡ cell_code v ++ more → (new ≡ put ms place v old) × (more ≡ drop n bytes)
 
--- whatever cells the bytes code, they were put at their places; found is not true where they code none
+-- whatever cells the bytes code, they were put at their places, and found is true
 pub record AreCellsPut (ks : List Kind) (places : List ℕ) (ms : List Bool) (bytes : List ℕ) (old new : List Value) (found : Bool) : Type 0 where
   pub put : (vs : List Value) → IsRow ks vs → bytes ≡ row_code vs → (found ≡ true) × (new ≡ placed ms places vs old)
 

@@ -67,6 +67,6 @@ pub record IsReadPut (ms : List Bool) (r : KeyRead) (bytes : List ℕ) (old new 
 pub record IsNoRead (r : KeyRead) (bytes : List ℕ) : Type 0 where
   pub none : (v : Value) (more : List ℕ) → IsCodedAt r v bytes more → ⊥
 
--- whatever values of the columns the bytes code, they were put at their places; found is not true where they code none
+-- whatever values of the columns the bytes code, they were put at their places, and found is true
 pub record AreReadsPut (rs : List KeyRead) (ms : List Bool) (bytes : List ℕ) (old new : List Value) (found : Bool) : Type 0 where
   pub put : (vs : List Value) → AreCoded rs vs bytes → (found ≡ true) × (new ≡ placed ms (places_of rs) vs old)
