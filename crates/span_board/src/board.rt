@@ -67,7 +67,7 @@ impl Model for View {
     ghost view = { λ _. [] };
 }
 
-pub type Place = Seat<Change, View>;
+pub type DbSeat = Seat<Change, View>;
 
 pub struct Law;
 

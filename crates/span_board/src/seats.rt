@@ -6,7 +6,7 @@ ghost use Rattle.span_board.specs.Known.{kept, grown, restated, restated_twice, 
 ghost use Rattle.span_board.specs.Rule.{number_of, versions_of, known_at, seen_of, mine_of, shard_of_change};
 ghost use Rattle.span_board.specs.declared.board.Role.TheVariants.{Holder, Keeper, Client};
 
-use crate::board::{Agree, Board, Catch, Change, Meet, Naming, Place, Publish, Restate, View};
+use crate::board::{Agree, Board, Catch, Change, DbSeat, Meet, Naming, Publish, Restate, View};
 use atomic_table::Badge;
 use span_machine::transaction::Commit;
 use span_shard::shard::Shard;
@@ -15,7 +15,7 @@ use std::alloc::Global;
 /// The log grows by a commit of the session whose seat it is.
 pub fn grow<J: Naming>(
     board: &Board<J>,
-    seat: &mut Place,
+    seat: &mut DbSeat,
     keeper: Badge<View>,
     owner: u64,
     count: u64,
@@ -43,7 +43,7 @@ pub fn grow<J: Naming>(
 /// The session whose seat it is sees the whole log.
 pub fn show<J: Naming>(
     board: &Board<J>,
-    seat: &mut Place,
+    seat: &mut DbSeat,
     keeper: Badge<View>,
     owner: u64,
 ) -> Badge<View>
@@ -62,7 +62,7 @@ pub fn show<J: Naming>(
 }
 
 /// What the slot has is what the journal knows of it.
-pub fn agree<J: Naming>(board: &Board<J>, seat: &mut Place, keeper: Badge<View>) -> Badge<View>
+pub fn agree<J: Naming>(board: &Board<J>, seat: &mut DbSeat, keeper: Badge<View>) -> Badge<View>
     requires tables { (seat.old.table_id ≡ J.table) × (keeper.table_id ≡ J.table) }
     requires holder { seat.old.me ≡ (Holder (number_of seat.old.me.0) (versions_of seat.old.me.0) ∷ [], []) }
     requires keeper { keeper.views ≡ (Keeper (known_at keeper.views) ∷ []) ∷ [] }
@@ -81,7 +81,7 @@ pub fn agree<J: Naming>(board: &Board<J>, seat: &mut Place, keeper: Badge<View>)
 /// The slot's seat and the keeper's take over what the shard is now.
 pub fn restate<J: Naming>(
     board: &Board<J>,
-    seat: &mut Place,
+    seat: &mut DbSeat,
     keeper: Badge<View>,
     shard: Shard,
 ) -> (Badge<View>, Shard)
@@ -106,8 +106,8 @@ pub fn restate<J: Naming>(
 /// The seats of a slot that was cut and of the new slot, and the keeper's, take over what the shards are now, one after the other.
 pub fn restate_both<J: Naming>(
     board: &Board<J>,
-    seat: &mut Place,
-    next: &mut Place,
+    seat: &mut DbSeat,
+    next: &mut DbSeat,
     keeper: Badge<View>,
     shard: Shard,
     part: Shard,

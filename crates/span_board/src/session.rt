@@ -5,14 +5,14 @@ ghost use Rattle.span_board.specs.Rule.{Sees, IsBegunAt, HasNotBegun, newcomer};
 ghost use Rattle.span_board.specs.declared.board.Role.TheVariants.{Client};
 
 use crate::begun::{Begun, place_of};
-use crate::board::{Board, Look, Naming, Place};
+use crate::board::{Board, DbSeat, Look, Naming};
 use std::alloc::Global;
 use std::marker::{Model, PhantomData};
 
 #[derive(Drop)]
 pub struct Session<J: Naming> {
     pub owner: u64,
-    pub seat: Place,
+    pub seat: DbSeat,
     pub begun: Vec<Begun>,
     pub(crate) of: PhantomData<J>,
 }
@@ -31,7 +31,7 @@ impl<J: Naming> Model for Session<J> {
 
 impl<J: Naming> Session<J> {
     /// The session of this owner, which has seen and made nothing, as its seat says.
-    pub fn new(alloc: Global, owner: u64, seat: Place) -> Session<J>
+    pub fn new(alloc: Global, owner: u64, seat: DbSeat) -> Session<J>
         requires at { seat.table_id ≡ J.table }
         requires client { seat.me ≡ (Client owner [] [] ∷ [], []) }
         ensures { result ≡ newcomer owner }

@@ -5,7 +5,7 @@ use Rattle.span_grammar.specs.declared.grammar.Place.{Place}
 use Rattle.span_grammar.specs.Rules.{Rule, Tree, Marks, marks, words, most_openings, Shallow, Fits}
 
 module _ (inside : Place → Rule) (a : Rule) where
-  -- The text has this tree, and nests no deeper than the most_openings.
+  -- The text has this tree, and nests no deeper than `most_openings` says.
   pub record HasTree (text : List Lexeme) (x : Tree) : Type 0 where
     pub fits : Fits inside x a
     pub spells : text ≡ words (marks 0 x)
@@ -17,7 +17,7 @@ module _ (inside : Place → Rule) (a : Rule) where
   NoneGoesOn prefix (t ∷ ts) =
       (x : Tree) (more : List Lexeme) → Fits inside x a → words (marks 0 x) ≡ prefix ++ (t ∷ more) → ⊥
 
-  -- Up to a place some tree goes on, no deeper than the most_openings, and there none does.
+  -- Up to a place some tree goes on, no deeper than `most_openings` says, and there none does.
   pub record IsWrong (text : List Lexeme) : Type 0 where
     pub tree : Tree
     pub before : Marks

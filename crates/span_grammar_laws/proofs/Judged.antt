@@ -60,7 +60,7 @@ pub first_over : (before : Marks) (t : Lexeme) (e : ℕ) (after : Marks) → Ope
 first_over [] t e after h s over = elim h [ inl i ↦ absurd (omega (arith, i.0)) | inr i ↦ i.1 ]
 first_over (m ∷ before) t e after h s over = elim h [ inl i ↦ first_over before t e after i.1 s.1 over | inr i ↦ absurd (omega (arith, i.0, s.0)) ]
 
--- a tree with a mark past the most_openings, and with the classes that look ahead: in front of that mark and at it what follows counts for nothing
+-- a tree with a mark past the greatest number of openings, and with the classes that look ahead: in front of that mark and at it what follows counts for nothing
 pub record DeepRead (g : Goal) (before after : Marks) (t : Lexeme) (e : ℕ) : Type 0 where
   pub has : In inside (goal_rule g) 0 (tag_marks (before ++ ((t, e) ∷ after)) [])
   pub opens : opening t.class ≡ true

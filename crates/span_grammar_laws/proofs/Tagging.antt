@@ -262,7 +262,7 @@ opening_sees t k j h = record {
   empty = refl;
 }
 
--- the first mark past the most_openings, if there is one, is an opening
+-- the first mark past the greatest number of openings, if there is one, is an opening
 abbrev pub OpensFirst : Marks → Type 0
 OpensFirst [] = Unit {0}
 OpensFirst (m ∷ ms) = ((m.1 ≤ most_openings) × OpensFirst ms) ⊎ ((most_openings < m.1) × (opening m.0.class ≡ true))

@@ -6,7 +6,7 @@ use Rattle.span_query.specs.declared.query.Aggregate.{Aggregate}
 use Rattle.span_query.specs.declared.query.Grouping.{Grouping}
 use Rattle.span_query.specs.Rows.{Row}
 use Rattle.span_query.specs.Groups.{are_equal, columns_at, rows_with}
-use Rattle.span_groups.specs.declared.aggregate.State.{State}
+use Rattle.span_groups.specs.declared.aggregate.AggregateState.{AggregateState}
 use Rattle.span_groups.specs.StateLists.{Group}
 use Rattle.span_rows.specs.Keys.{AreApart}
 use Rattle.span_groups.specs.States.{AreStatesOf, CanCountOne}
@@ -27,7 +27,7 @@ keys-same (x ∷ groups) zero new within same = ap (λ (k : Row). k ∷ keys_of 
 keys-same (x ∷ groups) (suc at) new within same = ap (λ (ks : List Row). x.key ∷ ks) (keys-same groups at new (omega arith) same)
 
 -- the states after a row, whichever rows were taken before
-abbrev pub TakesRow : List Aggregate → Row → List State → List State → Type 0
+abbrev pub TakesRow : List Aggregate → Row → List AggregateState → List AggregateState → Type 0
 TakesRow aggregates row old new = (rows : List Row) → AreStatesOf aggregates rows old → AreStatesOf aggregates (rows ++ row ∷ []) new
 
 module _ (g : Grouping) (row : Row) (rows : List Row) (groups : List Group) where

@@ -4,19 +4,19 @@ use Rattle.span_query.specs.declared.query.Grouping.{Grouping}
 use Rattle.span_query.specs.Rows.{Row}
 use Rattle.span_query.specs.Groups.{columns_at}
 use Rattle.span_rows.specs.Keys.{contains_row, place_of, with_new}
-use Rattle.span_groups.specs.declared.aggregate.State.{State}
+use Rattle.span_groups.specs.declared.aggregate.AggregateState.{AggregateState}
 use Rattle.span_groups.specs.States.{AreAdded}
 use Rattle.span_groups.specs.GroupStates.{groups_by, AreInStep}
 use Rattle.span_groups.specs.MergedGroups.{AreWholeGroups, HasGroupAt}
 use Rattle.span_groups.proofs.GroupSteps.{new_of, known_of, step_known, step_new, within_known, within_new, place_has_group, place_new_group}
 
 -- the keys and the states have a group for the key of a row, at this place
-pub record IsGroupPlace (g : Grouping) (row : Row) (keys new : List Row) (states now : List State) (at : ℕ) : Type 0 where
+pub record IsGroupPlace (g : Grouping) (row : Row) (keys new : List Row) (states now : List AggregateState) (at : ℕ) : Type 0 where
   pub step : AreInStep g new now
   pub place : (rows : List Row) → AreWholeGroups g keys rows (groups_by g keys states) → HasGroupAt g (columns_at g.keys row) keys rows (groups_by g new now) at
   pub within : at < length new
 
-module _ (g : Grouping) (row : Row) (keys new : List Row) (states : List State) (step : AreInStep g keys states) (is : new ≡ with_new keys (columns_at g.keys row))
+module _ (g : Grouping) (row : Row) (keys new : List Row) (states : List AggregateState) (step : AreInStep g keys states) (is : new ≡ with_new keys (columns_at g.keys row))
     (at : ℕ) (place : at ≡ place_of keys (columns_at g.keys row)) (is_new : Bool) (told : is_new ≡ not (contains_row keys (columns_at g.keys row))) where
   pub place_of_known : is_new ≡ false → IsGroupPlace g row keys new states states at
   place_of_known stays =
@@ -27,7 +27,7 @@ module _ (g : Grouping) (row : Row) (keys new : List Row) (states : List State) 
         within = within_known g row keys new states step is at place known;
       }
 
-  pub place_of_new : is_new ≡ true → (now : List State) → AreAdded g.aggregates states now → IsGroupPlace g row keys new states now at
+  pub place_of_new : is_new ≡ true → (now : List AggregateState) → AreAdded g.aggregates states now → IsGroupPlace g row keys new states now at
   place_of_new comes now added =
       let none : contains_row keys (columns_at g.keys row) ≡ false = new_of is_new (contains_row keys (columns_at g.keys row)) told comes in
       record {

@@ -13,7 +13,7 @@ use Rattle.span_rows.specs.LentRows.{lent_rows}
 use Rattle.span_rows.specs.RowPlaces.{rows_at}
 use Rattle.span_rows.proofs.Alike.{are_equal-reversed}
 use Rattle.span_rows.proofs.Places.{place_known, place_most, place_tells, group_keys-more}
-use Rattle.span_groups.specs.declared.aggregate.State.{State}
+use Rattle.span_groups.specs.declared.aggregate.AggregateState.{AggregateState}
 use Rattle.span_groups.specs.declared.group.GroupLists.{GroupLists}
 use Rattle.span_groups.specs.StateLists.{Group, groups_in, states_from, IsChangedAt}
 use Rattle.span_groups.specs.States.{AreAdded, AreStatesOf, CanCountOne}
@@ -101,7 +101,7 @@ firsts_by g false old now keys new row is added more same have =
 
 -- ---- the group
 
-module _ (g : Grouping) (row : Row) (keys new : List Row) (states : List State) (step : AreInStep g keys states) (is : new ≡ with_new keys (columns_at g.keys row))
+module _ (g : Grouping) (row : Row) (keys new : List Row) (states : List AggregateState) (step : AreInStep g keys states) (is : new ≡ with_new keys (columns_at g.keys row))
     (at : ℕ) (place : at ≡ place_of keys (columns_at g.keys row)) where
   abbrev width : ℕ
   width = length g.aggregates
@@ -133,8 +133,8 @@ module _ (g : Grouping) (row : Row) (keys new : List Row) (states : List State) 
         let apart : at ≢ length (groups_by g keys states) = λ past. absurd (omega (arith, inside, past, count_in width keys states)) in
         subst (λ (ks : List Row). HasGroupAt g key keys rows (groups_by g ks states) at) (sym same_keys) (has_group g key keys rows (groups_by g keys states) h at among apart)
 
-  module _ (none : contains_row keys key ≡ false) (now : List State) (added : AreAdded g.aggregates states now) where
-    abbrev fresh : List State
+  module _ (none : contains_row keys key ≡ false) (now : List AggregateState) (added : AreAdded g.aggregates states now) where
+    abbrev fresh : List AggregateState
     fresh = drop (length states) now
 
     more_keys : new ≡ keys ++ key ∷ []
@@ -146,7 +146,7 @@ module _ (g : Grouping) (row : Row) (keys new : List Row) (states : List State) 
     pub step_new : AreInStep g new now
     step_new = record {
       whole =
-          ap (λ (l : List State). length l) (sym (added_is g.aggregates states now added))
+          ap (λ (l : List AggregateState). length l) (sym (added_is g.aggregates states now added))
           ∙ added_long width keys states fresh key step.whole added.fresh.long
           ∙ ap (λ (ks : List Row). length ks * width) (sym more_keys);
       one = one_kept g.keys keys new row step.one is;
@@ -160,7 +160,7 @@ module _ (g : Grouping) (row : Row) (keys new : List Row) (states : List State) 
         let x : Group = record { key = key; states = fresh } in
         let old : List Group = groups_by g keys states in
         let made : groups_by g new now ≡ old ++ x ∷ [] =
-        ap (λ (l : List State). groups_in width new l) (sym (added_is g.aggregates states now added))
+        ap (λ (l : List AggregateState). groups_in width new l) (sym (added_is g.aggregates states now added))
         ∙ ap (λ (ks : List Row). groups_in width ks (states ++ fresh)) more_keys
         ∙ added_last width keys states fresh key step.whole added.fresh.long in
         subst (λ (l : List Group). HasGroupAt g key keys rows l at) (sym made)
@@ -168,7 +168,7 @@ module _ (g : Grouping) (row : Row) (keys new : List Row) (states : List State) 
 
 -- ---- its states changed
 
-module _ (g : Grouping) (rows keys : List Row) (states : List State) (h : AreGroupLists g rows keys states) where
+module _ (g : Grouping) (rows keys : List Row) (states : List AggregateState) (h : AreGroupLists g rows keys states) where
   keys_are : keys ≡ group_keys g.keys rows
   keys_are = sym (keys_in (length g.aggregates) keys states) ∙ h.are.keyed
 
@@ -189,8 +189,8 @@ module _ (g : Grouping) (rows keys : List Row) (states : List State) (h : AreGro
     key = has.has_key;
   }
 
-module _ (g : Grouping) (keys : List Row) (old : List State) (at : ℕ) (within : at < length keys) where
-  abbrev pub group_at : List State → Group
+module _ (g : Grouping) (keys : List Row) (old : List AggregateState) (at : ℕ) (within : at < length keys) where
+  abbrev pub group_at : List AggregateState → Group
   group_at states = record { key = get_or keys at []; states = states_from (at * length g.aggregates) (length g.aggregates) states }
 
   is_there : group_at old ≡ get_or (groups_by g keys old) at (group_at old)
@@ -200,7 +200,7 @@ module _ (g : Grouping) (keys : List Row) (old : List State) (at : ℕ) (within 
       → CanCountOne g.aggregates (states_from (at * length g.aggregates) (length g.aggregates) old)
   room_for row rows place few = has_room g row rows (groups_by g keys old) at place (group_at old) is_there few
 
-  module _ (new : List State) (changed : IsChangedAt (at * length g.aggregates) (length g.aggregates) old new) where
+  module _ (new : List AggregateState) (changed : IsChangedAt (at * length g.aggregates) (length g.aggregates) old new) where
     is_changed : groups_by g keys new ≡ set (groups_by g keys old) at (group_at new)
     is_changed = changed_at (length g.aggregates) keys old new at [] within changed
 
@@ -211,7 +211,7 @@ module _ (g : Grouping) (keys : List Row) (old : List State) (at : ℕ) (within 
       are = subst (AreGroupsOf g (rows ++ row ∷ [])) (sym is_changed) (absorbed g row rows (groups_by g keys old) at place (group_at old) (group_at new) is_there refl takes);
     }
 
-    pub states_merged : (key : Row) (before rows next : List Row) (more : List State) → HasGroupAt g key before rows (groups_by g keys old) at
+    pub states_merged : (key : Row) (before rows next : List Row) (more : List AggregateState) → HasGroupAt g key before rows (groups_by g keys old) at
         → ((rs ns : List Row) → AreStatesOf g.aggregates rs (group_at old).states → AreStatesOf g.aggregates ns more → AreStatesOf g.aggregates (rs ++ ns) (group_at new).states)
         → AreStatesOf g.aggregates (rows_with g.keys key next) more → AreWholeGroups g (with_new before key) (rows ++ rows_with g.keys key next) (groups_by g keys new)
     states_merged key before rows next more has takes taken =
@@ -220,7 +220,7 @@ module _ (g : Grouping) (keys : List Row) (old : List State) (at : ℕ) (within 
 
 -- ---- the group of the key of a row is at a place
 
-module _ (g : Grouping) (row : Row) (keys new : List Row) (old mid : List State) (at : ℕ) (step : AreInStep g new mid) (within : at < length new)
+module _ (g : Grouping) (row : Row) (keys new : List Row) (old mid : List AggregateState) (at : ℕ) (step : AreInStep g new mid) (within : at < length new)
     (place : (rows : List Row) → AreWholeGroups g keys rows (groups_by g keys old) → HasGroupAt g (columns_at g.keys row) keys rows (groups_by g new mid) at) where
   abbrev count : ℕ
   count = length g.aggregates
@@ -237,14 +237,14 @@ module _ (g : Grouping) (row : Row) (keys new : List Row) (old mid : List State)
   pub can_count : CanCountRow g keys old → CanCountOne g.aggregates (states_from (at * count) count mid)
   can_count room = room_for g new mid at within row room.rows (its_place room.rows room.are) room.few
 
-  pub taken_at : (now : List State) → IsChangedAt (at * count) count mid now → TakesRow g.aggregates row (states_from (at * count) count mid) (states_from (at * count) count now)
+  pub taken_at : (now : List AggregateState) → IsChangedAt (at * count) count mid now → TakesRow g.aggregates row (states_from (at * count) count mid) (states_from (at * count) count now)
       → (rows : List Row) → AreGroupLists g rows keys old → AreGroupLists g (rows ++ row ∷ []) new now
   taken_at now changed takes rows h = row_taken g new mid at within now changed row rows step.whole (its_place rows h) takes
 
-  pub step_after : (now : List State) → length now ≡ length mid → AreInStep g new now
+  pub step_after : (now : List AggregateState) → length now ≡ length mid → AreInStep g new now
   step_after now same = record { whole = same ∙ step.whole; one = step.one }
 
-  pub merged_at : (now more : List State) → length more ≡ count → IsChangedAt (at * count) (length more) mid now
+  pub merged_at : (now more : List AggregateState) → length more ≡ count → IsChangedAt (at * count) (length more) mid now
       → ((all : List Aggregate) (rs ns : List Row) → AreStatesOf all rs (states_from (at * count) (length more) mid) → AreStatesOf all ns more → AreStatesOf all (rs ++ ns) (states_from (at * count) (length more) now))
       → (rows next : List Row) → AreWholeGroups g keys rows (groups_by g keys old) → AreStatesOf g.aggregates (rows_with g.keys its_key next) more
       → AreWholeGroups g (with_new keys its_key) (rows ++ rows_with g.keys its_key next) (groups_by g new now)
@@ -261,13 +261,13 @@ key_by_first places firsts at first within is =
     get_or-map (columns_at places) (lent_rows firsts) at first.now [] (omega (arith, within, length-map firsts (λ (r : Bor Row). r.now)))
     ∙ ap (columns_at places) (get_or-map (λ (r : Bor Row). r.now) firsts at first first.now within ∙ ap (λ (r : Bor Row). r.now) (sym is))
 
-pub group_by_first : (places : List ℕ) (width : ℕ) (firsts : List (Bor Row)) (states : List State) (at : ℕ) (first : Bor Row) (d : Group) → at < length firsts → first ≡ get_or firsts at first
+pub group_by_first : (places : List ℕ) (width : ℕ) (firsts : List (Bor Row)) (states : List AggregateState) (at : ℕ) (first : Bor Row) (d : Group) → at < length firsts → first ≡ get_or firsts at first
     → get_or (groups_in width (keys_at places (lent_rows firsts)) states) at d ≡ record { key = columns_at places first.now; states = states_from (at * width) width states }
 group_by_first places width firsts states at first d within is =
     group_found width (keys_at places (lent_rows firsts)) states at d [] (omega (arith, within, length-map (lent_rows firsts) (columns_at places), length-map firsts (λ (r : Bor Row). r.now)))
     ∙ ap (λ (k : Row). record { key = k; states = states_from (at * width) width states }) (key_by_first places firsts at first within is)
 
-pub count_by_firsts : (places : List ℕ) (width : ℕ) (firsts : List (Bor Row)) (states : List State) → length (groups_in width (keys_at places (lent_rows firsts)) states) ≡ length firsts
+pub count_by_firsts : (places : List ℕ) (width : ℕ) (firsts : List (Bor Row)) (states : List AggregateState) → length (groups_in width (keys_at places (lent_rows firsts)) states) ≡ length firsts
 count_by_firsts places width firsts states =
     count_in width (keys_at places (lent_rows firsts)) states ∙ length-map (lent_rows firsts) (columns_at places) ∙ length-map firsts (λ (r : Bor Row). r.now)
 
@@ -276,18 +276,18 @@ key_by_place places rows firsts at place row within is there =
     get_or-map (columns_at places) (rows_at rows firsts) at row [] (omega (arith, within, length-map firsts (λ (p : ℕ). get_or rows p [])))
     ∙ ap (columns_at places) (get_or-map (λ (p : ℕ). get_or rows p []) firsts at place row within ∙ ap (λ (p : ℕ). get_or rows p []) (sym is) ∙ sym there)
 
-pub group_by_place : (places : List ℕ) (width : ℕ) (rows : List Row) (firsts : List ℕ) (states : List State) (at place : ℕ) (row : Row) (d : Group) → at < length firsts → place ≡ get_or firsts at place → row ≡ get_or rows place []
+pub group_by_place : (places : List ℕ) (width : ℕ) (rows : List Row) (firsts : List ℕ) (states : List AggregateState) (at place : ℕ) (row : Row) (d : Group) → at < length firsts → place ≡ get_or firsts at place → row ≡ get_or rows place []
     → get_or (groups_in width (keys_at places (rows_at rows firsts)) states) at d ≡ record { key = columns_at places row; states = states_from (at * width) width states }
 group_by_place places width rows firsts states at place row d within is there =
     group_found width (keys_at places (rows_at rows firsts)) states at d [] (omega (arith, within, length-map (rows_at rows firsts) (columns_at places), length-map firsts (λ (p : ℕ). get_or rows p [])))
     ∙ ap (λ (k : Row). record { key = k; states = states_from (at * width) width states }) (key_by_place places rows firsts at place row within is there)
 
-pub count_by_places : (places : List ℕ) (width : ℕ) (rows : List Row) (firsts : List ℕ) (states : List State) → length (groups_in width (keys_at places (rows_at rows firsts)) states) ≡ length firsts
+pub count_by_places : (places : List ℕ) (width : ℕ) (rows : List Row) (firsts : List ℕ) (states : List AggregateState) → length (groups_in width (keys_at places (rows_at rows firsts)) states) ≡ length firsts
 count_by_places places width rows firsts states =
     count_in width (keys_at places (rows_at rows firsts)) states ∙ length-map (rows_at rows firsts) (columns_at places) ∙ length-map firsts (λ (p : ℕ). get_or rows p [])
 
 -- the keys of groups that are whole are those of their lists
-pub lists_of_groups : (g : Grouping) (keys : List Row) (states : List State) (ks rows : List Row) → AreWholeGroups g ks rows (groups_by g keys states) → keys ≡ ks
+pub lists_of_groups : (g : Grouping) (keys : List Row) (states : List AggregateState) (ks rows : List Row) → AreWholeGroups g ks rows (groups_by g keys states) → keys ≡ ks
 lists_of_groups g keys states ks rows h = sym (keys_in (length g.aggregates) keys states) ∙ h.are.keyed
 
 pub lent_at : (rows : List (Bor Row)) (at : ℕ) (row : Bor Row) → at < length rows → row ≡ get_or rows at row → row.now ≡ get_or (lent_rows rows) at row.now
@@ -299,7 +299,7 @@ pub held_whole : (g : Grouping) (all taken : List Row) (x : GroupLists) → Hold
 held_whole g all taken x h =
     h.whole ∙ ap (λ (n : ℕ). n * length g.aggregates) (length-map (rows_at all x.firsts.items) (columns_at g.keys) ∙ length-map x.firsts.items (λ (p : ℕ). get_or all p []))
 
-pub lent_whole : (g : Grouping) (rows : List Row) (firsts : List (Bor Row)) (states : List State) → AreGroupLists g rows (keys_at g.keys (lent_rows firsts)) states → length states ≡ length firsts * length g.aggregates
+pub lent_whole : (g : Grouping) (rows : List Row) (firsts : List (Bor Row)) (states : List AggregateState) → AreGroupLists g rows (keys_at g.keys (lent_rows firsts)) states → length states ≡ length firsts * length g.aggregates
 lent_whole g rows firsts states h =
     h.whole ∙ ap (λ (n : ℕ). n * length g.aggregates) (length-map (lent_rows firsts) (columns_at g.keys) ∙ length-map firsts (λ (r : Bor Row). r.now))
 

@@ -10,7 +10,7 @@ use Rattle.std.proofs.Math.Seq.{get_or-append_seam}
 use Rattle.span_query.specs.declared.query.Grouping.{Grouping}
 use Rattle.span_query.specs.Rows.{Row}
 use Rattle.span_query.specs.Groups.{are_equal, columns_at, distinct, group_keys, rows_with}
-use Rattle.span_groups.specs.declared.aggregate.State.{State}
+use Rattle.span_groups.specs.declared.aggregate.AggregateState.{AggregateState}
 use Rattle.span_groups.specs.StateLists.{Group}
 use Rattle.span_rows.specs.Keys.{contains_row, with_new, place_of, AreApart}
 use Rattle.span_groups.specs.States.{AreStatesOf}
@@ -223,7 +223,7 @@ on_ok_always (Err e) p = tt
 
 -- one group more
 module _ (g : Grouping) (key : Row) (keys rows next : List Row) (groups : List Group) (at : ℕ) (has : HasGroupAt g key keys rows groups at)
-    (was new : Group) (is : was ≡ get_or groups at was) (same : new.key ≡ was.key) (more : List State)
+    (was new : Group) (is : was ≡ get_or groups at was) (same : new.key ≡ was.key) (more : List AggregateState)
     (step : (rs ns : List Row) → AreStatesOf g.aggregates rs was.states → AreStatesOf g.aggregates ns more → AreStatesOf g.aggregates (rs ++ ns) new.states)
     (taken : AreStatesOf g.aggregates (rows_with g.keys key next) more) where
   abbrev pub after : List Row

@@ -25,8 +25,8 @@ use Rattle.span_query.specs.declared.query.Function.TheVariants as function
 use Rattle.span_query.specs.Rows.{Row, OrFault, value_of, append_results, singleton, each}
 use Rattle.span_query.specs.Groups.{int_of, total, without_nulls, lesser, greater}
 use Rattle.span_groups.specs.declared.sum.Sum.{Sum}
-use Rattle.span_groups.specs.declared.aggregate.State.{State}
-use Rattle.span_groups.specs.declared.aggregate.State.TheVariants as state
+use Rattle.span_groups.specs.declared.aggregate.AggregateState.{AggregateState}
+use Rattle.span_groups.specs.declared.aggregate.AggregateState.TheVariants as state
 use Rattle.span_groups.specs.States.{best, better_of, HasCounted, HasTaken, IsStateOf, AreStatesOf}
 use Rattle.span_rows.proofs.Gathering.{concat_map-append}
 
@@ -123,7 +123,7 @@ each-append : {A B : Type 0} (f : A → OrFault B) (xs ys : List A) (vs ws : Lis
 each-append f xs ys vs ws is more =
     concat_map-append (λ x. option_map singleton (f x)) xs ys ∙ ap (λ o. append_results o (each f ys)) is ∙ ap (λ o. append_results (Some vs) o) more
 
-module _ (old more new : State) where
+module _ (old more new : AggregateState) where
   abbrev pub TakesTaken : Type 0
   TakesTaken = (f : Function) (vs ws : List Value) → HasTaken f vs old → HasTaken f ws more → HasTaken f (vs ++ ws) new
 
@@ -184,22 +184,22 @@ greatest_merge o p q is = takes_all_of (state.Greatest o) (state.Greatest p) (st
     takes function.Min vs ws h l = absurd h
 
 -- for the code, from which state each is
-pub merged_by : (old more new : State) (result : Result Bool AllocError) (a b c : State) (d : Bool) → old ≡ a → more ≡ b → new ≡ c → result ≡ Ok d → (IsTrue d → TakesAll a b c)
+pub merged_by : (old more new : AggregateState) (result : Result Bool AllocError) (a b c : AggregateState) (d : Bool) → old ≡ a → more ≡ b → new ≡ c → result ≡ Ok d → (IsTrue d → TakesAll a b c)
     → IfOk result (λ done. IsTrue done → TakesAll old more new)
 merged_by old more new result a b c d first second now gives takes = rw (first, second, now, gives) takes
 
 -- ---- the states of several aggregates, one at a time
 
-module _ (old more : List State) where
+module _ (old more : List AggregateState) where
   -- those before a place have taken what the others there have taken
-  abbrev pub TakesBefore : List State → ℕ → Type 0
-  TakesBefore now at = (all : List Aggregate) (rows next : List Row) → AreStatesOf all rows old → AreStatesOf all next more → (k : ℕ) (a : Aggregate) (s : State)
+  abbrev pub TakesBefore : List AggregateState → ℕ → Type 0
+  TakesBefore now at = (all : List Aggregate) (rows next : List Row) → AreStatesOf all rows old → AreStatesOf all next more → (k : ℕ) (a : Aggregate) (s : AggregateState)
       → slice_get all k ≡ Some a → slice_get now k ≡ Some s → (k < at → IsStateOf a (rows ++ next) s) × (at ≤ k → IsStateOf a rows s)
 
   pub none_before : TakesBefore old 0
   none_before all rows next h l k a s here there = (λ never. absurd (omega arith), λ _. h.each k a s here there)
 
-  pub one_before : (now : List State) (at : ℕ) (was other new : State) → TakesBefore now at → slice_get now at ≡ Some was → slice_get more at ≡ Some other
+  pub one_before : (now : List AggregateState) (at : ℕ) (was other new : AggregateState) → TakesBefore now at → slice_get now at ≡ Some was → slice_get more at ≡ Some other
       → TakesAll was other new → TakesBefore (set now at new) (at + 1)
   one_before now at was other new before there others step all rows next h l k b s found held =
       let within = slice_get_within now at was there in
@@ -208,14 +208,14 @@ module _ (old more : List State) where
         | inl same ↦
             let one : slice_get all at ≡ Some b = sym (ap (slice_get all) same) ∙ found in
             let made : s ≡ new = sym is ∙ ap (λ i. get_or (set now at new) i s) same ∙ get_or-set_same now at new s within in
-            (λ _. subst (λ (t : State). IsStateOf b (rows ++ next) t) (sym made) (step b rows next ((before all rows next h l at b was one there).1 (omega arith)) (l.each at b other one others)), λ never. absurd (omega arith))
+            (λ _. subst (λ (t : AggregateState). IsStateOf b (rows ++ next) t) (sym made) (step b rows next ((before all rows next h l at b was one there).1 (omega arith)) (l.each at b other one others)), λ never. absurd (omega arith))
         | inr apart ↦
             let inside : k < length now = omega (arith, slice_get_within _ k s held, length-set now at new) in
             let kept = before all rows next h l k b s found (slice_get-get_or now k s inside ∙ ap (λ x. Some x) (sym (get_or-set_other now at k new s apart) ∙ is)) in
             (λ less. kept.0 (omega arith), λ past. kept.1 (omega arith))
       ]
 
-  pub all_before : (now : List State) (at : ℕ) → length now ≡ length old → length old ≤ at → TakesBefore now at → (all : List Aggregate) (rows next : List Row) → AreStatesOf all rows old → AreStatesOf all next more → AreStatesOf all (rows ++ next) now
+  pub all_before : (now : List AggregateState) (at : ℕ) → length now ≡ length old → length old ≤ at → TakesBefore now at → (all : List Aggregate) (rows next : List Row) → AreStatesOf all rows old → AreStatesOf all next more → AreStatesOf all (rows ++ next) now
   all_before now at same done before all rows next h l = record {
     long = same ∙ h.long;
     each = λ k a s here there. (before all rows next h l k a s here there).0 (omega (arith, slice_get_within all k a here, h.long));

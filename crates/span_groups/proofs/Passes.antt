@@ -8,7 +8,7 @@ use Rattle.span_expr.specs.declared.cell.Failure.TheVariants as failure
 use Rattle.span_query.specs.declared.query.Grouping.{Grouping}
 use Rattle.span_query.specs.Rows.{Row, Rows, ◌>>=◌, append_results, keep_if, holds, filter_where}
 use Rattle.span_query.specs.Groups.{groups}
-use Rattle.span_groups.specs.declared.aggregate.State.{State}
+use Rattle.span_groups.specs.declared.aggregate.AggregateState.{AggregateState}
 use Rattle.span_groups.specs.declared.group.GroupLists.{GroupLists}
 use Rattle.span_rows.specs.RowPlaces.{rows_at}
 use Rattle.span_rows.specs.Answers.{Gives}
@@ -19,7 +19,7 @@ use Rattle.span_rows.proofs.Gathering.{drop_at, gathered_at, nil-append_results,
 use Rattle.span_groups.proofs.Shown.{groups-fault}
 
 -- before row i, where these are the groups so far
-pub record HavePassed (filter : Option Expr) (g : Grouping) (rows : List Row) (i : ℕ) (keys : List Row) (states : List State) : Type 0 where
+pub record HavePassed (filter : Option Expr) (g : Grouping) (rows : List Row) (i : ℕ) (keys : List Row) (states : List AggregateState) : Type 0 where
   pub kept : List Row
   pub all : filter_where filter rows ≡ append_results (Some kept) (filter_where filter (drop i rows))
   pub are : AreGroupLists g kept keys states
@@ -37,7 +37,7 @@ kept_nil : (filter : Option Expr) → filter_where filter [] ≡ Some []
 kept_nil None = refl
 kept_nil (Some e) = refl
 
-module _ (filter : Option Expr) (g : Grouping) (rows : List Row) (i : ℕ) (keys : List Row) (states : List State) (passed : HavePassed filter g rows i keys states) where
+module _ (filter : Option Expr) (g : Grouping) (rows : List Row) (i : ℕ) (keys : List Row) (states : List AggregateState) (passed : HavePassed filter g rows i keys states) where
   module _ (row : Row) (inside : i < length rows) (is : row ≡ get_or rows i row) where
     next : filter_where filter (drop i rows) ≡ append_results (judged filter row) (filter_where filter (drop (i + 1) rows))
     next = kept_at filter rows i row inside is
@@ -49,7 +49,7 @@ module _ (filter : Option Expr) (g : Grouping) (rows : List Row) (i : ℕ) (keys
       with_it : filter_where filter rows ≡ append_results (Some (passed.kept ++ row ∷ [])) (filter_where filter (drop (i + 1) rows))
       with_it = one_more _ _ _ _ passed.kept (row ∷ []) passed.all next (ap (λ o. o >>= (λ b. Some (keep_if row b))) holds)
 
-      pub pass_keeps : (more : List Row) (new : List State) → ((rows : List Row) → AreGroupLists g rows keys states → AreGroupLists g (rows ++ row ∷ []) more new) → HavePassed filter g rows (i + 1) more new
+      pub pass_keeps : (more : List Row) (new : List AggregateState) → ((rows : List Row) → AreGroupLists g rows keys states → AreGroupLists g (rows ++ row ∷ []) more new) → HavePassed filter g rows (i + 1) more new
       pass_keeps more new takes = record {
         kept = passed.kept ++ row ∷ [];
         all = with_it;
@@ -89,13 +89,13 @@ module _ (filter : Option Expr) (g : Grouping) (rows : List Row) (i : ℕ) (keys
   groups_passed x same have past = record {
     kept = passed.kept;
     those = kept_all past;
-    are = subst (λ (ss : List State). AreGroupLists g passed.kept (keys_at g.keys (rows_at rows x.firsts.items)) ss) (sym same) (subst (λ (ks : List Row). AreGroupLists g passed.kept ks states) (sym have) passed.are);
+    are = subst (λ (ss : List AggregateState). AreGroupLists g passed.kept (keys_at g.keys (rows_at rows x.firsts.items)) ss) (sym same) (subst (λ (ks : List Row). AreGroupLists g passed.kept ks states) (sym have) passed.are);
   }
 
-pub passed_none : (filter : Option Expr) (g : Grouping) (rows keys : List Row) (states : List State) → AreGroupLists g [] keys states → HavePassed filter g rows 0 keys states
+pub passed_none : (filter : Option Expr) (g : Grouping) (rows keys : List Row) (states : List AggregateState) → AreGroupLists g [] keys states → HavePassed filter g rows 0 keys states
 passed_none filter g rows keys states are = record { kept = []; all = sym (nil-append_results (filter_where filter rows)); are = are; few = omega arith }
 
 -- without a condition they are the groups of all rows
-pub rows_passed : (g : Grouping) (rows : List Row) (i : ℕ) (keys : List Row) (states : List State) → HavePassed None g rows i keys states → length rows ≤ i → AreGroupLists g rows keys states
+pub rows_passed : (g : Grouping) (rows : List Row) (i : ℕ) (keys : List Row) (states : List AggregateState) → HavePassed None g rows i keys states → length rows ≤ i → AreGroupLists g rows keys states
 rows_passed g rows i keys states passed past =
     subst (λ (l : List Row). AreGroupLists g l keys states) (same_Some passed.kept rows (sym (kept_all None g rows i keys states passed past))) passed.are

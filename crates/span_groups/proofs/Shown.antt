@@ -15,7 +15,7 @@ use Rattle.span_query.specs.Groups.{are_equal, columns_at, group_keys, rows_with
 use Rattle.span_groups.specs.StateLists.{Group}
 use Rattle.span_rows.specs.Answers.{Gives, Puts}
 use Rattle.span_rows.specs.Keys.{place_of}
-use Rattle.span_groups.specs.declared.aggregate.State.{State}
+use Rattle.span_groups.specs.declared.aggregate.AggregateState.{AggregateState}
 use Rattle.span_groups.specs.States.{AreStatesOf, operand_at}
 use Rattle.span_groups.specs.GroupStates.{keys_of, HasTakenRows, AreGroupsOf}
 use Rattle.span_rows.proofs.Gathering.{concat_map-append, nil-append_results, one_more, one_fails}
@@ -32,12 +32,12 @@ groups-keyed : (g : Grouping) (rows : List Row) (keys : List Row) → keys ≡ g
 groups-keyed g rows keys is = ap (each (group_row g rows)) (sym is)
 
 -- what is made of the key and the states of a group is its row
-pub gives_row : (g : Grouping) (rows : List Row) (x : Group) (r : Result Row Failure) (key : Row) (states : List State) → key ≡ x.key → states ≡ x.states
+pub gives_row : (g : Grouping) (rows : List Row) (x : Group) (r : Result Row Failure) (key : Row) (states : List AggregateState) → key ≡ x.key → states ≡ x.states
     → ((all : List Aggregate) (taken : List Row) → AreStatesOf all taken states → Gives r (each (aggregate taken) all >>= (λ vs. Some (key ++ vs)))) → HasTakenRows g rows x → Gives r (group_row g rows x.key)
 gives_row g rows x r key states same are gives taken =
     let its : List Row = rows_with g.keys x.key rows in
     subst (λ (k : Row). Gives r (each (aggregate its) g.aggregates >>= (λ vs. Some (k ++ vs)))) same
-    (gives g.aggregates its (subst (λ (ss : List State). AreStatesOf g.aggregates its ss) (sym are) taken))
+    (gives g.aggregates its (subst (λ (ss : List AggregateState). AreStatesOf g.aggregates its ss) (sym are) taken))
 
 module _ (g : Grouping) (rows : List Row) where
   abbrev row_of : Group → OrFault (List Row)

@@ -15,8 +15,8 @@ use Rattle.span_query.specs.declared.query.Function.TheVariants as function
 use Rattle.span_query.specs.Rows.{Row, OrFault, value_of, append_results, concat_map, singleton, each}
 use Rattle.span_query.specs.Groups.{int_of, total, without_nulls}
 use Rattle.span_groups.specs.declared.sum.Sum.{Sum}
-use Rattle.span_groups.specs.declared.aggregate.State.{State}
-use Rattle.span_groups.specs.declared.aggregate.State.TheVariants as state
+use Rattle.span_groups.specs.declared.aggregate.AggregateState.{AggregateState}
+use Rattle.span_groups.specs.declared.aggregate.AggregateState.TheVariants as state
 use Rattle.span_groups.specs.States.{HasCounted, HasTaken, IsStateOf}
 use Rattle.span_rows.proofs.Gathering.{concat_map-append}
 
@@ -32,9 +32,9 @@ sum_steps s t v n is values sums function.Sum vs h =
 sum_steps s t v n is values sums function.Min vs h = absurd h
 sum_steps s t v n is values sums function.Max vs h = absurd h
 
-pub sum_takes : (was : State) (s t : Sum) (v : Value) (n : ℤ) → was ≡ state.Sum s → n ≡ int_of v → t.values ≡ s.values + 1 → t.total ≡ s.total +ℤ n
+pub sum_takes : (was : AggregateState) (s t : Sum) (v : Value) (n : ℤ) → was ≡ state.Sum s → n ≡ int_of v → t.values ≡ s.values + 1 → t.total ≡ s.total +ℤ n
     → (f : Function) (vs : List Value) → HasTaken f vs was → HasTaken f (vs ++ v ∷ []) (state.Sum t)
-sum_takes was s t v n is same values sums f vs h = sum_steps s t v n same values sums f vs (subst (λ (x : State). HasTaken f vs x) is h)
+sum_takes was s t v n is same values sums f vs h = sum_steps s t v n same values sums f vs (subst (λ (x : AggregateState). HasTaken f vs x) is h)
 
 -- ---- rows
 
@@ -48,7 +48,7 @@ each-push f xs x ys y is gives =
 without_nulls-push : (vs : List Value) (v : Value) (b : Bool) → is_null v ≡ b → without_nulls (vs ++ v ∷ []) ≡ without_nulls vs ++ cond (not b) (v ∷ []) []
 without_nulls-push vs v b is = filter-append (λ (w : Value). not (is_null w)) vs (v ∷ []) ∙ ap (λ c. without_nulls vs ++ cond (not c) (v ∷ []) []) is
 
-module _ (a : Aggregate) (row : Row) (old new : State) where
+module _ (a : Aggregate) (row : Row) (old new : AggregateState) where
   pub counts_row : a ≡ CountRows → ((n : ℕ) → HasCounted n old → HasCounted (n + 1) new)
       → (rows : List Row) → IsStateOf a rows old → IsStateOf a (rows ++ row ∷ []) new
   counts_row is step rows h =
@@ -68,5 +68,5 @@ module _ (a : Aggregate) (row : Row) (old new : State) where
     passes_null none same rows h =
         let was : IsStateOf (Of f e) rows old = subst (λ (b : Aggregate). IsStateOf b rows old) is h in
         let vs : without_nulls was.0 ≡ without_nulls (was.0 ++ v ∷ []) = sym (without_nulls-push was.0 v true none ∙ append-nil (without_nulls was.0)) in
-        let now : IsStateOf (Of f e) (rows ++ row ∷ []) new = (was.0 ++ v ∷ [], each-push (λ (r : Row). value_of (val r e)) rows row was.0 v was.1 gives, subst (λ (s : State). HasTaken f (without_nulls (was.0 ++ v ∷ [])) s) same (subst (λ (ws : List Value). HasTaken f ws old) vs was.2)) in
+        let now : IsStateOf (Of f e) (rows ++ row ∷ []) new = (was.0 ++ v ∷ [], each-push (λ (r : Row). value_of (val r e)) rows row was.0 v was.1 gives, subst (λ (s : AggregateState). HasTaken f (without_nulls (was.0 ++ v ∷ [])) s) same (subst (λ (ws : List Value). HasTaken f ws old) vs was.2)) in
         subst (λ (b : Aggregate). IsStateOf b (rows ++ row ∷ []) new) (sym is) now

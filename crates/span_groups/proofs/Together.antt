@@ -19,19 +19,19 @@ use Rattle.span_expr.specs.declared.cell.Failure.{Failure}
 use Rattle.span_expr.specs.declared.cell.Failure.TheVariants as failure
 use Rattle.span_rows.specs.Answers.{Gives}
 use Rattle.span_rows.proofs.Gathering.{gathered_at, one_more, one_fails}
-use Rattle.span_groups.specs.declared.aggregate.State.{State}
-use Rattle.span_groups.specs.declared.aggregate.State.TheVariants as state
+use Rattle.span_groups.specs.declared.aggregate.AggregateState.{AggregateState}
+use Rattle.span_groups.specs.declared.aggregate.AggregateState.TheVariants as state
 use Rattle.span_groups.specs.States.{count_of, HasCounted, HasTaken, IsStateOf, AreStatesOf, CanCountOne}
 
 -- ---- how many were counted
 
-has_counted : (n : ℕ) (s : State) → HasCounted n s → count_of s ≡ n
+has_counted : (n : ℕ) (s : AggregateState) → HasCounted n s → count_of s ≡ n
 has_counted n (state.Count m) h = h
 has_counted n (state.Sum s) h = absurd h
 has_counted n (state.Least v) h = absurd h
 has_counted n (state.Greatest v) h = absurd h
 
-taken_count : (f : Function) (vs : List Value) (s : State) → HasTaken f vs s → count_of s ≤ length vs
+taken_count : (f : Function) (vs : List Value) (s : AggregateState) → HasTaken f vs s → count_of s ≤ length vs
 taken_count function.Count vs s h = omega (arith, has_counted (length vs) s h)
 taken_count function.Sum vs (state.Sum s) h = omega (arith, h.0)
 taken_count function.Sum vs (state.Count n) h = absurd h
@@ -63,23 +63,23 @@ pub each-length : {A B : Type 0} (f : A → OrFault B) (xs : List A) (ys : List 
 each-length f [] ys e = let is : [] ≡ ys = cc in ap (λ (l : List _). length l) (sym is)
 each-length f (x ∷ xs) ys e = same_Some_list (each f xs) (f x) ys e (length xs) (λ ws is. each-length f xs ws is)
 
-pub counted_few : (a : Aggregate) (rows : List Row) (s : State) → IsStateOf a rows s → count_of s ≤ length rows
+pub counted_few : (a : Aggregate) (rows : List Row) (s : AggregateState) → IsStateOf a rows s → count_of s ≤ length rows
 counted_few CountRows rows s h = omega (arith, has_counted (length rows) s h)
 counted_few (Of f e) rows s h =
     omega (arith, taken_count f (without_nulls h.0) s h.2, filter-shorter (λ (v : Value). not (is_null v)) h.0, each-length (λ (row : Row). value_of (val row e)) rows h.0 h.1)
 
 -- ---- one more row
 
-module _ (all : List Aggregate) (row : Row) (old : List State) where
+module _ (all : List Aggregate) (row : Row) (old : List AggregateState) where
   -- those before a place have taken the row
-  abbrev pub Takes : List State → ℕ → Type 0
-  Takes now at = (rows : List Row) → AreStatesOf all rows old → (k : ℕ) (a : Aggregate) (s : State) → slice_get all k ≡ Some a → slice_get now k ≡ Some s
+  abbrev pub Takes : List AggregateState → ℕ → Type 0
+  Takes now at = (rows : List Row) → AreStatesOf all rows old → (k : ℕ) (a : Aggregate) (s : AggregateState) → slice_get all k ≡ Some a → slice_get now k ≡ Some s
       → (k < at → IsStateOf a (rows ++ row ∷ []) s) × (at ≤ k → IsStateOf a rows s)
 
   pub takes_none : Takes old 0
   takes_none rows h k a s here there = (λ never. absurd (omega arith), λ _. h.each k a s here there)
 
-  pub takes_one : (now : List State) (at : ℕ) (a : Aggregate) (was new : State) → Takes now at → slice_get all at ≡ Some a → slice_get now at ≡ Some was
+  pub takes_one : (now : List AggregateState) (at : ℕ) (a : Aggregate) (was new : AggregateState) → Takes now at → slice_get all at ≡ Some a → slice_get now at ≡ Some was
       → ((rows : List Row) → IsStateOf a rows was → IsStateOf a (rows ++ row ∷ []) new) → Takes (set now at new) (at + 1)
   takes_one now at a was new h here there step rows are k b s found held =
       let within = slice_get_within now at was there in
@@ -95,12 +95,12 @@ module _ (all : List Aggregate) (row : Row) (old : List State) where
             (λ less. before.0 (omega arith), λ more. before.1 (omega arith))
       ]
 
-  pub takes_all : (now : List State) (at : ℕ) → length now ≡ length old → Takes now at → (rows : List Row) → (h : AreStatesOf all rows old) → length all ≤ at
+  pub takes_all : (now : List AggregateState) (at : ℕ) → length now ≡ length old → Takes now at → (rows : List Row) → (h : AreStatesOf all rows old) → length all ≤ at
       → AreStatesOf all (rows ++ row ∷ []) now
   takes_all now at same takes rows h all_done =
       record { long = same ∙ h.long; each = λ k a s here there. (takes rows h k a s here there).0 (omega (arith, slice_get_within all k a here)) }
 
-  pub room_left : (now : List State) (at : ℕ) (a : Aggregate) (s : State) → CanCountOne all old → Takes now at → slice_get all at ≡ Some a → slice_get now at ≡ Some s → count_of s + 1 < 2 ^ 64
+  pub room_left : (now : List AggregateState) (at : ℕ) (a : Aggregate) (s : AggregateState) → CanCountOne all old → Takes now at → slice_get all at ≡ Some a → slice_get now at ≡ Some s → count_of s + 1 < 2 ^ 64
   room_left now at a s room takes here there = omega (arith, room.few, counted_few a room.rows s ((takes room.rows room.are at a s here there).1 (omega arith)))
 
 -- ---- one more aggregate
@@ -112,7 +112,7 @@ module _ {A : Type 0} (xs : List A) (x : A) (k : ℕ) (y : A) (found : slice_get
   is_last : k ≡ length xs → y ≡ x
   is_last e = sym (get_or_from_slice_get (xs ++ x ∷ []) k y y found) ∙ ap (λ i. get_or (xs ++ x ∷ []) i y) e ∙ get_or-append_seam xs x [] y
 
-pub states_more : (all : List Aggregate) (rows : List Row) (states : List State) (a : Aggregate) (s : State) → AreStatesOf all rows states → IsStateOf a rows s → AreStatesOf (all ++ a ∷ []) rows (states ++ s ∷ [])
+pub states_more : (all : List Aggregate) (rows : List Row) (states : List AggregateState) (a : Aggregate) (s : AggregateState) → AreStatesOf all rows states → IsStateOf a rows s → AreStatesOf (all ++ a ∷ []) rows (states ++ s ∷ [])
 states_more all rows states a s h is = record {
   long = omega (arith, h.long, length-append states (s ∷ []), length-append all (a ∷ []));
   each = λ k b t found held. elim (cases_eq k (length all)) [
@@ -126,7 +126,7 @@ states_more all rows states a s h is = record {
   ];
 }
 
-pub new_more : (all : List Aggregate) (states : List State) (i : ℕ) (a : Aggregate) (s : State) → i < length all → a ≡ get_or all i a → AreStatesOf (take i all) [] states → IsStateOf a [] s → AreStatesOf (take (i + 1) all) [] (states ++ s ∷ [])
+pub new_more : (all : List Aggregate) (states : List AggregateState) (i : ℕ) (a : Aggregate) (s : AggregateState) → i < length all → a ≡ get_or all i a → AreStatesOf (take i all) [] states → IsStateOf a [] s → AreStatesOf (take (i + 1) all) [] (states ++ s ∷ [])
 new_more all states i a s inside at h is =
     let front : take i all ++ a ∷ [] ≡ take (i + 1) all = sym (take_more all i a inside ∙ ap (λ (b : Aggregate). take i all ++ b ∷ []) (sym at)) in
     subst (λ (xs : List Aggregate). AreStatesOf xs [] (states ++ s ∷ [])) front (states_more (take i all) [] states a s h is)
@@ -139,9 +139,9 @@ found_at xs i inside = elim (slice_get_cases xs i).1 [
   | inr past ↦ absurd (omega (arith, past.0))
 ]
 
-module _ (key : Row) (all : List Aggregate) (rows : List Row) (states : List State) (are : AreStatesOf all rows states) (i : ℕ) (out : Row)
+module _ (key : Row) (all : List Aggregate) (rows : List Row) (states : List AggregateState) (are : AreStatesOf all rows states) (i : ℕ) (out : Row)
     (so_far : append_results (Some key) (each (aggregate rows) all) ≡ append_results (Some out) (each (aggregate rows) (drop i all))) where
-  module _ (s : State) (inside : i < length states) (at : s ≡ get_or states i s) where
+  module _ (s : AggregateState) (inside : i < length states) (at : s ≡ get_or states i s) where
     within : i < length all
     within = omega (arith, are.long)
 

@@ -6,7 +6,7 @@ use Rattle.span_query.specs.declared.query.Grouping.{Grouping}
 use Rattle.span_query.specs.Rows.{Row, filter_where}
 use Rattle.span_query.specs.Groups.{group_keys, rows_with, columns_at}
 use Rattle.span_rows.specs.RowPlaces.{rows_at}
-use Rattle.span_groups.specs.declared.aggregate.State.{State}
+use Rattle.span_groups.specs.declared.aggregate.AggregateState.{AggregateState}
 use Rattle.span_groups.specs.declared.group.GroupLists.{GroupLists}
 use Rattle.span_groups.specs.StateLists.{Group, groups_in}
 use Rattle.span_groups.specs.States.{AreStatesOf}
@@ -28,11 +28,11 @@ abbrev pub AreGroupsOf : Grouping → List Row → List Group → Type 0
 AreGroupsOf g rows groups = AreGroups g (group_keys g.keys rows) rows groups
 
 -- the groups that have these keys, and the states of their aggregates in one list
-abbrev pub groups_by : Grouping → List Row → List State → List Group
+abbrev pub groups_by : Grouping → List Row → List AggregateState → List Group
 groups_by g keys states = groups_in (length g.aggregates) keys states
 
 -- the keys and the states of the groups of these rows
-pub record AreGroupLists (g : Grouping) (rows keys : List Row) (states : List State) : Type 0 where
+pub record AreGroupLists (g : Grouping) (rows keys : List Row) (states : List AggregateState) : Type 0 where
   pub whole : length states ≡ length keys * length g.aggregates
   pub are : AreGroupsOf g rows (groups_by g keys states)
 
@@ -49,7 +49,7 @@ abbrev pub HoldGroups : Grouping → List Row → List Row → GroupLists → Ty
 HoldGroups g all rows x = AreGroupLists g rows (keys_at g.keys (rows_at all x.firsts.items)) x.states.items
 
 -- there are states for each of the keys, of which there is one where there are no key columns
-pub record AreInStep (g : Grouping) (keys : List Row) (states : List State) : Type 0 where
+pub record AreInStep (g : Grouping) (keys : List Row) (states : List AggregateState) : Type 0 where
   pub whole : length states ≡ length keys * length g.aggregates
   pub one : g.keys ≡ [] → keys ≡ [] ∷ []
 
@@ -60,7 +60,7 @@ pub record AreGroupsWhere (filter : Option Expr) (g : Grouping) (rows : List Row
   pub are : HoldGroups g rows kept x
 
 -- the number of rows taken is so small that one more can be counted
-pub record CanCountRow (g : Grouping) (keys : List Row) (states : List State) : Type 0 where
+pub record CanCountRow (g : Grouping) (keys : List Row) (states : List AggregateState) : Type 0 where
   pub rows : List Row
   pub are : AreGroupLists g rows keys states
   pub few : length rows + 1 < 2 ^ 64

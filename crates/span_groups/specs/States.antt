@@ -10,11 +10,11 @@ use Rattle.span_query.specs.declared.query.Function.{Function}
 use Rattle.span_query.specs.declared.query.Function.TheVariants.{Count, Sum, Min, Max}
 use Rattle.span_query.specs.Rows.{Row, OrFault, value_of}
 use Rattle.span_query.specs.Groups.{lesser, greater, total, operands, without_nulls}
-use Rattle.span_groups.specs.declared.aggregate.State.{State}
-use Rattle.span_groups.specs.declared.aggregate.State.TheVariants as state
+use Rattle.span_groups.specs.declared.aggregate.AggregateState.{AggregateState}
+use Rattle.span_groups.specs.declared.aggregate.AggregateState.TheVariants as state
 
 -- the number of values that it has counted
-abbrev pub count_of : State → ℕ
+abbrev pub count_of : AggregateState → ℕ
 count_of (state.Count n) = n
 count_of (state.Sum s) = s.values
 count_of s = 0
@@ -39,12 +39,12 @@ or_null None = Null
 or_null (Some v) = v
 
 -- the state of a count that has come to this number
-abbrev pub HasCounted : ℕ → State → Type 0
+abbrev pub HasCounted : ℕ → AggregateState → Type 0
 HasCounted n (state.Count m) = m ≡ n
 HasCounted n s = ⊥
 
 -- the state of a function that has taken these values, none of which is NULL
-abbrev pub HasTaken : Function → List Value → State → Type 0
+abbrev pub HasTaken : Function → List Value → AggregateState → Type 0
 HasTaken Count vs s = HasCounted (length vs) s
 HasTaken Sum vs (state.Sum s) = (s.values ≡ length vs) × (s.total ≡ total vs)
 HasTaken Min vs (state.Least v) = v ≡ best lesser vs
@@ -52,7 +52,7 @@ HasTaken Max vs (state.Greatest v) = v ≡ best greater vs
 HasTaken f vs s = ⊥
 
 -- the state of an aggregate that has taken these rows
-abbrev pub IsStateOf : Aggregate → List Row → State → Type 0
+abbrev pub IsStateOf : Aggregate → List Row → AggregateState → Type 0
 IsStateOf CountRows rows s = HasCounted (length rows) s
 IsStateOf (Of f e) rows s = (vs : List Value) × (operands e rows ≡ Some vs) × HasTaken f (without_nulls vs) s
 
@@ -62,18 +62,18 @@ operand_at row CountRows = Some Null
 operand_at row (Of f e) = value_of (val row e)
 
 -- the states of aggregates that have taken these rows
-pub record AreStatesOf (aggregates : List Aggregate) (rows : List Row) (states : List State) : Type 0 where
+pub record AreStatesOf (aggregates : List Aggregate) (rows : List Row) (states : List AggregateState) : Type 0 where
   pub long : length states ≡ length aggregates
-  pub each : (k : ℕ) (a : Aggregate) (s : State) → slice_get aggregates k ≡ Some a → slice_get states k ≡ Some s
+  pub each : (k : ℕ) (a : Aggregate) (s : AggregateState) → slice_get aggregates k ≡ Some a → slice_get states k ≡ Some s
       → IsStateOf a rows s
 
 -- the number of rows taken is so small that one more can be counted
-pub record CanCountOne (aggregates : List Aggregate) (states : List State) : Type 0 where
+pub record CanCountOne (aggregates : List Aggregate) (states : List AggregateState) : Type 0 where
   pub rows : List Row
   pub are : AreStatesOf aggregates rows states
   pub few : length rows + 1 < 2 ^ 64
 
 -- the states of one more group, of no rows, after the others
-pub record AreAdded (aggregates : List Aggregate) (old new : List State) : Type 0 where
+pub record AreAdded (aggregates : List Aggregate) (old new : List AggregateState) : Type 0 where
   pub before : take (length old) new ≡ old
   pub fresh : AreStatesOf aggregates [] (drop (length old) new)

@@ -124,7 +124,7 @@ fn add_count(count: &mut u64, more: u64) -> bool
 
 /// What is known of an aggregate after some rows.
 #[derive(Debug, Drop)]
-pub(crate) enum State {
+pub(crate) enum AggregateState {
     /// How many rows, or how many values.
     Count(u64),
     Sum(Sum),
@@ -134,17 +134,17 @@ pub(crate) enum State {
     Greatest(Option<Value>),
 }
 
-impl State {
+impl AggregateState {
     /// Of no rows.
-    pub(crate) fn new(aggregate: &Aggregate) -> State
+    pub(crate) fn new(aggregate: &Aggregate) -> AggregateState
         ensures { IsStateOf aggregate.now [] result }
     {
         match aggregate {
-            Aggregate::CountRows => State::Count(0),
-            Aggregate::Of(Function::Count, _) => State::Count(0),
-            Aggregate::Of(Function::Sum, _) => State::Sum(Sum::new()),
-            Aggregate::Of(Function::Min, _) => State::Least(None),
-            Aggregate::Of(Function::Max, _) => State::Greatest(None),
+            Aggregate::CountRows => AggregateState::Count(0),
+            Aggregate::Of(Function::Count, _) => AggregateState::Count(0),
+            Aggregate::Of(Function::Sum, _) => AggregateState::Sum(Sum::new()),
+            Aggregate::Of(Function::Min, _) => AggregateState::Least(None),
+            Aggregate::Of(Function::Max, _) => AggregateState::Greatest(None),
         }
     }
 
@@ -153,7 +153,7 @@ impl State {
         requires { count_of self.old + 1 < 2 ^ 64 }
         ensures { (n : ℕ) → HasCounted n self.old → HasCounted (n + 1) self.new }
     {
-        if let State::Count(count) = self {
+        if let AggregateState::Count(count) = self {
             *count += 1;
         }
     }
@@ -167,15 +167,15 @@ impl State {
             → HasTaken f (vs ++ owned_value value.entry ∷ []) self.new) }
     {
         match self {
-            State::Count(count) => *count += 1,
-            State::Sum(sum) => sum.add(int_of(&value)),
-            State::Least(best) => {
+            AggregateState::Count(count) => *count += 1,
+            AggregateState::Sum(sum) => sum.add(int_of(&value)),
+            AggregateState::Least(best) => {
                 if !is_no_less(&value, best) {
                     let value = value.into_value(alloc)?;
                     *best = Some(lesser(best.take(), value));
                 }
             }
-            State::Greatest(best) => {
+            AggregateState::Greatest(best) => {
                 if !is_no_greater(&value, best) {
                     let value = value.into_value(alloc)?;
                     *best = Some(greater(best.take(), value));
@@ -213,7 +213,7 @@ impl State {
 
     /// Takes what another state of the same aggregate has taken, after its own. False where a count does not fit in 64 bits, or the other
     /// state is of another kind: what it has taken then is not known.
-    pub(crate) fn merge(&mut self, alloc: Global, more: &State) -> Result<bool, AllocError>
+    pub(crate) fn merge(&mut self, alloc: Global, more: &AggregateState) -> Result<bool, AllocError>
         ensures { IfOk result
             (λ done.
             IsTrue done
@@ -223,13 +223,13 @@ impl State {
             → IsStateOf a (rows ++ next) self.new) }
     {
         match (self, more) {
-            (State::Count(count), State::Count(n)) => Ok(add_count(count, *n)),
-            (State::Sum(sum), State::Sum(next)) => Ok(sum.merge(next)),
-            (State::Least(best), State::Least(next)) => {
+            (AggregateState::Count(count), AggregateState::Count(n)) => Ok(add_count(count, *n)),
+            (AggregateState::Sum(sum), AggregateState::Sum(next)) => Ok(sum.merge(next)),
+            (AggregateState::Least(best), AggregateState::Least(next)) => {
                 keep_lesser(alloc, best, next)?;
                 Ok(true)
             }
-            (State::Greatest(best), State::Greatest(next)) => {
+            (AggregateState::Greatest(best), AggregateState::Greatest(next)) => {
                 keep_greater(alloc, best, next)?;
                 Ok(true)
             }
@@ -243,10 +243,10 @@ impl State {
         ensures rows { (n : ℕ) → HasCounted n self.now → Gives result (value_of (number (pos n))) }
     {
         match self {
-            State::Count(count) => number(i128::from(*count)),
-            State::Sum(sum) => sum.outcome(),
-            State::Least(best) => Ok(copy_or_null(alloc, best)?),
-            State::Greatest(best) => Ok(copy_or_null(alloc, best)?),
+            AggregateState::Count(count) => number(i128::from(*count)),
+            AggregateState::Sum(sum) => sum.outcome(),
+            AggregateState::Least(best) => Ok(copy_or_null(alloc, best)?),
+            AggregateState::Greatest(best) => Ok(copy_or_null(alloc, best)?),
         }
     }
 

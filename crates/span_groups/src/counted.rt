@@ -3,7 +3,7 @@ ghost use Rattle.std.specs.Prelude.{None, IfOk, IfSome};
 ghost use Rattle.span_groups.specs.GroupStates.{AreGroupsWhere};
 ghost use Rattle.span_groups.specs.States.{AreStatesOf};
 
-use super::aggregate::State;
+use super::aggregate::AggregateState;
 use super::group::GroupLists;
 use span_query::query::{Aggregate, Grouping};
 use span_rows::row_list::RowList;
@@ -15,7 +15,7 @@ fn counted_states(
     alloc: Global,
     aggregates: &[Aggregate],
     rows: &RowList,
-) -> Result<Option<Vec<State>>, AllocError>
+) -> Result<Option<Vec<AggregateState>>, AllocError>
     ensures { IfOk result (λ found. IfSome found (λ states. AreStatesOf aggregates.now rows.now states.items)) }
 {
     let mut states = Vec::with_capacity(alloc, aggregates.len())?;
@@ -23,7 +23,7 @@ fn counted_states(
         let Aggregate::CountRows = aggregate else {
             return Ok(None);
         };
-        states.push(State::Count(rows.len() as u64))?;
+        states.push(AggregateState::Count(rows.len() as u64))?;
     }
     Ok(Some(states))
 }

@@ -14,7 +14,7 @@ ghost use Rattle.span_groups.specs.GroupStates.{keys_at, groups_by, AreGroupsOf,
 ghost use Rattle.span_groups.specs.MergedGroups.{AreWholeGroups, HasGroupAt};
 ghost use Rattle.span_groups.specs.States.{operand_at};
 
-use super::aggregate::State;
+use super::aggregate::AggregateState;
 use super::counted::counted_group;
 use super::states::{add_states, put_row, states_at, take_all};
 use indexmap::IndexSet;
@@ -33,7 +33,7 @@ pub(crate) struct GroupLists {
     /// For each group the place of its first row. Where there are no key columns, the one group has place 0 though there may be no row.
     pub(crate) firsts: Vec<usize>,
     /// For each group the states of all the aggregates.
-    pub(crate) states: Vec<State>,
+    pub(crate) states: Vec<AggregateState>,
 }
 
 /// The place of the key of a row among the keys of the index, to which it is added where it was not there, and whether it was added.
@@ -59,7 +59,7 @@ fn place_of_row<'a>(
 pub(crate) fn group_of<'a>(
     grouping: &'a Grouping,
     index: &mut IndexSet<LentKey<'a>>,
-    states: &mut Vec<State>,
+    states: &mut Vec<AggregateState>,
     row: &'a [Value],
 ) -> Result<(usize, bool), AllocError>
     requires { AreInStep grouping.now index.old.keys states.old.items }
@@ -85,7 +85,7 @@ pub(crate) fn take_row<'a>(
     alloc: Global,
     grouping: &'a Grouping,
     index: &mut IndexSet<LentKey<'a>>,
-    states: &mut Vec<State>,
+    states: &mut Vec<AggregateState>,
     row: &'a [Value],
 ) -> Result<bool, Failure>
     requires { CanCountRow grouping.now index.old.keys states.old.items }
@@ -208,7 +208,7 @@ pub(crate) fn rows_of(
     places: &[usize],
     width: usize,
     firsts: &[&[Value]],
-    states: &[State],
+    states: &[AggregateState],
 ) -> Result<RowList, Failure>
     requires { length states.now ≡ length firsts.now * width }
     ensures { (g : Grouping) (rows : List Row)

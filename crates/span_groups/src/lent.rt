@@ -8,7 +8,7 @@ ghost use Rattle.span_rows.specs.LentRows.{lent_rows};
 ghost use Rattle.span_groups.specs.GroupStates.{keys_at, AreGroupLists, CanCountRow, HaveKeys};
 ghost use Rattle.span_groups.specs.States.{operand_at};
 
-use super::aggregate::State;
+use super::aggregate::AggregateState;
 use super::group::{first_index, push_if, rows_of, take_row};
 use super::states::add_states;
 use indexmap::IndexSet;
@@ -25,7 +25,7 @@ pub(crate) struct LentGroups<'a> {
     /// For each group its first row. Where there are no key columns, that of the one group is one of no values.
     pub(crate) firsts: Vec<&'a [Value]>,
     /// For each group the states of all the aggregates.
-    pub(crate) states: Vec<State>,
+    pub(crate) states: Vec<AggregateState>,
 }
 
 /// The groups of no rows: none, or the one group where there are no key columns.

@@ -9,7 +9,7 @@ ghost use Rattle.span_groups.specs.MergedGroups.{AreWholeGroups};
 ghost use Rattle.span_groups.specs.Parts.{all_rows};
 ghost use Rattle.span_groups.specs.States.{AreStatesOf};
 
-use super::aggregate::State;
+use super::aggregate::AggregateState;
 use super::group::{GroupLists, first_index, group_of, push_if, row_or_none};
 use super::lent::{LentGroups, no_lent_groups};
 use super::part_rows::PartRows;
@@ -28,7 +28,7 @@ fn merge_group<'a>(
     index: &mut IndexSet<LentKey<'a>>,
     groups: &mut LentGroups<'a>,
     row: &'a [Value],
-    more: &[State],
+    more: &[AggregateState],
 ) -> Result<bool, AllocError>
     requires step { AreInStep grouping.now index.old.keys groups.old.states.items }
     requires wide { length more.now ≡ length grouping.now.aggregates }

@@ -8,7 +8,7 @@ ghost use Rattle.span_rows.specs.Answers.{Puts};
 ghost use Rattle.span_groups.specs.StateLists.{states_from, IsChangedAt};
 ghost use Rattle.span_groups.specs.States.{AreAdded, AreStatesOf, CanCountOne, operand_at};
 
-use super::aggregate::State;
+use super::aggregate::AggregateState;
 use span_expr::cell::Failure;
 use span_query::query::Aggregate;
 use span_rows::columns::put_columns;
@@ -19,12 +19,12 @@ use std::alloc::{AllocError, Global};
 /// Adds the states of one more group, of no rows. An error leaves some of them added.
 pub(crate) fn add_states(
     aggregates: &[Aggregate],
-    states: &mut Vec<State>,
+    states: &mut Vec<AggregateState>,
 ) -> Result<(), AllocError>
     ensures { OnOk result (AreAdded aggregates.now states.old.items states.new.items) }
 {
     for aggregate in aggregates {
-        states.push(State::new(aggregate))?;
+        states.push(AggregateState::new(aggregate))?;
     }
     Ok(())
 }
@@ -33,7 +33,7 @@ pub(crate) fn add_states(
 pub(crate) fn take_all(
     alloc: Global,
     aggregates: &[Aggregate],
-    states: &mut Vec<State>,
+    states: &mut Vec<AggregateState>,
     start: usize,
     row: &[Value],
 ) -> Result<(), Failure>
@@ -56,9 +56,9 @@ pub(crate) fn take_all(
 /// together: what they have taken then is not known.
 pub(crate) fn merge_all(
     alloc: Global,
-    states: &mut Vec<State>,
+    states: &mut Vec<AggregateState>,
     start: usize,
-    more: &[State],
+    more: &[AggregateState],
 ) -> Result<bool, AllocError>
     requires { start + length more.now ≤ length states.old.items }
     ensures merged { IfOk result
@@ -79,7 +79,7 @@ pub(crate) fn merge_all(
 }
 
 /// The states of the group at a place.
-pub(crate) fn states_at(states: &[State], at: usize, width: usize) -> &[State]
+pub(crate) fn states_at(states: &[AggregateState], at: usize, width: usize) -> &[AggregateState]
     requires { at * width + width ≤ length states.now }
     ensures { result.now ≡ states_from (at * width) width states.now }
 {
@@ -92,7 +92,7 @@ pub(crate) fn put_row(
     alloc: Global,
     places: &[usize],
     first: &[Value],
-    states: &[State],
+    states: &[AggregateState],
     values: &mut Vec<Value>,
 ) -> Result<(), Failure>
     ensures { (aggregates : List Aggregate) (rows : List Row)

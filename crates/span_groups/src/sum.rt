@@ -74,7 +74,7 @@ impl Sum {
 pub(crate) fn number(exact: i128) -> Result<Value, Failure>
     ensures { Gives result (value_of (operators.number exact)) }
 {
-    if exact >= -9223372036854775808 && exact <= 9223372036854775807 {
+    if exact >= i64::MIN as i128 && exact <= i64::MAX as i128 {
         Ok(Value::Int(exact as i64))
     } else {
         Err(Failure::Fault)

@@ -5,8 +5,8 @@ ghost use Rattle.span_keycode.specs.Order.{byte_order};
 
 use std::cmp::Ordering;
 
-// The number that eight bytes from a place on spell, the highest first.
-fn word_at(bytes: &[u8], at: usize) -> u64
+/// The number that eight bytes from a place on spell, the highest first.
+pub fn word_at(bytes: &[u8], at: usize) -> u64
     requires { at + 8 ≤ length bytes.now }
     ensures { to_be_bytes w64 result ≡ take 8 (drop at bytes.now) }
 {

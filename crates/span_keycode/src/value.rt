@@ -94,13 +94,14 @@ fn first_eight(rest: &[u8], desc: bool) -> [u8; 8]
     [a, b, c, d, e, f, g, h]
 }
 
-fn to_signed(number: u64) -> i64
-    ensures { to_unsigned result ≡ number }
+/// The number of 64 bits whose order among all numbers is that of a word among all words.
+pub fn to_signed(word: u64) -> i64
+    ensures { to_unsigned result ≡ word }
 {
-    if number >= 1 << 63 {
-        (number - (1 << 63)) as i64
+    if word >= 1 << 63 {
+        (word - (1 << 63)) as i64
     } else {
-        number as i64 - i64::MAX - 1
+        word as i64 - i64::MAX - 1
     }
 }
 

@@ -12,7 +12,7 @@ use Rattle.span_keytree.specs.Trees.{Tree, Fork, root_of, IsInCells, one_at, cou
 use Rattle.span_arena.specs.Cells.{cell_at, with_links}
 use Rattle.span_keytree.specs.Effects.{links_with}
 use Rattle.span_keytree.specs.Items.{entry, items, holders}
-use Rattle.span_keytree.specs.Entries.{Entry}
+use Rattle.span_keytree.specs.Entries.{KeyEntry}
 use Rattle.span_keytree.specs.Nexts.{Nexts, next_of}
 use Rattle.span_keytree.specs.Puts.{tree_at, IsTree}
 use Rattle.span_keywalk.specs.Walks.{walked}
@@ -40,7 +40,7 @@ module _ (f : ℕ → Cell) (g : ℕ → Option ℕ) where
       let e : suc a + b ≡ suc (a + b) = omega arith in
       let whole : walked f g (suc a + b) (Some i) None ≡ entry (f i).key i ∷ walked f g (a + b) (g i) None = ap (λ (m : ℕ). walked f g m (Some i) None) e in
       let rest : length (walked f g (a + b) (g i) None) ≡ a + b = (let l = ap length whole in omega (arith, full)) in
-      whole ∙ ap (λ (xs : List Entry). entry (f i).key i ∷ xs) (run_split a b (g i) rest)
+      whole ∙ ap (λ (xs : List KeyEntry). entry (f i).key i ∷ xs) (run_split a b (g i) rest)
 
   after_none : (n : ℕ) → after_cells g n None ≡ None
   after_none zero = refl
@@ -56,7 +56,7 @@ module _ (f : ℕ → Cell) (g : ℕ → Option ℕ) where
 run_keys : (f h : ℕ → Cell) (g : ℕ → Option ℕ) (n : ℕ) (at : Option ℕ) → ((i : ℕ) → (h i).key ≡ (f i).key) → walked h g n at None ≡ walked f g n at None
 run_keys f h g zero at same = refl
 run_keys f h g (suc n) None same = refl
-run_keys f h g (suc n) (Some i) same = ap (λ (k : List ℕ). entry k i ∷ walked h g n (g i) None) (same i) ∙ ap (λ (xs : List Entry). entry (f i).key i ∷ xs) (run_keys f h g n (g i) same)
+run_keys f h g (suc n) (Some i) same = ap (λ (k : List ℕ). entry k i ∷ walked h g n (g i) None) (same i) ∙ ap (λ (xs : List KeyEntry). entry (f i).key i ∷ xs) (run_keys f h g n (g i) same)
 
 -- ---- numbers of digits
 
@@ -286,8 +286,8 @@ module _ (old mid far : List Cell) (ns : Nexts) (low high : ℕ) (at : Option �
 
   entries_now : items (Fork (tree_at mid left.levels left.root) cell (cell_at old cell).key (balance_of left.levels right.levels) (tree_at far right.levels right.root)) ≡ run_of old ns (low + suc high) at
   entries_now =
-      ap (λ (xs : List Entry). xs ++ entry (cell_at old cell).key cell ∷ items (tree_at far right.levels right.root)) l.entries
-      ∙ ap (λ (ys : List Entry). run_of old ns low at ++ entry (cell_at old cell).key cell ∷ ys) (r.entries ∙ same_run)
+      ap (λ (xs : List KeyEntry). xs ++ entry (cell_at old cell).key cell ∷ items (tree_at far right.levels right.root)) l.entries
+      ∙ ap (λ (ys : List KeyEntry). run_of old ns low at ++ entry (cell_at old cell).key cell ∷ ys) (r.entries ∙ same_run)
       ∙ sym cells_is
 
   keys_now : (i : ℕ) → (cell_at new i).key ≡ (cell_at old i).key

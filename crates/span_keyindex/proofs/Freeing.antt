@@ -9,7 +9,7 @@ use Rattle.std.proofs.lemmas.Bool.Decides.{nat_tests}
 use Rattle.span_arena.specs.declared.version.Version.{Version}
 use Rattle.span_arena.specs.Cells.{blank}
 use Rattle.span_arena.specs.Content.{Content, IsChain, is_unused, without_chain}
-use Rattle.span_keytree.specs.Entries.{Entry}
+use Rattle.span_keytree.specs.Entries.{KeyEntry}
 use Rattle.span_keytree.specs.Items.{holders}
 use Rattle.span_keytree.specs.Arenas.{one_if_chain, IsArenaOf, in_use, IsWithoutUnused}
 use Rattle.span_keyindex.specs.Removals.{KeepsCells}
@@ -17,7 +17,7 @@ use Rattle.span_keyindex.proofs.Holders.{one_of, one_here, one_elsewhere, holder
 use Rattle.span_keytree.proofs.Held.{is_some_chain}
 
 -- the number is that of a chain with no version and nothing prepared, of one of these keys
-abbrev pub is_gone : Content → List Entry → ℕ → Bool
+abbrev pub is_gone : Content → List KeyEntry → ℕ → Bool
 is_gone a es c = is_unused a c && nat_lt 0 (holders c es)
 
 abbrev pub unless : {A : Type 0} → Bool → Option A → Option A
@@ -25,7 +25,7 @@ unless true o = None
 unless false o = o
 
 -- the chains of these keys that were not in use are none any more
-pub record IsFreed (old new : Content) (done : List Entry) : Type 0 where
+pub record IsFreed (old new : Content) (done : List KeyEntry) : Type 0 where
   pub chains : (c : ℕ) → get_or new.chains c None ≡ unless (is_gone old done c) (get_or old.chains c None)
   pub numbers : length new.chains ≡ length old.chains
   pub others : new ≡ record old { chains = new.chains; cells = new.cells }
@@ -37,7 +37,7 @@ none_there xs c = elim (cases_lt c (length xs)) [
   | inr past ↦ (let long : length (set xs c None) ≤ c = omega (arith, length-set xs c None) in get_or-eq_default (set xs c None) None long)
 ]
 
-module _ (es gone rest : List Entry) (e : Entry) (a b : Content) (own : IsArenaOf es a) (parts : es ≡ gone ++ e ∷ rest) (freed : IsFreed a b gone) where
+module _ (es gone rest : List KeyEntry) (e : KeyEntry) (a b : Content) (own : IsArenaOf es a) (parts : es ≡ gone ++ e ∷ rest) (freed : IsFreed a b gone) where
   held_is : (c : ℕ) → holders c es ≡ holders c gone + (one_of c e + holders c rest)
   held_is c = ap (holders c) parts ∙ holders-append c gone (e ∷ rest)
 
@@ -108,7 +108,7 @@ freed_cells a b cell unused keeps = record {
   same_length = length-set b.cells cell blank ∙ keeps.same_length;
 }
 
-pub without_unused : (es : List Entry) (a b : Content) → IsArenaOf es a → IsFreed a b es → IsWithoutUnused a b
+pub without_unused : (es : List KeyEntry) (a b : Content) → IsArenaOf es a → IsFreed a b es → IsWithoutUnused a b
 without_unused es a b own freed = record {
   chains = λ c. freed.chains c ∙ whole (is_unused a c) (holders c es) (get_or a.chains c None) (own.each c);
   numbers = freed.numbers;
@@ -121,7 +121,7 @@ without_unused es a b own freed = record {
     whole true n None is = rw is refl
     whole true n (Some vs) is = rw is refl
 
-pub arena_of_used : (es : List Entry) (a b : Content) → IsArenaOf es a → IsWithoutUnused a b → IsArenaOf (in_use a es) b
+pub arena_of_used : (es : List KeyEntry) (a b : Content) → IsArenaOf es a → IsWithoutUnused a b → IsArenaOf (in_use a es) b
 arena_of_used es a b own without = record { each = λ c. holders-filter (λ n. not (is_unused a n)) c es ∙ left (is_unused a c) (holders c es) (get_or a.chains c None) (own.each c) ∙ ap one_if_chain (sym (without.chains c)) }
   where
     left : (b : Bool) (n : ℕ) (o : Option (List Version)) → n ≡ one_if_chain o → cond (not b) n 0 ≡ one_if_chain (cond b None o)

@@ -5,11 +5,11 @@ use Rattle.std.proofs.lemmas.Bool.{cases_eq}
 use Rattle.span_arena.specs.declared.version.Version.{Version}
 use Rattle.span_arena.specs.Content.{Content, IsChain, prepared_at, versions, linked, linked_as, with_kept}
 use Rattle.span_arena.proofs.Keeping.{chain_in_range}
-use Rattle.span_keytree.specs.Entries.{Entry}
+use Rattle.span_keytree.specs.Entries.{KeyEntry}
 use Rattle.span_keytree.specs.Arenas.{IsArenaOf, HasSameChains, one_if_chain}
 
 -- an index keeps an arena of which the same numbers are chains
-pub own_stays : (es : List Entry) (a b : Content) → IsArenaOf es a → HasSameChains a b → IsArenaOf es b
+pub own_stays : (es : List KeyEntry) (a b : Content) → IsArenaOf es a → HasSameChains a b → IsArenaOf es b
 own_stays es a b own same = record { each = λ c. own.each c ∙ sym (same c) }
 
 pub same_after : (a b d : Content) → HasSameChains a b → HasSameChains b d → HasSameChains a d

@@ -8,7 +8,7 @@ use Rattle.span_keytree.specs.Trees.{IsAvl, height}
 use Rattle.span_arena.specs.Cells.{cell_at}
 use Rattle.span_keytree.specs.Puts.{tree_at, IsTree}
 use Rattle.span_keytree.specs.Items.{items, holders}
-use Rattle.span_keytree.specs.Entries.{Entry}
+use Rattle.span_keytree.specs.Entries.{KeyEntry}
 use Rattle.span_keytree.specs.Nexts.{Nexts, next_of}
 use Rattle.span_keywalk.specs.Walks.{walked_in}
 
@@ -19,7 +19,7 @@ after_cells g (suc n) None = None
 after_cells g (suc n) (Some i) = after_cells g n (g i)
 
 -- the entries of n cells
-abbrev pub run_of : List Cell → Nexts → ℕ → Option ℕ → List Entry
+abbrev pub run_of : List Cell → Nexts → ℕ → Option ℕ → List KeyEntry
 run_of cs ns n at = walked_in cs ns n at None
 
 -- there are n cells, each of them once, and in range

@@ -4,10 +4,10 @@ use Rattle.span_arena.specs.Content.{Content}
 use Rattle.span_keytree.specs.Roots.{entries_at, IsIndex}
 use Rattle.span_keyindex.specs.declared.index.KeyIndex.{KeyIndex}
 use Rattle.span_keytree.specs.Arenas.{IsArenaOf}
-use Rattle.span_keytree.specs.Entries.{Entry}
+use Rattle.span_keytree.specs.Entries.{KeyEntry}
 
 -- the keys in order, each with its chain
-abbrev pub entries_of : KeyIndex → Content → List Entry
+abbrev pub entries_of : KeyIndex → Content → List KeyEntry
 entries_of i a = entries_at a.cells i.tree
 
 -- the index is a balanced tree of the arena's keys with links from each to the next, and its chains are those of the

@@ -7,14 +7,14 @@ use Rattle.span_arena.specs.Counts.{Count}
 use Rattle.span_arena.specs.declared.cell.Cell.{Cell}
 use Rattle.span_keyindex.specs.declared.near.Near.{Near}
 use Rattle.span_keyindex.specs.declared.near.Near.TheVariants.{Here, Absent, Unknown}
-use Rattle.span_keytree.specs.Entries.{Entry, HasChain, IsAbsent}
+use Rattle.span_keytree.specs.Entries.{KeyEntry, HasChain, IsAbsent}
 
 -- the key is before that of the cell, if there is one
-abbrev pub IsBefore : List Cell → List ℕ → Option ℕ → Type 0
-IsBefore cs key None = Unit {0}
-IsBefore cs key (Some i) = byte_order key (cell_at cs i).key ≡ Less
+abbrev pub ComesBefore : List Cell → List ℕ → Option ℕ → Type 0
+ComesBefore cs key None = Unit {0}
+ComesBefore cs key (Some i) = byte_order key (cell_at cs i).key ≡ Less
 
-abbrev pub IsNear : List Entry → List ℕ → ℕ → Near → Type 0
+abbrev pub IsNear : List KeyEntry → List ℕ → ℕ → Near → Type 0
 IsNear es key near Here = HasChain es key (record { number = near })
 IsNear es key near Absent = IsAbsent es key
 IsNear es key near Unknown = Unit {0}

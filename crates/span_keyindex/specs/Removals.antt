@@ -5,19 +5,19 @@ use Rattle.span_arena.specs.Content.{Content, without_chain}
 use Rattle.span_arena.specs.declared.cell.Cell.{Cell}
 use Rattle.span_keyindex.specs.declared.remove.Kept.{Kept}
 use Rattle.span_keytree.specs.Items.{holders}
-use Rattle.span_keytree.specs.Entries.{Entry}
+use Rattle.span_keytree.specs.Entries.{KeyEntry}
 use Rattle.span_keytree.specs.Nexts.{Nexts, next_of, IsLinked, with_cell}
 use Rattle.span_keyindex.specs.Builds.{run_of}
 
-abbrev pub is_kept : (ℕ → Bool) → Entry → Bool
+abbrev pub is_kept : (ℕ → Bool) → KeyEntry → Bool
 is_kept marks e = not (marks e.chain.number)
 
 -- the entries whose chains are not marked
-abbrev pub unmarked : (ℕ → Bool) → List Entry → List Entry
+abbrev pub unmarked : (ℕ → Bool) → List KeyEntry → List KeyEntry
 unmarked marks es = filter (λ e. is_kept marks e) es
 
 -- the entries of all chains that are linked
-abbrev pub all_of : List Cell → Nexts → List Entry
+abbrev pub all_of : List Cell → Nexts → List KeyEntry
 all_of cs ns = run_of cs ns (length cs) ns.first
 
 -- the links lead over chains, to each of them once

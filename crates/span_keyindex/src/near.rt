@@ -3,17 +3,18 @@
 //! A search waits for memory at each level of a large tree. Searches of several keys that go down the tree together wait for
 //! each other's cells at once: so a transaction's keys are searched ahead, a few at a time, and a look-up then begins at the
 //! chain where the search ended.
-ghost use Rattle.std.specs.Prelude.{◌≡◌, ℕ, ◌*◌, ◌+◌, ◌<◌, ◌≤◌, ◌^◌, IsTrue, length};
+ghost use Rattle.std.specs.Prelude.{◌≡◌, ℕ, ◌*◌, ◌<◌, ◌^◌, IsTrue, length};
 ghost use Rattle.span_keyindex.specs.Indexes.{IsIndexOf, entries_of};
 ghost use Rattle.span_keytree.specs.Roots.{IsSearchCost};
 ghost use Rattle.span_keyindex.specs.Limits.{search_lanes};
-ghost use Rattle.span_keyindex.specs.Nears.{IsBefore, IsLookCost, IsNear};
+ghost use Rattle.span_keyindex.specs.Nears.{ComesBefore, IsLookCost, IsNear};
 ghost use Rattle.span_keyindex.specs.declared.near.TheConstants.{SEARCH_LANES};
 
 use crate::index::KeyIndex;
 use span_arena::arena::Arena;
 use span_arena::steps::Steps;
 use span_arena::token::NO_CHAIN;
+use span_keycode::compare::word_at;
 use span_keycode::key::Key;
 use span_keytree::next::{NextLinks, number_of};
 use std::cmp::Ordering;
@@ -45,7 +46,7 @@ const NO_HEAD: KeyHead = KeyHead {
 
 /// A search that goes on: the next cell, and that of the last key so far that is not after the one searched for.
 #[derive(Clone, Copy, Debug)]
-struct Lane {
+struct Search {
     at: u32,
     before: u32,
     /// The head of the key searched for.
@@ -65,22 +66,6 @@ const NO_CELL: CellRead = CellRead {
     right: NO_CHAIN,
     head: NO_HEAD,
 };
-
-// The number that eight bytes from a place on spell, the highest first.
-fn word_at(bytes: &[u8], at: usize) -> u64
-    requires { at + 8 ≤ length bytes.now }
-{
-    u64::from_be_bytes([
-        bytes[at],
-        bytes[at + 1],
-        bytes[at + 2],
-        bytes[at + 3],
-        bytes[at + 4],
-        bytes[at + 5],
-        bytes[at + 6],
-        bytes[at + 7],
-    ])
-}
 
 // The head of a key.
 fn head_of(key: &[u8]) -> KeyHead {
@@ -122,7 +107,7 @@ fn read(arena: &Arena, at: u32) -> CellRead {
 }
 
 // Reads the cells of all lanes. Nothing here waits for what is read: so all of them come from memory side by side.
-fn read_all(arena: &Arena, lanes: &[Lane; SEARCH_LANES]) -> [CellRead; SEARCH_LANES] {
+fn read_all(arena: &Arena, lanes: &[Search; SEARCH_LANES]) -> [CellRead; SEARCH_LANES] {
     let mut cells = [NO_CELL; SEARCH_LANES];
     for i in 0..SEARCH_LANES {
         cells[i] = read(arena, lanes[i].at);
@@ -131,7 +116,7 @@ fn read_all(arena: &Arena, lanes: &[Lane; SEARCH_LANES]) -> [CellRead; SEARCH_LA
 }
 
 // Whether a key is before that of a lane's cell, mostly by their heads.
-fn is_to_the_left(arena: &Arena, key: &[u8], lane: Lane, cell: CellRead) -> bool
+fn is_to_the_left(arena: &Arena, key: &[u8], lane: Search, cell: CellRead) -> bool
     requires { lane.at < length arena.now.cells }
 {
     if lane.head == cell.head {
@@ -151,10 +136,10 @@ fn choose(is_first: bool, first: u32, second: u32) -> u32 {
 fn step<C: Ledger, W: Ledger>(
     arena: &Arena,
     key: &[u8],
-    lane: Lane,
+    lane: Search,
     cell: CellRead,
     steps: &mut Steps<C, W>,
-) -> Lane
+) -> Search
     ensures { IsLookCost 1 steps.old steps.new }
 {
     if lane.at as usize >= arena.numbers() {
@@ -162,7 +147,7 @@ fn step<C: Ledger, W: Ledger>(
     }
     steps.compare();
     let is_left = is_to_the_left(arena, key, lane, cell);
-    Lane {
+    Search {
         at: choose(is_left, cell.left, cell.right),
         before: choose(is_left, lane.before, lane.at),
         head: lane.head,
@@ -173,7 +158,7 @@ fn step<C: Ledger, W: Ledger>(
 fn step_all<C: Ledger, W: Ledger>(
     arena: &Arena,
     keys: &[Key],
-    lanes: &mut [Lane; SEARCH_LANES],
+    lanes: &mut [Search; SEARCH_LANES],
     steps: &mut Steps<C, W>,
 )
     ensures { IsLookCost search_lanes steps.old steps.new }
@@ -187,7 +172,7 @@ fn step_all<C: Ledger, W: Ledger>(
 fn search_all<C: Ledger, W: Ledger>(
     arena: &Arena,
     keys: &[Key],
-    lanes: &mut [Lane; SEARCH_LANES],
+    lanes: &mut [Search; SEARCH_LANES],
     levels: usize,
     steps: &mut Steps<C, W>,
 )
@@ -199,15 +184,15 @@ fn search_all<C: Ledger, W: Ledger>(
 }
 
 // The lanes of the keys, from a cell on.
-fn first_lanes(keys: &[Key], root: u32) -> [Lane; SEARCH_LANES] {
-    let none = Lane {
+fn first_lanes(keys: &[Key], root: u32) -> [Search; SEARCH_LANES] {
+    let none = Search {
         at: NO_CHAIN,
         before: NO_CHAIN,
         head: NO_HEAD,
     };
     let mut lanes = [none; SEARCH_LANES];
     for i in 0..keys.len().min(SEARCH_LANES) {
-        lanes[i] = Lane {
+        lanes[i] = Search {
             at: root,
             before: NO_CHAIN,
             head: head_of(keys[i].as_slice()),
@@ -218,7 +203,7 @@ fn first_lanes(keys: &[Key], root: u32) -> [Lane; SEARCH_LANES] {
 
 // The chain that a search ends at, if there is one. Its link to the next is read too, though no chain is after itself: a look near the
 // key needs it, and here those of all lanes come from memory at once.
-fn lane_chain(arena: &Arena, nexts: &NextLinks, lane: Lane) -> u32 {
+fn lane_chain(arena: &Arena, nexts: &NextLinks, lane: Search) -> u32 {
     if arena.is_chain(lane.before) & (nexts.number_after(lane.before) != lane.before) {
         lane.before
     } else {
@@ -230,7 +215,7 @@ fn lane_chain(arena: &Arena, nexts: &NextLinks, lane: Lane) -> u32 {
 fn lane_chains(
     arena: &Arena,
     nexts: &NextLinks,
-    lanes: &[Lane; SEARCH_LANES],
+    lanes: &[Search; SEARCH_LANES],
 ) -> [u32; SEARCH_LANES] {
     let mut near = [NO_CHAIN; SEARCH_LANES];
     for i in 0..SEARCH_LANES {
@@ -267,7 +252,7 @@ pub(crate) enum Near {
 
 // Whether a key is before that of a chain; each is where there is none.
 fn is_before(arena: &Arena, key: &[u8], at: Option<u32>) -> bool
-    ensures { IsTrue result → IsBefore arena.now.cells key.now at }
+    ensures { IsTrue result → ComesBefore arena.now.cells key.now at }
 {
     match at {
         None => true,

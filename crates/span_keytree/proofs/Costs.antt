@@ -4,7 +4,7 @@ use Rattle.std.specs.Prelude.{Bool, Result, Ok, max}
 use Rattle.std.proofs.Math.Nat.{le-max_left, le-max_right}
 use Rattle.span_value.specs.declared.refusal.Refusal.{Refusal}
 use Rattle.span_arena.specs.declared.cell.Cell.{Cell}
-use Rattle.span_keytree.specs.declared.join.Part.{Part}
+use Rattle.span_keytree.specs.declared.join.GrownPart.{GrownPart}
 use Rattle.span_keytree.specs.Puts.{Put, Added}
 use Rattle.span_keytree.specs.Trees.{Tree, Leaf, Fork, root_of, IsInCells, count, height, inserted}
 use Rattle.span_arena.specs.Counts.{Count}
@@ -37,7 +37,7 @@ ready_root cs (Fork l n k b r) i is in_cells within =
       right = subst (λ (x : Option ℕ). IsInside cs x) {x = root_of r} {y = (links_of cs n).right} (sym (ap (λ (x : Cell). x.links.right) in_cells.0)) (inside_root cs r (λ j h. within j (omega arith)));
     })
 
-pub ready_part : (old mid : List Cell) (at : Option ℕ) (t : Tree) (key : List ℕ) (part : Part) → IsTree old at t → IsAdded old mid t key part → IsReady mid part.root
+pub ready_part : (old mid : List Cell) (at : Option ℕ) (t : Tree) (key : List ℕ) (part : GrownPart) → IsTree old at t → IsAdded old mid t key part → IsReady mid part.root
 ready_part old mid at t key part tree added =
     ready_root mid (inserted part.cell key t).tree part.root added.root added.in_cells
     (λ j h. (let lt : j < places_with (length old) part.cell = within_more old at t part.cell j tree added.number (omega (arith, count_inserted j part.cell key t added.absent)) in omega (arith, added.one_more)))
@@ -66,20 +66,20 @@ join_most false true same = absurd (let e : true ≡ false = same refl in cc)
 join_most true false same = omega arith
 join_most true true same = omega arith
 
-cost_joined : (t l : Tree) (part after : Part) (s0 s1 s2 s3 : Count) → suc (height l) ≤ height t → IsCompared s0 s1 → IsPutCost l (Ok (Added part)) s1 s2 → IsJoinCost part.grew after.grew s2 s3 → (part.grew ≡ false → after.grew ≡ false) → IsPutCost t (Ok (Added after)) s0 s3
+cost_joined : (t l : Tree) (part after : GrownPart) (s0 s1 s2 s3 : Count) → suc (height l) ≤ height t → IsCompared s0 s1 → IsPutCost l (Ok (Added part)) s1 s2 → IsJoinCost part.grew after.grew s2 s3 → (part.grew ≡ false → after.grew ≡ false) → IsPutCost t (Ok (Added after)) s0 s3
 cost_joined t l part after s0 s1 s2 s3 low one cost join same =
     let a = one.compared in let b = one.written in let c = cost.compared in let d = cost.written in let e = join.compared in let f = join.written in
     let m = join_most part.grew after.grew same in
     record { compared = omega arith; written = omega arith }
 
-still_left : (cs : List Cell) (i : ℕ) (part after : Part) (g : Bool) → after ≡ joined_left_root g cs i part → g ≡ false → after.grew ≡ false
-still_left cs i part after g is none = ap (λ (p : Part). p.grew) is ∙ ap (λ (x : Bool). (joined_left_root x cs i part).grew) none
+still_left : (cs : List Cell) (i : ℕ) (part after : GrownPart) (g : Bool) → after ≡ joined_left_root g cs i part → g ≡ false → after.grew ≡ false
+still_left cs i part after g is none = ap (λ (p : GrownPart). p.grew) is ∙ ap (λ (x : Bool). (joined_left_root x cs i part).grew) none
 
-pub still_right : (cs : List Cell) (i : ℕ) (part after : Part) (g : Bool) → after ≡ joined_right_root g cs i part → g ≡ false → after.grew ≡ false
-still_right cs i part after g is none = ap (λ (p : Part). p.grew) is ∙ ap (λ (x : Bool). (joined_right_root x cs i part).grew) none
+pub still_right : (cs : List Cell) (i : ℕ) (part after : GrownPart) (g : Bool) → after ≡ joined_right_root g cs i part → g ≡ false → after.grew ≡ false
+still_right cs i part after g is none = ap (λ (p : GrownPart). p.grew) is ∙ ap (λ (x : Bool). (joined_right_root x cs i part).grew) none
 
-pub cost_left : (mid : List Cell) (i : ℕ) (t l : Tree) (part after : Part) (s0 s1 s2 s3 : Count) → suc (height l) ≤ height t → IsCompared s0 s1 → IsPutCost l (Ok (Added part)) s1 s2 → IsJoinCost part.grew after.grew s2 s3 → after ≡ joined_left_root part.grew mid i part → IsPutCost t (Ok (Added after)) s0 s3
+pub cost_left : (mid : List Cell) (i : ℕ) (t l : Tree) (part after : GrownPart) (s0 s1 s2 s3 : Count) → suc (height l) ≤ height t → IsCompared s0 s1 → IsPutCost l (Ok (Added part)) s1 s2 → IsJoinCost part.grew after.grew s2 s3 → after ≡ joined_left_root part.grew mid i part → IsPutCost t (Ok (Added after)) s0 s3
 cost_left mid i t l part after s0 s1 s2 s3 low one cost join is = cost_joined t l part after s0 s1 s2 s3 low one cost join (still_left mid i part after part.grew is)
 
-pub cost_right : (mid : List Cell) (i : ℕ) (t l : Tree) (part after : Part) (s0 s1 s2 s3 : Count) → suc (height l) ≤ height t → IsCompared s0 s1 → IsPutCost l (Ok (Added part)) s1 s2 → IsJoinCost part.grew after.grew s2 s3 → after ≡ joined_right_root part.grew mid i part → IsPutCost t (Ok (Added after)) s0 s3
+pub cost_right : (mid : List Cell) (i : ℕ) (t l : Tree) (part after : GrownPart) (s0 s1 s2 s3 : Count) → suc (height l) ≤ height t → IsCompared s0 s1 → IsPutCost l (Ok (Added part)) s1 s2 → IsJoinCost part.grew after.grew s2 s3 → after ≡ joined_right_root part.grew mid i part → IsPutCost t (Ok (Added after)) s0 s3
 cost_right mid i t l part after s0 s1 s2 s3 low one cost join is = cost_joined t l part after s0 s1 s2 s3 low one cost join (still_right mid i part after part.grew is)

@@ -5,7 +5,7 @@ use Rattle.span_arena.specs.declared.cell.Links.{Links}
 use Rattle.std.specs.declared.cmp.Ordering.{Ordering}
 use Rattle.std.specs.declared.cmp.Ordering.TheVariants.{Less, Greater}
 use Rattle.span_keycode.specs.Order.{byte_order}
-use Rattle.span_keytree.specs.declared.join.Part.{Part}
+use Rattle.span_keytree.specs.declared.join.GrownPart.{GrownPart}
 use Rattle.span_keytree.specs.Puts.{Put, Found, Added}
 use Rattle.span_keytree.specs.Joins.{joined_left_cells, joined_left_root, joined_right_cells, joined_right_root}
 use Rattle.span_arena.specs.Content.{Content, IsNewChain, with_at, with_cells}
@@ -32,21 +32,21 @@ right_some cs levels at i ls e read tree = subst (λ (x : Links). IsTree cs x.ri
 
 -- ---- what the part's call gave, at the link that was read
 
-pub left_ready : (old mid : List Cell) (levels : ℕ) (at : Option ℕ) (i : ℕ) (ls : Links) (key : List ℕ) (v : Put) (part : Part) → at ≡ Some i → ls ≡ links_of old i → IsTree old at (tree_at old levels at)
+pub left_ready : (old mid : List Cell) (levels : ℕ) (at : Option ℕ) (i : ℕ) (ls : Links) (key : List ℕ) (v : Put) (part : GrownPart) → at ≡ Some i → ls ≡ links_of old i → IsTree old at (tree_at old levels at)
     → IsPut old mid (tree_at old (levels - 1) ls.left) key v → v ≡ Added part → IsReady mid part.root × (i < length mid)
 left_ready old mid levels at i ls key v part e read tree put is =
     let added : IsAdded old mid (tree_at old (levels - 1) ls.left) key part = subst (λ (x : Put). IsPut old mid (tree_at old (levels - 1) ls.left) key x) {x = v} {y = Added part} is put in
     let lt : i < length old = range_some old levels at i e tree in
     (ready_part old mid ls.left (tree_at old (levels - 1) ls.left) key part (left_some old levels at i ls e read tree) added, omega (arith, added.one_more, places_more (length old) part.cell))
 
-pub right_ready : (old mid : List Cell) (levels : ℕ) (at : Option ℕ) (i : ℕ) (ls : Links) (key : List ℕ) (v : Put) (part : Part) → at ≡ Some i → ls ≡ links_of old i → IsTree old at (tree_at old levels at)
+pub right_ready : (old mid : List Cell) (levels : ℕ) (at : Option ℕ) (i : ℕ) (ls : Links) (key : List ℕ) (v : Put) (part : GrownPart) → at ≡ Some i → ls ≡ links_of old i → IsTree old at (tree_at old levels at)
     → IsPut old mid (tree_at old (levels - 1) ls.right) key v → v ≡ Added part → IsReady mid part.root × (i < length mid)
 right_ready old mid levels at i ls key v part e read tree put is =
     let added : IsAdded old mid (tree_at old (levels - 1) ls.right) key part = subst (λ (x : Put). IsPut old mid (tree_at old (levels - 1) ls.right) key x) {x = v} {y = Added part} is put in
     let lt : i < length old = range_some old levels at i e tree in
     (ready_part old mid ls.right (tree_at old (levels - 1) ls.right) key part (right_some old levels at i ls e read tree) added, omega (arith, added.one_more, places_more (length old) part.cell))
 
-pub left_added : (old mid new : List Cell) (levels : ℕ) (at : Option ℕ) (i : ℕ) (ls : Links) (key : List ℕ) (v : Put) (part after : Part) → at ≡ Some i → ls ≡ links_of old i → IsTree old at (tree_at old levels at)
+pub left_added : (old mid new : List Cell) (levels : ℕ) (at : Option ℕ) (i : ℕ) (ls : Links) (key : List ℕ) (v : Put) (part after : GrownPart) → at ≡ Some i → ls ≡ links_of old i → IsTree old at (tree_at old levels at)
     → Less ≡ byte_order key (cell_at old i).key → count part.cell (tree_at old levels at) ≡ 0 → IsPut old mid (tree_at old (levels - 1) ls.left) key v → v ≡ Added part
     → new ≡ joined_left_cells part.grew mid i part.root → after ≡ joined_left_root part.grew mid i part → IsAdded old new (tree_at old levels at) key after
 left_added old mid new levels at i ls key v part after e read tree less free put is cells result =
@@ -55,7 +55,7 @@ left_added old mid new levels at i ls key v part after e read tree less free put
     subst (λ (x : Option ℕ). IsAdded old new (tree_at old levels x) key after) {x = Some i} {y = at} (sym e)
     (put_left old mid new levels i key part after (tree_some old levels at i e tree) (sym less) (ap (λ (x : Option ℕ). count part.cell (tree_at old levels x)) (sym e) ∙ free) there cells result)
 
-pub right_added : (old mid new : List Cell) (levels : ℕ) (at : Option ℕ) (i : ℕ) (ls : Links) (key : List ℕ) (v : Put) (part after : Part) → at ≡ Some i → ls ≡ links_of old i → IsTree old at (tree_at old levels at)
+pub right_added : (old mid new : List Cell) (levels : ℕ) (at : Option ℕ) (i : ℕ) (ls : Links) (key : List ℕ) (v : Put) (part after : GrownPart) → at ≡ Some i → ls ≡ links_of old i → IsTree old at (tree_at old levels at)
     → Greater ≡ byte_order key (cell_at old i).key → count part.cell (tree_at old levels at) ≡ 0 → IsPut old mid (tree_at old (levels - 1) ls.right) key v → v ≡ Added part
     → new ≡ joined_right_cells part.grew mid i part.root → after ≡ joined_right_root part.grew mid i part → IsAdded old new (tree_at old levels at) key after
 right_added old mid new levels at i ls key v part after e read tree greater free put is cells result =
@@ -118,20 +118,20 @@ right_found old mid levels at i ls key v n e read tree greater put is =
 
 -- ---- where the new cell is linked
 
-next_is : (old new : Nexts) (b b' : Option ℕ) (v : Put) (part after : Part) → IsNext old new b' v → v ≡ Added part → b ≡ b' → after.cell ≡ part.cell → IsNext old new b (Added after)
+next_is : (old new : Nexts) (b b' : Option ℕ) (v : Put) (part after : GrownPart) → IsNext old new b' v → v ≡ Added part → b ≡ b' → after.cell ≡ part.cell → IsNext old new b (Added after)
 next_is old new b b' v part after put is same cell =
     let there : new ≡ with_cell (with_place old part.cell) b' part.cell = subst (λ (x : Put). IsNext old new b' x) {x = v} {y = Added part} is put in
     there ∙ ap (λ (x : Option ℕ). with_cell (with_place old part.cell) x part.cell) (sym same) ∙ ap (λ (n : ℕ). with_cell (with_place old n) b n) (sym cell)
 
-pub left_next : (cs mid : List Cell) (levels : ℕ) (at : Option ℕ) (i : ℕ) (ls : Links) (key : List ℕ) (b : Option ℕ) (v : Put) (part after : Part) (old new : Nexts) → at ≡ Some i → ls ≡ links_of cs i → IsTree cs at (tree_at cs levels at)
+pub left_next : (cs mid : List Cell) (levels : ℕ) (at : Option ℕ) (i : ℕ) (ls : Links) (key : List ℕ) (b : Option ℕ) (v : Put) (part after : GrownPart) (old new : Nexts) → at ≡ Some i → ls ≡ links_of cs i → IsTree cs at (tree_at cs levels at)
     → Less ≡ byte_order key (cell_at cs i).key → IsNext old new (before_in key b (tree_at cs (levels - 1) ls.left)) v → v ≡ Added part → after ≡ joined_left_root part.grew mid i part → IsNext old new (before_in key b (tree_at cs levels at)) (Added after)
 left_next cs mid levels at i ls key b v part after old new e read tree less put is result =
-    next_is old new (before_in key b (tree_at cs levels at)) (before_in key b (tree_at cs (levels - 1) ls.left)) v part after put is (before_by cs levels at i ls key e read tree b Less less) (ap (λ (p : Part). p.cell) result ∙ cell_left part.grew mid i part)
+    next_is old new (before_in key b (tree_at cs levels at)) (before_in key b (tree_at cs (levels - 1) ls.left)) v part after put is (before_by cs levels at i ls key e read tree b Less less) (ap (λ (p : GrownPart). p.cell) result ∙ cell_left part.grew mid i part)
 
-pub right_next : (cs mid : List Cell) (levels : ℕ) (at : Option ℕ) (i : ℕ) (ls : Links) (key : List ℕ) (b : Option ℕ) (v : Put) (part after : Part) (old new : Nexts) → at ≡ Some i → ls ≡ links_of cs i → IsTree cs at (tree_at cs levels at)
+pub right_next : (cs mid : List Cell) (levels : ℕ) (at : Option ℕ) (i : ℕ) (ls : Links) (key : List ℕ) (b : Option ℕ) (v : Put) (part after : GrownPart) (old new : Nexts) → at ≡ Some i → ls ≡ links_of cs i → IsTree cs at (tree_at cs levels at)
     → Greater ≡ byte_order key (cell_at cs i).key → IsNext old new (before_in key (Some i) (tree_at cs (levels - 1) ls.right)) v → v ≡ Added part → after ≡ joined_right_root part.grew mid i part → IsNext old new (before_in key b (tree_at cs levels at)) (Added after)
 right_next cs mid levels at i ls key b v part after old new e read tree greater put is result =
-    next_is old new (before_in key b (tree_at cs levels at)) (before_in key (Some i) (tree_at cs (levels - 1) ls.right)) v part after put is (before_by cs levels at i ls key e read tree b Greater greater) (ap (λ (p : Part). p.cell) result ∙ cell_right part.grew mid i part)
+    next_is old new (before_in key b (tree_at cs levels at)) (before_in key (Some i) (tree_at cs (levels - 1) ls.right)) v part after put is (before_by cs levels at i ls key e read tree b Greater greater) (ap (λ (p : GrownPart). p.cell) result ∙ cell_right part.grew mid i part)
 
 -- ---- the parts are of chains
 
@@ -147,14 +147,14 @@ right_chains_some a levels at i ls e read tree chains =
 
 -- ---- the arena after a key more
 
-pub new_is : (old mid : Content) (v : Put) (part : Part) → IsPutIn old mid v → v ≡ Added part → IsNewChain old mid part.cell
+pub new_is : (old mid : Content) (v : Put) (part : GrownPart) → IsPutIn old mid v → v ≡ Added part → IsNewChain old mid part.cell
 new_is old mid v part put is = subst (λ (x : Put). IsPutIn old mid x) {x = v} {y = Added part} is put
 
-pub new_free : (old mid : Content) (t : Tree) (v : Put) (part : Part) → AreChains old t → IsPutIn old mid v → v ≡ Added part → count part.cell t ≡ 0
+pub new_free : (old mid : Content) (t : Tree) (v : Put) (part : GrownPart) → AreChains old t → IsPutIn old mid v → v ≡ Added part → count part.cell t ≡ 0
 new_free old mid t v part chains put is = not_in old mid t part.cell chains (new_is old mid v part put is)
 
 -- other links leave a new chain one
-pub new_relinked : (old mid new : Content) (cs : List Cell) (v : Put) (part after : Part) → IsPutIn old mid v → v ≡ Added part → new ≡ with_cells mid cs → after.cell ≡ part.cell → IsPutIn old new (Added after)
+pub new_relinked : (old mid new : Content) (cs : List Cell) (v : Put) (part after : GrownPart) → IsPutIn old mid v → v ≡ Added part → new ≡ with_cells mid cs → after.cell ≡ part.cell → IsPutIn old new (Added after)
 new_relinked old mid new cs v part after put is now cell =
     let fresh : IsNewChain old mid part.cell = new_is old mid v part put is in
     let there : IsNewChain old new part.cell = record {
@@ -166,8 +166,8 @@ new_relinked old mid new cs v part after put is now cell =
     } in
     subst (λ (n : ℕ). IsNewChain old new n) {x = part.cell} {y = after.cell} (sym cell) there
 
-pub left_relinked : (old mid new : Content) (cs : List Cell) (i : ℕ) (v : Put) (part after : Part) → IsPutIn old mid v → v ≡ Added part → new ≡ with_cells mid cs → after ≡ joined_left_root part.grew mid.cells i part → IsPutIn old new (Added after)
-left_relinked old mid new cs i v part after put is now result = new_relinked old mid new cs v part after put is now (ap (λ (p : Part). p.cell) result ∙ cell_left part.grew mid.cells i part)
+pub left_relinked : (old mid new : Content) (cs : List Cell) (i : ℕ) (v : Put) (part after : GrownPart) → IsPutIn old mid v → v ≡ Added part → new ≡ with_cells mid cs → after ≡ joined_left_root part.grew mid.cells i part → IsPutIn old new (Added after)
+left_relinked old mid new cs i v part after put is now result = new_relinked old mid new cs v part after put is now (ap (λ (p : GrownPart). p.cell) result ∙ cell_left part.grew mid.cells i part)
 
-pub right_relinked : (old mid new : Content) (cs : List Cell) (i : ℕ) (v : Put) (part after : Part) → IsPutIn old mid v → v ≡ Added part → new ≡ with_cells mid cs → after ≡ joined_right_root part.grew mid.cells i part → IsPutIn old new (Added after)
-right_relinked old mid new cs i v part after put is now result = new_relinked old mid new cs v part after put is now (ap (λ (p : Part). p.cell) result ∙ cell_right part.grew mid.cells i part)
+pub right_relinked : (old mid new : Content) (cs : List Cell) (i : ℕ) (v : Put) (part after : GrownPart) → IsPutIn old mid v → v ≡ Added part → new ≡ with_cells mid cs → after ≡ joined_right_root part.grew mid.cells i part → IsPutIn old new (Added after)
+right_relinked old mid new cs i v part after put is now result = new_relinked old mid new cs v part after put is now (ap (λ (p : GrownPart). p.cell) result ∙ cell_right part.grew mid.cells i part)

@@ -10,7 +10,7 @@ use Rattle.span_arena.specs.Cells.{cell_at, new_cell}
 use Rattle.span_arena.specs.Content.{Content, IsNewChain, with_cells}
 use Rattle.span_arena.specs.Counts.{Count}
 use Rattle.span_value.specs.declared.refusal.Refusal.{Refusal}
-use Rattle.span_keytree.specs.declared.join.Part.{Part}
+use Rattle.span_keytree.specs.declared.join.GrownPart.{GrownPart}
 use Rattle.span_keytree.specs.declared.tree.TreeRoot.{TreeRoot}
 use Rattle.span_keytree.specs.Avl.{grown_height}
 use Rattle.span_keytree.specs.Effects.{links_of, IsInside}
@@ -40,7 +40,7 @@ places_kept n c lt = let t : nat_lt c n ≡ true = grind (arith, nat_tests) in r
 
 -- ---- where the link leads nowhere
 
-module _ (cs : List Cell) (levels : ℕ) (at : Option ℕ) (part : Part) (none : at ≡ None) where
+module _ (cs : List Cell) (levels : ℕ) (at : Option ℕ) (part : GrownPart) (none : at ≡ None) where
   no_tree : tree_at cs levels at ≡ Leaf
   no_tree = ap (λ (x : Option ℕ). tree_at cs levels x) none ∙ leaf_at cs levels
 
@@ -71,11 +71,11 @@ module _ (old : List Cell) (levels : ℕ) (at : Option ℕ) (i : ℕ) (ls : Link
   pub free_more : (c : ℕ) → count c (tree_at old levels at) ≡ 0 → count c (tree_at old (levels - 1) ls.right) ≡ 0
   free_more c free = omega (arith, ap (λ (t : Tree). count c t) (fork_some old levels at i ls e read tree))
 
-  module _ (mid : List Cell) (part : Part) (added : IsAdded old mid (tree_at old (levels - 1) ls.right) key part) where
+  module _ (mid : List Cell) (part : GrownPart) (added : IsAdded old mid (tree_at old (levels - 1) ls.right) key part) where
     pub hung_ready : IsReady mid part.root × (i < length mid)
     hung_ready = right_ready old mid levels at i ls key (Added part) part e read tree added refl
 
-    pub hung_more : (new : List Cell) (after : Part) (c : ℕ) → part.cell ≡ c → count c (tree_at old levels at) ≡ 0 → IsAboveRight key (tree_at old levels at) → new ≡ joined_right_cells part.grew mid i part.root → after ≡ joined_right_root part.grew mid i part
+    pub hung_more : (new : List Cell) (after : GrownPart) (c : ℕ) → part.cell ≡ c → count c (tree_at old levels at) ≡ 0 → IsAboveRight key (tree_at old levels at) → new ≡ joined_right_cells part.grew mid i part.root → after ≡ joined_right_root part.grew mid i part
         → IsAdded old new (tree_at old levels at) key after
     hung_more new after c same free above cells result =
         right_added old mid new levels at i ls key (Added part) part after e read tree (sym (above_by above).0) (ap (λ (x : ℕ). count x (tree_at old levels at)) same ∙ free) added refl cells result
@@ -90,8 +90,8 @@ pub linked_twice : (old mid new : Content) (cs : List Cell) → mid ≡ with_cel
 linked_twice old mid new cs first then =
     then ∙ ap (λ (m : Content). with_cells m cs) first ∙ ap (λ (m : Content). with_cells old m.cells) (sym then)
 
-pub same_cell : (mid : List Cell) (i : ℕ) (part after : Part) (c : ℕ) → after ≡ joined_right_root part.grew mid i part → part.cell ≡ c → after.cell ≡ c
-same_cell mid i part after c result same = ap (λ (p : Part). p.cell) result ∙ cell_right part.grew mid i part ∙ same
+pub same_cell : (mid : List Cell) (i : ℕ) (part after : GrownPart) (c : ℕ) → after ≡ joined_right_root part.grew mid i part → part.cell ≡ c → after.cell ≡ c
+same_cell mid i part after c result same = ap (λ (p : GrownPart). p.cell) result ∙ cell_right part.grew mid i part ∙ same
 
 turns_join : (p a : Bool) → (p ≡ false → a ≡ false) → turns_by p + most_by p a ≤ suc (turns_by a)
 turns_join false false same = omega arith
@@ -99,7 +99,7 @@ turns_join false true same = absurd (let e : true ≡ false = same refl in cc)
 turns_join true false same = omega arith
 turns_join true true same = omega arith
 
-pub hung_cost : (old mid : List Cell) (levels : ℕ) (at : Option ℕ) (i : ℕ) (ls : Links) (part after : Part) (s0 s1 s2 : Count) → at ≡ Some i → ls ≡ links_of old i → IsTree old at (tree_at old levels at)
+pub hung_cost : (old mid : List Cell) (levels : ℕ) (at : Option ℕ) (i : ℕ) (ls : Links) (part after : GrownPart) (s0 s1 s2 : Count) → at ≡ Some i → ls ≡ links_of old i → IsTree old at (tree_at old levels at)
     → IsHangCost (tree_at old (levels - 1) ls.right) part s0 s1 → IsJoinCost part.grew after.grew s1 s2 → after ≡ joined_right_root part.grew mid i part → IsHangCost (tree_at old levels at) after s0 s2
 hung_cost old mid levels at i ls part after s0 s1 s2 e read tree cost join result =
     let low : suc (height (tree_at old (levels - 1) ls.right)) ≤ height (tree_at old levels at) = right_under old levels at i ls e read tree in
@@ -130,16 +130,16 @@ turns_most false = omega arith
 -- ---- the tree beside a new cell
 
 -- the key alone is a tree of one new cell
-pub record IsFirst (a mid : Content) (ns ms : Nexts) (key : List ℕ) (before : Option ℕ) (first : Part) : Type 0 where
+pub record IsFirst (a mid : Content) (ns ms : Nexts) (key : List ℕ) (before : Option ℕ) (first : GrownPart) : Type 0 where
   pub added : IsAdded a.cells mid.cells Leaf key first
   pub fresh : IsNewChain a mid first.cell
   pub nexts : ms ≡ with_cell (with_place ns first.cell) before first.cell
 
-pub first_alone : (a mid : Content) (ns ms : Nexts) (key : List ℕ) (before : Option ℕ) (first : Part) (b : Bool) → IsPut a.cells mid.cells Leaf key (put_of b first) → IsPutIn a mid (put_of b first) → IsNext ns ms before (put_of b first) → IsFirst a mid ns ms key before first
+pub first_alone : (a mid : Content) (ns ms : Nexts) (key : List ℕ) (before : Option ℕ) (first : GrownPart) (b : Bool) → IsPut a.cells mid.cells Leaf key (put_of b first) → IsPutIn a mid (put_of b first) → IsNext ns ms before (put_of b first) → IsFirst a mid ns ms key before first
 first_alone a mid ns ms key before first false put arena next = absurd (let e : None ≡ Some first.cell = put.here in cc)
 first_alone a mid ns ms key before first true put arena next = record { added = put; fresh = arena; nexts = next }
 
-module _ (a mid : Content) (ns ms : Nexts) (index : TreeRoot) (key : List ℕ) (first : Part) (own : IsIndex a.cells ns index) (chains : AreChains a (tree_of a.cells index)) (alone : IsFirst a mid ns ms key index.last first) where
+module _ (a mid : Content) (ns ms : Nexts) (index : TreeRoot) (key : List ℕ) (first : GrownPart) (own : IsIndex a.cells ns index) (chains : AreChains a (tree_of a.cells index)) (alone : IsFirst a mid ns ms key index.last first) where
   unused : count first.cell (tree_of a.cells index) ≡ 0
   unused = not_in a mid (tree_of a.cells index) first.cell chains alone.fresh
 
@@ -181,7 +181,7 @@ module _ (a mid : Content) (ns ms : Nexts) (index : TreeRoot) (key : List ℕ) (
       subst (λ (k : List ℕ). IsAboveRight k (tree_of mid.cells index)) {x = key} {y = (cell_at mid.cells first.cell).key} (sym own_key)
       (subst (λ (t : Tree). IsAboveRight key t) {x = tree_of a.cells index} {y = tree_of mid.cells index} (sym beside_same) (above_right key (tree_of a.cells index) (after_all a.cells ns index key own after)))
 
-  beside_added : (new : List Cell) (part : Part) → part.cell ≡ first.cell → IsAdded mid.cells new (tree_of mid.cells index) (cell_at mid.cells first.cell).key part → IsAdded a.cells new (tree_of a.cells index) key part
+  beside_added : (new : List Cell) (part : GrownPart) → part.cell ≡ first.cell → IsAdded mid.cells new (tree_of mid.cells index) (cell_at mid.cells first.cell).key part → IsAdded a.cells new (tree_of a.cells index) key part
   beside_added new part same there =
       let added : IsAdded mid.cells new (tree_of a.cells index) key part =
       subst (λ (t : Tree). IsAdded mid.cells new t key part) {x = tree_of mid.cells index} {y = tree_of a.cells index} beside_same
@@ -198,7 +198,7 @@ module _ (a mid : Content) (ns ms : Nexts) (index : TreeRoot) (key : List ℕ) (
         others = λ j differs none. added.others j differs none ∙ alone.added.others j (λ q. differs (q ∙ sym same)) refl;
       }
 
-  pub last_added : (b : Content) (next : TreeRoot) (part : Part) → is_after a.cells index.last key ≡ true
+  pub last_added : (b : Content) (next : TreeRoot) (part : GrownPart) → is_after a.cells index.last key ≡ true
       → b ≡ with_cells mid b.cells → part.cell ≡ first.cell → IsAdded mid.cells b.cells (tree_of mid.cells index) (cell_at mid.cells first.cell).key part
       → next.root ≡ Some part.root → next.levels ≡ grown_height part.grew index.levels → next.last ≡ Some part.cell
       → IsAfter a b ms index next key part.cell
@@ -215,14 +215,14 @@ module _ (a mid : Content) (ns ms : Nexts) (index : TreeRoot) (key : List ℕ) (
       (last ∙ sym (last_new (entries_at a.cells index) key part.cell all))
 
   -- two entries written for the new cell, and then those of the tree
-  pub last_cost : (b : Bool) (part : Part) (s0 s1 s2 : Count) → IsPutCost Leaf (Ok (put_of b first)) s0 s1 → put_of b first ≡ Added first → IsHangCost (tree_of mid.cells index) part s1 s2 → IsTreeCost 0 (tree_of a.cells index) s0 s2
+  pub last_cost : (b : Bool) (part : GrownPart) (s0 s1 s2 : Count) → IsPutCost Leaf (Ok (put_of b first)) s0 s1 → put_of b first ≡ Added first → IsHangCost (tree_of mid.cells index) part s1 s2 → IsTreeCost 0 (tree_of a.cells index) s0 s2
   last_cost b part s0 s1 s2 put is then =
       let e : height (tree_of mid.cells index) ≡ height (tree_of a.cells index) = ap height beside_same in
       let two : extra (Ok (put_of b first)) ≡ 2 = ap extra_of is ∙ ap extra_by alone.added.grew in
       let x = put.compared in let y = put.written in let z = then.compared in let w = then.written in
       record { compared = omega arith; written = omega (arith, turns_most part.grew) }
 
-pub is_added : (a mid : List Cell) (key : List ℕ) (first : Part) (b : Bool) → IsPut a mid Leaf key (put_of b first) → put_of b first ≡ Added first
+pub is_added : (a mid : List Cell) (key : List ℕ) (first : GrownPart) (b : Bool) → IsPut a mid Leaf key (put_of b first) → put_of b first ≡ Added first
 is_added a mid key first false put = absurd (let e : None ≡ Some first.cell = put.here in cc)
 is_added a mid key first true put = refl
 

@@ -4,7 +4,7 @@ use Rattle.span_arena.specs.declared.version.Version.{Version}
 use Rattle.span_arena.specs.Content.{Content, IsChain}
 use Rattle.span_keytree.specs.declared.tree.TreeRoot.{TreeRoot}
 use Rattle.span_keytree.specs.Arenas.{one_if_chain, IsArenaOf}
-use Rattle.span_keytree.specs.Entries.{Entry}
+use Rattle.span_keytree.specs.Entries.{KeyEntry}
 use Rattle.span_keytree.specs.Items.{holders}
 use Rattle.span_keytree.specs.Puts.{AreChains}
 use Rattle.span_keytree.specs.Roots.{tree_of, entries_at}
@@ -15,7 +15,7 @@ is_some_chain None h = absurd (omega arith)
 is_some_chain (Some vs) h = (vs, refl)
 
 -- a number that a key has is that of a chain
-pub held_chain : (es : List Entry) (a : Content) (c : ℕ) → IsArenaOf es a → 0 < holders c es → IsChain a c
+pub held_chain : (es : List KeyEntry) (a : Content) (c : ℕ) → IsArenaOf es a → 0 < holders c es → IsChain a c
 held_chain es a c own some = is_some_chain (get_or a.chains c None) (omega (arith, own.each c))
 
 -- the cells of the tree are those of chains

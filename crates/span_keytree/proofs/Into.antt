@@ -10,7 +10,7 @@ use Rattle.span_arena.specs.declared.version.Version.{Version}
 use Rattle.span_arena.specs.Cells.{cell_at}
 use Rattle.span_arena.specs.Content.{Content, IsNewChain}
 use Rattle.span_arena.specs.Counts.{Count}
-use Rattle.span_keytree.specs.declared.join.Part.{Part}
+use Rattle.span_keytree.specs.declared.join.GrownPart.{GrownPart}
 use Rattle.span_keytree.specs.declared.tree.TreeRoot.{TreeRoot}
 use Rattle.span_keytree.specs.Arenas.{one_if_chain, IsArenaOf}
 use Rattle.span_keytree.specs.Effects.{links_of}
@@ -57,7 +57,7 @@ chain_there a index c own is =
 
 -- ---- the part of the tree
 
-abbrev part_with : ℕ → ℕ → Bool → Part
+abbrev part_with : ℕ → ℕ → Bool → GrownPart
 part_with cell root grew = record { cell = cell; root = root; grew = grew }
 
 module _ (a : Content) (index : TreeRoot) (key : List ℕ) (p : ℕ) (l : Tree) (k : List ℕ) (b : Balance) (r : Tree)
@@ -98,7 +98,7 @@ module _ (a : Content) (index : TreeRoot) (key : List ℕ) (p : ℕ) (l : Tree) 
         ap (λ (t : Tree). before_in key None t) part_is
         ∙ sym (before_part key None None (Fork l p k b r) (tree_of a.cells index) own.rising is_between there)
 
-    added_is : (new : List Cell) (part : Part) → IsAdded a.cells new (tree_at a.cells index.levels (Some p)) key part → count part.cell (tree_of a.cells index) ≡ 0
+    added_is : (new : List Cell) (part : GrownPart) → IsAdded a.cells new (tree_at a.cells index.levels (Some p)) key part → count part.cell (tree_of a.cells index) ≡ 0
         → (root : ℕ) → Some root ≡ root_of (tree_of a.cells index) → IsAdded a.cells new (tree_of a.cells index) key (kept_part part.cell root)
     added_is new part added free root is =
         let inner : IsAdded a.cells new (Fork l p k b r) key part = subst (λ (t : Tree). IsAdded a.cells new t key part) {x = tree_at a.cells index.levels (Some p)} {y = Fork l p k b r} part_is added in
@@ -106,7 +106,7 @@ module _ (a : Content) (index : TreeRoot) (key : List ℕ) (p : ℕ) (l : Tree) 
         let same_root : part.root ≡ p = (let q : Some part.root ≡ Some p = inner.root ∙ kept.root in cc) in
         let same : part ≡ kept_part part.cell p =
         ap (λ (x : ℕ). part_with part.cell x part.grew) same_root ∙ ap (λ (g : Bool). part_with part.cell p g) (inner.grew ∙ kept.low) in
-        let fork : IsAdded a.cells new (Fork l p k b r) key (kept_part part.cell p) = subst (λ (x : Part). IsAdded a.cells new (Fork l p k b r) key x) {x = part} {y = kept_part part.cell p} same inner in
+        let fork : IsAdded a.cells new (Fork l p k b r) key (kept_part part.cell p) = subst (λ (x : GrownPart). IsAdded a.cells new (Fork l p k b r) key x) {x = part} {y = kept_part part.cell p} same inner in
         let tree : IsTree a.cells (root_of (tree_of a.cells index)) (tree_of a.cells index) = subst (λ (x : Option ℕ). IsTree a.cells x (tree_of a.cells index)) {x = index.root} {y = root_of (tree_of a.cells index)} own.tree.root own.tree in
         added_part a.cells new key part.cell (tree_of a.cells index) (Fork l p k b r) p there tree own.rising is_between free refl fork root is
 
@@ -132,7 +132,7 @@ module _ (a : Content) (index : TreeRoot) (key : List ℕ) (p : ℕ) (own : IsSe
     into_before : before_in key None (tree_at a.cells index.levels (Some p)) ≡ before_in key None (tree_of a.cells index)
     into_before = let h = part_there p (tree_of a.cells index) some in before_is a index key p h.left h.key h.balance h.right own h.there own_part
 
-    into_added : (new : List Cell) (part : Part) → IsAdded a.cells new (tree_at a.cells index.levels (Some p)) key part → count part.cell (tree_of a.cells index) ≡ 0
+    into_added : (new : List Cell) (part : GrownPart) → IsAdded a.cells new (tree_at a.cells index.levels (Some p)) key part → count part.cell (tree_of a.cells index) ≡ 0
         → (root : ℕ) → Some root ≡ root_of (tree_of a.cells index) → IsAdded a.cells new (tree_of a.cells index) key (kept_part part.cell root)
     into_added new part added free root is =
         let h = part_there p (tree_of a.cells index) some in
@@ -151,7 +151,7 @@ pub record IsInto (old new : Content) (ns ms : Nexts) (index : TreeRoot) (key : 
   pub slot : IsSlot old new ns ms index index key cell
   pub own : IsIndex new.cells ms index
 
-module _ (old new : Content) (ns ms : Nexts) (index : TreeRoot) (key : List ℕ) (p : ℕ) (part : Part) (own : IsIndex old.cells ns index) (chains : AreChains old (tree_of old.cells index)) (among : is_after old.cells index.last key ≡ false) (into : IsPartFor old.cells index key p) where
+module _ (old new : Content) (ns ms : Nexts) (index : TreeRoot) (key : List ℕ) (p : ℕ) (part : GrownPart) (own : IsIndex old.cells ns index) (chains : AreChains old (tree_of old.cells index)) (among : is_after old.cells index.last key ≡ false) (into : IsPartFor old.cells index key p) where
   into_same : IsFound old.cells new.cells (tree_at old.cells index.levels (Some p)) key part.cell → new ≡ old → ms ≡ ns → IsInto old new ns ms index key part.cell
   into_same found arena nexts = record {
     slot = inl (record {

@@ -5,7 +5,7 @@ use Rattle.span_arena.specs.declared.cell.Cell.{Cell}
 use Rattle.span_arena.specs.declared.cell.Links.{Links}
 use Rattle.span_arena.specs.declared.cell.Balance.{Balance}
 use Rattle.span_arena.specs.declared.cell.Balance.TheVariants.{LeftHigh, Even, RightHigh}
-use Rattle.span_keytree.specs.declared.join.Part.{Part}
+use Rattle.span_keytree.specs.declared.join.GrownPart.{GrownPart}
 use Rattle.span_keytree.specs.Trees.{Tree, Leaf, Fork, root_of, cell_of, IsInCells, one_at, count, turned_right, lifted_by, lifted_inner, turned_left, sunk_by, sunk_inner, after_left, after_right, joined_left, joined_right, higher_left, higher_right}
 use Rattle.span_arena.specs.Cells.{cell_at, with_links}
 use Rattle.span_keytree.specs.Effects.{links_with, links_of, turned_right_by, turned_right_cells, turned_right_root, turned_right_root_by, lifted_right_cells, lifted_root, turned_left_by, turned_left_cells, turned_left_root, turned_left_root_by, lifted_left_cells}
@@ -81,7 +81,7 @@ turned_right_is cs (Fork ll m mk mb lr) root n k r ltn within key here s sr once
     (ap (λ (x : Links). turned_right_by x.balance cs n m (root_of r)) em) (ap (λ (x : Links). turned_right_root_by x.balance x.right n m) em)
     (turned_right_by_is mb cs ll m mk lr n k r ltn within key s sr once))
 
-higher_left_is : (b : Balance) (cs : List Cell) (l : Tree) (part : Part) (n : ℕ) (k : List ℕ) (r : Tree)
+higher_left_is : (b : Balance) (cs : List Cell) (l : Tree) (part : GrownPart) (n : ℕ) (k : List ℕ) (r : Tree)
     → n < length cs → ((i : ℕ) → 0 < count i l → i < length cs) → (cell_at cs n).key ≡ k → (links_of cs n).right ≡ root_of r
     → Some part.root ≡ root_of l → IsInCells (cell_at cs) l → IsInCells (cell_at cs) r
     → ((i : ℕ) → one_at i n + (count i l + count i r) ≤ 1)
@@ -104,7 +104,7 @@ higher_left_is RightHigh cs l part n k r ltn within key right here s sr once = (
   refl,
 )
 
-pub joined_left_is : (grew : Bool) (cs : List Cell) (old l : Tree) (part : Part) (n : ℕ) (k : List ℕ) (b : Balance) (r : Tree)
+pub joined_left_is : (grew : Bool) (cs : List Cell) (old l : Tree) (part : GrownPart) (n : ℕ) (k : List ℕ) (b : Balance) (r : Tree)
     → n < length cs → ((i : ℕ) → 0 < count i l → i < length cs) → cell_at cs n ≡ cell_of old k b r
     → Some part.root ≡ root_of l → IsInCells (cell_at cs) l → IsInCells (cell_at cs) r
     → ((i : ℕ) → one_at i n + (count i l + count i r) ≤ 1)
@@ -176,7 +176,7 @@ turned_left_is cs (Fork rl m mk mb rr) root n k l ltn within key here sl s once 
     (ap (λ (x : Links). turned_left_by x.balance cs n (root_of l) m) em) (ap (λ (x : Links). turned_left_root_by x.balance x.left n m) em)
     (turned_left_by_is mb cs l n k rl m mk rr ltn within key sl s once))
 
-higher_right_is : (b : Balance) (cs : List Cell) (r : Tree) (part : Part) (n : ℕ) (k : List ℕ) (l : Tree)
+higher_right_is : (b : Balance) (cs : List Cell) (r : Tree) (part : GrownPart) (n : ℕ) (k : List ℕ) (l : Tree)
     → n < length cs → ((i : ℕ) → 0 < count i r → i < length cs) → (cell_at cs n).key ≡ k → (links_of cs n).left ≡ root_of l
     → Some part.root ≡ root_of r → IsInCells (cell_at cs) l → IsInCells (cell_at cs) r
     → ((i : ℕ) → one_at i n + (count i l + count i r) ≤ 1)
@@ -199,7 +199,7 @@ higher_right_is LeftHigh cs r part n k l ltn within key left here sl s once = (
   refl,
 )
 
-pub joined_right_is : (grew : Bool) (cs : List Cell) (old r : Tree) (part : Part) (n : ℕ) (k : List ℕ) (b : Balance) (l : Tree)
+pub joined_right_is : (grew : Bool) (cs : List Cell) (old r : Tree) (part : GrownPart) (n : ℕ) (k : List ℕ) (b : Balance) (l : Tree)
     → n < length cs → ((i : ℕ) → 0 < count i r → i < length cs) → cell_at cs n ≡ cell_of l k b old
     → Some part.root ≡ root_of r → IsInCells (cell_at cs) l → IsInCells (cell_at cs) r
     → ((i : ℕ) → one_at i n + (count i l + count i r) ≤ 1)

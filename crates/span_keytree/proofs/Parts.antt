@@ -14,7 +14,7 @@ use Rattle.span_arena.specs.declared.cell.Balance.TheVariants.{LeftHigh, Even, R
 use Rattle.span_arena.specs.Cells.{cell_at, blank, with_links}
 use Rattle.span_keytree.specs.declared.part.Way.{Way}
 use Rattle.span_keytree.specs.Effects.{links_of, links_with}
-use Rattle.span_keytree.specs.Entries.{Entry}
+use Rattle.span_keytree.specs.Entries.{KeyEntry}
 use Rattle.span_keytree.specs.Items.{entry, items, AreRising}
 use Rattle.span_keytree.specs.Joins.{joined_left_cells, joined_right_cells}
 use Rattle.span_keytree.specs.Nexts.{before_in}
@@ -61,7 +61,7 @@ height_part s (Fork l n k b r) part = elim part [
   ]
 ]
 
-all_part : (P : Entry → Type 0) (s t : Tree) → IsPart s t → AllByRecursion P (items t) → AllByRecursion P (items s)
+all_part : (P : KeyEntry → Type 0) (s t : Tree) → IsPart s t → AllByRecursion P (items t) → AllByRecursion P (items s)
 all_part P s Leaf part all = subst (λ (u : Tree). AllByRecursion P (items u)) {x = Leaf} {y = s} part all
 all_part P s (Fork l n k b r) part all = elim part [
   | inl same ↦ subst (λ (u : Tree). AllByRecursion P (items u)) {x = Fork l n k b r} {y = s} same all
@@ -116,7 +116,7 @@ left_by key high l n k b r Greater e is less rest = rest is
 left_of : (key high : List ℕ) (t : Tree) → (way_in key t).is_left ≡ true → AllBelow high (items t) → byte_order key high ≡ Less
 left_of key high Leaf is all = absurd (let q : false ≡ true = is in cc)
 left_of key high (Fork l n k b r) is all =
-    let own = all_back (λ (e : Entry). byte_order e.key high ≡ Less) (items l) (entry k n ∷ items r) all in
+    let own = all_back (λ (e : KeyEntry). byte_order e.key high ≡ Less) (items l) (entry k n ∷ items r) all in
     left_by key high l n k b r (byte_order key k) refl is own.0 (λ deeper. left_of key high r deeper own.1)
 
 right_by : (key low : List ℕ) (l : Tree) (n : ℕ) (k : List ℕ) (b : Balance) (r : Tree) (o : Ordering) → byte_order key k ≡ o
@@ -130,9 +130,9 @@ right_by key low l n k b r Greater e is less rest = turned low key Less (less_tr
 right_of : (key low : List ℕ) (t : Tree) → (way_in key t).is_right ≡ true → AllAbove low (items t) → byte_order key low ≡ Greater
 right_of key low Leaf is all = absurd (let q : false ≡ true = is in cc)
 right_of key low (Fork l n k b r) is all =
-    let own = all_back (λ (e : Entry). byte_order low e.key ≡ Less) (items l) (entry k n ∷ items r) all in
+    let own = all_back (λ (e : KeyEntry). byte_order low e.key ≡ Less) (items l) (entry k n ∷ items r) all in
     right_by key low l n k b r (byte_order key k) refl is own.0
-    (λ deeper. right_of key low l deeper (all_front (λ (e : Entry). byte_order low e.key ≡ Less) (items l) (entry k n ∷ items r) all))
+    (λ deeper. right_of key low l deeper (all_front (λ (e : KeyEntry). byte_order low e.key ≡ Less) (items l) (entry k n ∷ items r) all))
 
 -- the key is between keys of the tree
 pub record IsBetween (key : List ℕ) (t : Tree) : Type 0 where
@@ -155,10 +155,10 @@ module _ (key : List ℕ) (s l : Tree) (n : ℕ) (k : List ℕ) (b : Balance) (r
   parts = around (items l) (entry k n) (items r) rising
 
   to_left : IsPart s l → byte_order key k ≡ Less
-  to_left part = left_of key k s own.left (all_part (λ (e : Entry). byte_order e.key k ≡ Less) s l part parts.smaller)
+  to_left part = left_of key k s own.left (all_part (λ (e : KeyEntry). byte_order e.key k ≡ Less) s l part parts.smaller)
 
   to_right : IsPart s r → byte_order key k ≡ Greater
-  to_right part = right_of key k s own.right (all_part (λ (e : Entry). byte_order k e.key ≡ Less) s r part parts.greater)
+  to_right part = right_of key k s own.right (all_part (λ (e : KeyEntry). byte_order k e.key ≡ Less) s r part parts.greater)
 
 -- ---- such a part has as many levels as before, and begins with the same cell
 

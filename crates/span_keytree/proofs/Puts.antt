@@ -13,7 +13,7 @@ use Rattle.span_keycode.specs.Order.{byte_order}
 use Rattle.span_arena.specs.declared.cell.Cell.{Cell}
 use Rattle.span_arena.specs.declared.cell.Balance.{Balance}
 use Rattle.span_arena.specs.declared.cell.Balance.TheVariants.{LeftHigh, Even, RightHigh}
-use Rattle.span_keytree.specs.declared.join.Part.{Part}
+use Rattle.span_keytree.specs.declared.join.GrownPart.{GrownPart}
 use Rattle.span_keytree.specs.Trees.{Tree, Leaf, Fork, Grown, root_of, cell_of, IsInCells, one_at, count, joined_left, joined_right, placed, inserted, by_side, search_in}
 use Rattle.span_arena.specs.Cells.{cell_at, blank, new_cell}
 use Rattle.span_keytree.specs.Effects.{links_of}
@@ -102,7 +102,7 @@ elsewhere xs c i x d differs le = elim (cases_lt c (length xs)) [
   ]))
 ]
 
-pub added_alone : (old new : List Cell) (key : List ℕ) (part : Part) → part.cell ≤ length old → part.root ≡ part.cell → part.grew ≡ true → new ≡ with_at old part.cell (new_cell key) → IsAdded old new Leaf key part
+pub added_alone : (old new : List Cell) (key : List ℕ) (part : GrownPart) → part.cell ≤ length old → part.root ≡ part.cell → part.grew ≡ true → new ≡ with_at old part.cell (new_cell key) → IsAdded old new Leaf key part
 added_alone old new key part number root grew is = record {
   absent = refl;
   free = refl;
@@ -116,21 +116,21 @@ added_alone old new key part number root grew is = record {
 
 -- ---- the left part
 
-cell_higher_left : (b : Balance) (cs : List Cell) (n : ℕ) (part : Part) → (higher_left_root b cs n part).cell ≡ part.cell
+cell_higher_left : (b : Balance) (cs : List Cell) (n : ℕ) (part : GrownPart) → (higher_left_root b cs n part).cell ≡ part.cell
 cell_higher_left LeftHigh cs n part = refl
 cell_higher_left Even cs n part = refl
 cell_higher_left RightHigh cs n part = refl
 
-pub cell_left : (grew : Bool) (cs : List Cell) (n : ℕ) (part : Part) → (joined_left_root grew cs n part).cell ≡ part.cell
+pub cell_left : (grew : Bool) (cs : List Cell) (n : ℕ) (part : GrownPart) → (joined_left_root grew cs n part).cell ≡ part.cell
 cell_left false cs n part = refl
 cell_left true cs n part = cell_higher_left (links_of cs n).balance cs n part
 
-cell_higher_right : (b : Balance) (cs : List Cell) (n : ℕ) (part : Part) → (higher_right_root b cs n part).cell ≡ part.cell
+cell_higher_right : (b : Balance) (cs : List Cell) (n : ℕ) (part : GrownPart) → (higher_right_root b cs n part).cell ≡ part.cell
 cell_higher_right LeftHigh cs n part = refl
 cell_higher_right Even cs n part = refl
 cell_higher_right RightHigh cs n part = refl
 
-pub cell_right : (grew : Bool) (cs : List Cell) (n : ℕ) (part : Part) → (joined_right_root grew cs n part).cell ≡ part.cell
+pub cell_right : (grew : Bool) (cs : List Cell) (n : ℕ) (part : GrownPart) → (joined_right_root grew cs n part).cell ≡ part.cell
 cell_right false cs n part = refl
 cell_right true cs n part = cell_higher_right (links_of cs n).balance cs n part
 
@@ -154,7 +154,7 @@ within_more cs at t new j tree le some = elim (cases_eq j new) [
   | inr differs ↦ (let lt : j < length cs = tree.within j (omega (arith, one_other j new differs)) in omega (arith, places_more (length cs) new))
 ]
 
-pub put_left_at : (old mid new : List Cell) (l : Tree) (i : ℕ) (k : List ℕ) (b : Balance) (r : Tree) (key : List ℕ) (part after : Part)
+pub put_left_at : (old mid new : List Cell) (l : Tree) (i : ℕ) (k : List ℕ) (b : Balance) (r : Tree) (key : List ℕ) (part after : GrownPart)
     → IsTree old (Some i) (Fork l i k b r) → byte_order key k ≡ Less → count part.cell (Fork l i k b r) ≡ 0 → IsAdded old mid l key part
     → new ≡ joined_left_cells part.grew mid i part.root → after ≡ joined_left_root part.grew mid i part
     → IsAdded old new (Fork l i k b r) key after
@@ -170,7 +170,7 @@ put_left_at old mid new l i k b r key part after tree less free added cells resu
     let rest : IsInCells (cell_at mid) r = stays (cell_at old) (cell_at mid) r (λ j h. added.others j (other j (omega arith)) (omega (arith, tree.once j))) tree.in_cells.2 in
     let now = joined_left_is part.grew mid l g.tree part i k b r (omega (arith, added.one_more, places_more (length old) part.cell)) more cell added.root added.in_cells rest once in
     let counts : (j : ℕ) → count j (joined_left part.grew g.tree i k b r).tree ≡ one_at j i + (count j g.tree + count j r) = λ j. count_joined_left j part.grew g.tree i k b r in
-    let cell_same : after.cell ≡ part.cell = ap (λ (p : Part). p.cell) result ∙ cell_left part.grew mid i part in
+    let cell_same : after.cell ≡ part.cell = ap (λ (p : GrownPart). p.cell) result ∙ cell_left part.grew mid i part in
     let tree_is : joined_left part.grew g.tree i k b r ≡ inserted after.cell key (Fork l i k b r) =
     ap (λ (x : Bool). joined_left x g.tree i k b r) added.grew
     ∙ ap (λ (o : Ordering). placed o (inserted part.cell key l) (inserted part.cell key r) l i k b r) (sym less)
@@ -182,15 +182,15 @@ put_left_at old mid new l i k b r key part after tree less free added cells resu
       number = (let le = added.number in omega (arith, cell_same));
       one_more = ap length cells ∙ now.0.same_length ∙ added.one_more ∙ ap (λ (x : ℕ). places_with (length old) x) (sym cell_same);
       in_cells = subst (λ (x : Grown). IsInCells (cell_at new) x.tree) {x = joined_left part.grew g.tree i k b r} {y = inserted after.cell key (Fork l i k b r)} tree_is in_cells_mid;
-      root = ap (λ (p : Part). Some p.root) result ∙ now.0.first ∙ ap (λ (x : Grown). root_of x.tree) tree_is;
-      grew = ap (λ (p : Part). p.grew) result ∙ now.1 ∙ ap (λ (x : Grown). x.grew) tree_is;
+      root = ap (λ (p : GrownPart). Some p.root) result ∙ now.0.first ∙ ap (λ (x : Grown). root_of x.tree) tree_is;
+      grew = ap (λ (p : GrownPart). p.grew) result ∙ now.1 ∙ ap (λ (x : Grown). x.grew) tree_is;
       others = λ j differs none.
           ap (λ (cs : List Cell). cell_at cs j) cells
           ∙ now.0.others j (let d : one_at j part.cell ≡ 0 = one_other j part.cell (λ same. differs (same ∙ sym cell_same)) in omega (arith, counts j, counted j))
           ∙ added.others j (λ same. differs (same ∙ sym cell_same)) (omega arith);
     }
 
-pub put_left : (old mid new : List Cell) (levels i : ℕ) (key : List ℕ) (part after : Part)
+pub put_left : (old mid new : List Cell) (levels i : ℕ) (key : List ℕ) (part after : GrownPart)
     → IsTree old (Some i) (tree_at old levels (Some i)) → byte_order key (cell_at old i).key ≡ Less → count part.cell (tree_at old levels (Some i)) ≡ 0 → IsAdded old mid (tree_at old (levels - 1) (links_of old i).left) key part
     → new ≡ joined_left_cells part.grew mid i part.root → after ≡ joined_left_root part.grew mid i part
     → IsAdded old new (tree_at old levels (Some i)) key after
@@ -200,7 +200,7 @@ put_left old mid new levels i key part after tree less free added cells result =
 
 -- ---- the right part
 
-pub put_right_at : (old mid new : List Cell) (l : Tree) (i : ℕ) (k : List ℕ) (b : Balance) (r : Tree) (key : List ℕ) (part after : Part)
+pub put_right_at : (old mid new : List Cell) (l : Tree) (i : ℕ) (k : List ℕ) (b : Balance) (r : Tree) (key : List ℕ) (part after : GrownPart)
     → IsTree old (Some i) (Fork l i k b r) → byte_order key k ≡ Greater → count part.cell (Fork l i k b r) ≡ 0 → IsAdded old mid r key part
     → new ≡ joined_right_cells part.grew mid i part.root → after ≡ joined_right_root part.grew mid i part
     → IsAdded old new (Fork l i k b r) key after
@@ -216,7 +216,7 @@ put_right_at old mid new l i k b r key part after tree greater free added cells 
     let rest : IsInCells (cell_at mid) l = stays (cell_at old) (cell_at mid) l (λ j h. added.others j (other j (omega arith)) (omega (arith, tree.once j))) tree.in_cells.1 in
     let now = joined_right_is part.grew mid r g.tree part i k b l (omega (arith, added.one_more, places_more (length old) part.cell)) more cell added.root rest added.in_cells once in
     let counts : (j : ℕ) → count j (joined_right part.grew l i k b g.tree).tree ≡ one_at j i + (count j l + count j g.tree) = λ j. count_joined_right j part.grew l i k b g.tree in
-    let cell_same : after.cell ≡ part.cell = ap (λ (p : Part). p.cell) result ∙ cell_right part.grew mid i part in
+    let cell_same : after.cell ≡ part.cell = ap (λ (p : GrownPart). p.cell) result ∙ cell_right part.grew mid i part in
     let tree_is : joined_right part.grew l i k b g.tree ≡ inserted after.cell key (Fork l i k b r) =
     ap (λ (x : Bool). joined_right x l i k b g.tree) added.grew
     ∙ ap (λ (o : Ordering). placed o (inserted part.cell key l) (inserted part.cell key r) l i k b r) (sym greater)
@@ -228,15 +228,15 @@ put_right_at old mid new l i k b r key part after tree greater free added cells 
       number = (let le = added.number in omega (arith, cell_same));
       one_more = ap length cells ∙ now.0.same_length ∙ added.one_more ∙ ap (λ (x : ℕ). places_with (length old) x) (sym cell_same);
       in_cells = subst (λ (x : Grown). IsInCells (cell_at new) x.tree) {x = joined_right part.grew l i k b g.tree} {y = inserted after.cell key (Fork l i k b r)} tree_is in_cells_mid;
-      root = ap (λ (p : Part). Some p.root) result ∙ now.0.first ∙ ap (λ (x : Grown). root_of x.tree) tree_is;
-      grew = ap (λ (p : Part). p.grew) result ∙ now.1 ∙ ap (λ (x : Grown). x.grew) tree_is;
+      root = ap (λ (p : GrownPart). Some p.root) result ∙ now.0.first ∙ ap (λ (x : Grown). root_of x.tree) tree_is;
+      grew = ap (λ (p : GrownPart). p.grew) result ∙ now.1 ∙ ap (λ (x : Grown). x.grew) tree_is;
       others = λ j differs none.
           ap (λ (cs : List Cell). cell_at cs j) cells
           ∙ now.0.others j (let d : one_at j part.cell ≡ 0 = one_other j part.cell (λ same. differs (same ∙ sym cell_same)) in omega (arith, counts j, counted j))
           ∙ added.others j (λ same. differs (same ∙ sym cell_same)) (omega arith);
     }
 
-pub put_right : (old mid new : List Cell) (levels i : ℕ) (key : List ℕ) (part after : Part)
+pub put_right : (old mid new : List Cell) (levels i : ℕ) (key : List ℕ) (part after : GrownPart)
     → IsTree old (Some i) (tree_at old levels (Some i)) → byte_order key (cell_at old i).key ≡ Greater → count part.cell (tree_at old levels (Some i)) ≡ 0 → IsAdded old mid (tree_at old (levels - 1) (links_of old i).right) key part
     → new ≡ joined_right_cells part.grew mid i part.root → after ≡ joined_right_root part.grew mid i part
     → IsAdded old new (tree_at old levels (Some i)) key after

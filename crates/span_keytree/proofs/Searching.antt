@@ -8,7 +8,7 @@ use Rattle.std.proofs.lemmas.List.Elements.{Contains-append_left, Contains-appen
 use Rattle.span_keycode.specs.Order.{byte_order}
 use Rattle.span_arena.specs.declared.cell.Balance.{Balance}
 use Rattle.span_keytree.specs.Trees.{Tree, Leaf, Fork, size, by_side, search_in}
-use Rattle.span_keytree.specs.Entries.{IsAbsent, Entry}
+use Rattle.span_keytree.specs.Entries.{IsAbsent, KeyEntry}
 use Rattle.span_keytree.specs.Items.{entry, items, AreRising, HasCell, below, from}
 use Rattle.span_keytree.specs.Nexts.{before_in, first_in, last_cell, head_cell}
 use Rattle.span_keytree.proofs.Rising.{AllBelow, AllAbove, apart, turned, all_both, all_weaker, below_more, above_more, IsAround, around, below_left, below_right, from_left, from_right, from_here}
@@ -37,24 +37,24 @@ search_found key (Fork l m k b r) n h = found_by (byte_order key k) key l m k b 
 
 -- ---- a key that is not there
 
-abbrev pub AllOther : List ℕ → List Entry → Type 0
-AllOther key es = AllByRecursion (λ (e : Entry). e.key ≢ key) es
+abbrev pub AllOther : List ℕ → List KeyEntry → Type 0
+AllOther key es = AllByRecursion (λ (e : KeyEntry). e.key ≢ key) es
 
-above_other : (key : List ℕ) (es : List Entry) → AllAbove key es → AllOther key es
-above_other key es h = all_weaker (λ (e : Entry). byte_order key e.key ≡ Less) (λ (e : Entry). e.key ≢ key) (λ e x same. apart key e.key x (sym same)) es h
+above_other : (key : List ℕ) (es : List KeyEntry) → AllAbove key es → AllOther key es
+above_other key es h = all_weaker (λ (e : KeyEntry). byte_order key e.key ≡ Less) (λ (e : KeyEntry). e.key ≢ key) (λ e x same. apart key e.key x (sym same)) es h
 
-below_other : (key : List ℕ) (es : List Entry) → AllBelow key es → AllOther key es
-below_other key es h = all_weaker (λ (e : Entry). byte_order e.key key ≡ Less) (λ (e : Entry). e.key ≢ key) (λ e x same. apart e.key key x same) es h
+below_other : (key : List ℕ) (es : List KeyEntry) → AllBelow key es → AllOther key es
+below_other key es h = all_weaker (λ (e : KeyEntry). byte_order e.key key ≡ Less) (λ (e : KeyEntry). e.key ≢ key) (λ e x same. apart e.key key x same) es h
 
 other_by : (o : Ordering) (key : List ℕ) (l : Tree) (m : ℕ) (k : List ℕ) (b : Balance) (r : Tree) → byte_order key k ≡ o → IsAround (items l) (entry k m) (items r)
     → (search_in key l ≡ None → AllOther key (items l)) → (search_in key r ≡ None → AllOther key (items r))
     → by_side o (search_in key l) m (search_in key r) ≡ None → AllOther key (items (Fork l m k b r))
 other_by Less key l m k b r is a left right h =
-    all_both (λ (e : Entry). e.key ≢ key) (items l) (entry k m ∷ items r) (left h) (above_other key (entry k m ∷ items r) (is, above_more key k (items r) is a.greater))
+    all_both (λ (e : KeyEntry). e.key ≢ key) (items l) (entry k m ∷ items r) (left h) (above_other key (entry k m ∷ items r) (is, above_more key k (items r) is a.greater))
 other_by Equal key l m k b r is a left right h = absurd (let e : Some m ≡ None = h in cc)
 other_by Greater key l m k b r is a left right h =
     let less : byte_order k key ≡ Less = turned key k Greater is in
-    all_both (λ (e : Entry). e.key ≢ key) (items l) (entry k m ∷ items r) (below_other key (items l) (below_more k key (items l) less a.smaller)) (λ same. apart k key less same, right h)
+    all_both (λ (e : KeyEntry). e.key ≢ key) (items l) (entry k m ∷ items r) (below_other key (items l) (below_more k key (items l) less a.smaller)) (λ same. apart k key less same, right h)
 
 pub search_other : (key : List ℕ) (t : Tree) → AreRising (items t) → search_in key t ≡ None → AllOther key (items t)
 search_other key Leaf rising h = tt
@@ -63,11 +63,11 @@ search_other key (Fork l m k b r) rising h =
     other_by (byte_order key k) key l m k b r refl a (search_other key l a.front) (search_other key r a.back) h
 
 pub search_absent : (key : List ℕ) (t : Tree) → AreRising (items t) → search_in key t ≡ None → IsAbsent (items t) key
-search_absent key t rising h = All-from_recursion (λ (e : Entry). e.key ≢ key) (items t) (search_other key t rising h)
+search_absent key t rising h = All-from_recursion (λ (e : KeyEntry). e.key ≢ key) (items t) (search_other key t rising h)
 
 -- ---- the last cell below a key, and the first from it on
 
-pub last_middle : (b : Option ℕ) (xs : List Entry) (e : Entry) (ys : List Entry) → last_cell b (xs ++ e ∷ ys) ≡ last_cell (Some e.chain.number) ys
+pub last_middle : (b : Option ℕ) (xs : List KeyEntry) (e : KeyEntry) (ys : List KeyEntry) → last_cell b (xs ++ e ∷ ys) ≡ last_cell (Some e.chain.number) ys
 last_middle b [] e ys = refl
 last_middle b (x ∷ xs) e ys = last_middle (Some x.chain.number) xs e ys
 
@@ -75,13 +75,13 @@ before_by : (o : Ordering) (key : List ℕ) (x : Option ℕ) (l : Tree) (m : ℕ
     → (search_in key l ≡ None → before_in key x l ≡ last_cell x (below key (items l))) → (search_in key r ≡ None → before_in key (Some m) r ≡ last_cell (Some m) (below key (items r)))
     → by_side o (search_in key l) m (search_in key r) ≡ None
     → by_side o (before_in key x l) m (before_in key (Some m) r) ≡ last_cell x (below key (items (Fork l m k b r)))
-before_by Less key x l m k b r is a left right h = left h ∙ ap (λ (es : List Entry). last_cell x es) (sym (below_left (items l) (entry k m) (items r) key a is))
+before_by Less key x l m k b r is a left right h = left h ∙ ap (λ (es : List KeyEntry). last_cell x es) (sym (below_left (items l) (entry k m) (items r) key a is))
 before_by Equal key x l m k b r is a left right h = absurd (let e : Some m ≡ None = h in cc)
 before_by Greater key x l m k b r is a left right h =
     let less : byte_order k key ≡ Less = turned key k Greater is in
     right h
     ∙ sym (last_middle x (items l) (entry k m) (below key (items r)))
-    ∙ ap (λ (es : List Entry). last_cell x es) (sym (below_right (items l) (entry k m) (items r) key a less))
+    ∙ ap (λ (es : List KeyEntry). last_cell x es) (sym (below_right (items l) (entry k m) (items r) key a less))
 
 pub before_is : (key : List ℕ) (x : Option ℕ) (t : Tree) → AreRising (items t) → search_in key t ≡ None → before_in key x t ≡ last_cell x (below key (items t))
 before_is key x Leaf rising h = refl
@@ -89,7 +89,7 @@ before_is key x (Fork l m k b r) rising h =
     let a : IsAround (items l) (entry k m) (items r) = around (items l) (entry k m) (items r) rising in
     before_by (byte_order key k) key x l m k b r refl a (before_is key x l a.front) (before_is key (Some m) r a.back) h
 
-head_middle : (o : Option ℕ) (xs : List Entry) (e : Entry) (ys : List Entry) → head_cell o (xs ++ e ∷ ys) ≡ head_cell (Some e.chain.number) xs
+head_middle : (o : Option ℕ) (xs : List KeyEntry) (e : KeyEntry) (ys : List KeyEntry) → head_cell o (xs ++ e ∷ ys) ≡ head_cell (Some e.chain.number) xs
 head_middle o [] e ys = refl
 head_middle o (x ∷ xs) e ys = refl
 
@@ -99,12 +99,12 @@ first_by : (o : Ordering) (key : List ℕ) (x : Option ℕ) (l : Tree) (m : ℕ)
 first_by Less key x l m k b r is a left right =
     left
     ∙ sym (head_middle x (from key (items l)) (entry k m) (items r))
-    ∙ ap (λ (es : List Entry). head_cell x es) (sym (from_left (items l) (entry k m) (items r) key a is))
+    ∙ ap (λ (es : List KeyEntry). head_cell x es) (sym (from_left (items l) (entry k m) (items r) key a is))
 first_by Equal key x l m k b r is a left right =
-    ap (λ (es : List Entry). head_cell x es) (sym (from_here (items l) (entry k m) (items r) key a (exact_bytes key k is)))
+    ap (λ (es : List KeyEntry). head_cell x es) (sym (from_here (items l) (entry k m) (items r) key a (exact_bytes key k is)))
 first_by Greater key x l m k b r is a left right =
     let less : byte_order k key ≡ Less = turned key k Greater is in
-    right ∙ ap (λ (es : List Entry). head_cell x es) (sym (from_right (items l) (entry k m) (items r) key a less))
+    right ∙ ap (λ (es : List KeyEntry). head_cell x es) (sym (from_right (items l) (entry k m) (items r) key a less))
 
 pub first_is : (key : List ℕ) (x : Option ℕ) (t : Tree) → AreRising (items t) → first_in key x t ≡ head_cell x (from key (items t))
 first_is key x Leaf rising = refl

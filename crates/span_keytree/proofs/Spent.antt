@@ -4,7 +4,7 @@ use Rattle.std.specs.Prelude.{Result, Ok, Err}
 use Rattle.span_value.specs.declared.refusal.Refusal.{Refusal}
 use Rattle.span_arena.specs.declared.cell.Cell.{Cell}
 use Rattle.span_arena.specs.declared.cell.Links.{Links}
-use Rattle.span_keytree.specs.declared.join.Part.{Part}
+use Rattle.span_keytree.specs.declared.join.GrownPart.{GrownPart}
 use Rattle.span_keytree.specs.Puts.{Put, Found, Added}
 use Rattle.span_arena.specs.Counts.{Count}
 use Rattle.span_keytree.specs.Trees.{height, Tree}
@@ -25,7 +25,7 @@ left_under cs levels at i ls e read tree =
     subst (λ (x : Option ℕ). suc (height (tree_at cs (levels - 1) ls.left)) ≤ height (tree_at cs levels x)) {x = Some i} {y = at} (sym e)
     (subst (λ (x : Links). suc (height (tree_at cs (levels - 1) x.left)) ≤ height (tree_at cs levels (Some i))) {x = links_of cs i} {y = ls} (sym read) low)
 
-pub left_spent : (old mid : List Cell) (levels : ℕ) (at : Option ℕ) (i : ℕ) (ls : Links) (v : Put) (part after : Part) (s0 s1 s2 s3 : Count) → at ≡ Some i → ls ≡ links_of old i → IsTree old at (tree_at old levels at)
+pub left_spent : (old mid : List Cell) (levels : ℕ) (at : Option ℕ) (i : ℕ) (ls : Links) (v : Put) (part after : GrownPart) (s0 s1 s2 s3 : Count) → at ≡ Some i → ls ≡ links_of old i → IsTree old at (tree_at old levels at)
     → IsCompared s0 s1 → IsPutCost (tree_at old (levels - 1) ls.left) (Ok v) s1 s2 → v ≡ Added part → IsJoinCost part.grew after.grew s2 s3 → after ≡ joined_left_root part.grew mid i part
     → IsPutCost (tree_at old levels at) (Ok (Added after)) s0 s3
 left_spent old mid levels at i ls v part after s0 s1 s2 s3 e read tree one cost is join result =
@@ -38,7 +38,7 @@ right_under cs levels at i ls e read tree =
     subst (λ (x : Option ℕ). suc (height (tree_at cs (levels - 1) ls.right)) ≤ height (tree_at cs levels x)) {x = Some i} {y = at} (sym e)
     (subst (λ (x : Links). suc (height (tree_at cs (levels - 1) x.right)) ≤ height (tree_at cs levels (Some i))) {x = links_of cs i} {y = ls} (sym read) low)
 
-pub right_spent : (old mid : List Cell) (levels : ℕ) (at : Option ℕ) (i : ℕ) (ls : Links) (v : Put) (part after : Part) (s0 s1 s2 s3 : Count) → at ≡ Some i → ls ≡ links_of old i → IsTree old at (tree_at old levels at)
+pub right_spent : (old mid : List Cell) (levels : ℕ) (at : Option ℕ) (i : ℕ) (ls : Links) (v : Put) (part after : GrownPart) (s0 s1 s2 s3 : Count) → at ≡ Some i → ls ≡ links_of old i → IsTree old at (tree_at old levels at)
     → IsCompared s0 s1 → IsPutCost (tree_at old (levels - 1) ls.right) (Ok v) s1 s2 → v ≡ Added part → IsJoinCost part.grew after.grew s2 s3 → after ≡ joined_right_root part.grew mid i part
     → IsPutCost (tree_at old levels at) (Ok (Added after)) s0 s3
 right_spent old mid levels at i ls v part after s0 s1 s2 s3 e read tree one cost is join result =

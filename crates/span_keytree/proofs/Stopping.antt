@@ -10,7 +10,7 @@ use Rattle.span_arena.specs.declared.cell.Balance.{Balance}
 use Rattle.span_arena.specs.declared.cell.Balance.TheVariants.{LeftHigh, Even, RightHigh}
 use Rattle.span_arena.specs.Cells.{cell_at, blank, with_links}
 use Rattle.span_arena.specs.Counts.{Count}
-use Rattle.span_keytree.specs.declared.join.Part.{Part}
+use Rattle.span_keytree.specs.declared.join.GrownPart.{GrownPart}
 use Rattle.span_keytree.specs.Effects.{links_of, links_with}
 use Rattle.span_keytree.specs.Joins.{joined_right_cells, joined_right_root, most_by, IsJoinCost}
 use Rattle.span_keytree.specs.Lasts.{IsAboveRight, turns_by, IsHangCost, stop_by, stop_in, with_root, IsRight, IsUnevenBy, IsUneven, IsStop}
@@ -127,7 +127,7 @@ tree_right cs l n k b r tree = record {
   within = λ j h. tree.within j (omega arith);
 }
 
-abbrev pub kept_part : ℕ → ℕ → Part
+abbrev pub kept_part : ℕ → ℕ → GrownPart
 kept_part c root = record { cell = c; root = root; grew = false }
 
 lifted : (cs new : List Cell) (key : List ℕ) (c : ℕ) (t s : Tree) (x : ℕ) → IsRight s t → IsTree cs (root_of t) t → IsAboveRight key t → count c t ≡ 0 → Some x ≡ root_of s → IsAdded cs new s key (kept_part c x) → (y : ℕ) → Some y ≡ root_of t → IsAdded cs new t key (kept_part c y)
@@ -153,11 +153,11 @@ levels_low f (suc n) (Some i) =
     let most = max-le (levels_low f n (f i).links.left) (levels_low f n (f i).links.right) in
     omega (arith, most)
 
-root_cell : (at : Option ℕ) (part : Part) → (with_root at part).cell ≡ part.cell
+root_cell : (at : Option ℕ) (part : GrownPart) → (with_root at part).cell ≡ part.cell
 root_cell None part = refl
 root_cell (Some root) part = refl
 
-root_grew : (at : Option ℕ) (part : Part) → (with_root at part).grew ≡ part.grew
+root_grew : (at : Option ℕ) (part : GrownPart) → (with_root at part).grew ≡ part.grew
 root_grew None part = refl
 root_grew (Some root) part = refl
 
@@ -203,7 +203,7 @@ module _ (cs : List Cell) (levels : ℕ) (at : Option ℕ) (key : List ℕ) (c p
     pub part_above : IsAboveRight key (tree_at cs levels ls.right)
     part_above = subst (λ (u : Tree). IsAboveRight key u) {x = s} {y = tree_at cs levels ls.right} (sym same_part) above_fork.1
 
-    module _ (mid : List Cell) (part : Part) (added : IsAdded cs mid (tree_at cs levels ls.right) key part) where
+    module _ (mid : List Cell) (part : GrownPart) (added : IsAdded cs mid (tree_at cs levels ls.right) key part) where
       pub part_ready : IsReady mid part.root × (p < length mid)
       part_ready =
           (ready_part cs mid ls.right (tree_at cs levels ls.right) key part part_tree added, omega (arith, stop_inside, added.one_more, places_more (length cs) part.cell))
@@ -214,31 +214,31 @@ module _ (cs : List Cell) (levels : ℕ) (at : Option ℕ) (key : List ℕ) (c p
           ∙ ap (λ (u : Tree). (inserted part.cell key u).grew) same_part
           ∙ not_grown part.cell key s uneven above_fork.1
 
-      module _ (new : List Cell) (after : Part) (same : part.cell ≡ c) (result : after ≡ joined_right_root part.grew mid p part) where
+      module _ (new : List Cell) (after : GrownPart) (same : part.cell ≡ c) (result : after ≡ joined_right_root part.grew mid p part) where
         after_is : after ≡ kept_part c p
         after_is = result ∙ ap (λ (g : Bool). joined_right_root g mid p part) stays_low ∙ ap (λ (x : ℕ). kept_part x p) same
 
         pub part_cell : (with_root at after).cell ≡ c
-        part_cell = root_cell at after ∙ ap (λ (x : Part). x.cell) after_is
+        part_cell = root_cell at after ∙ ap (λ (x : GrownPart). x.cell) after_is
 
         pub part_added : new ≡ joined_right_cells part.grew mid p part.root → IsAdded cs new (tree_at cs levels at) key (with_root at after)
         part_added cells =
             let inner : IsAdded cs mid s key part = subst (λ (u : Tree). IsAdded cs mid u key part) {x = tree_at cs levels ls.right} {y = s} same_part added in
             let none : count part.cell (Fork l p k b s) ≡ 0 = ap (λ (x : ℕ). count x (Fork l p k b s)) same ∙ free_fork in
             let joined : IsAdded cs new (Fork l p k b s) key after = put_right_at cs mid new l p k b s key part after fork_there above_fork.0 none inner cells result in
-            let fork : IsAdded cs new (Fork l p k b s) key (kept_part c p) = subst (λ (x : Part). IsAdded cs new (Fork l p k b s) key x) {x = after} {y = kept_part c p} after_is joined in
+            let fork : IsAdded cs new (Fork l p k b s) key (kept_part c p) = subst (λ (x : GrownPart). IsAdded cs new (Fork l p k b s) key x) {x = after} {y = kept_part c p} after_is joined in
             let top = some_root (Fork l p k b s) (tree_at cs levels at) p there refl in
             let own : IsTree cs (root_of (tree_at cs levels at)) (tree_at cs levels at) = subst (λ (x : Option ℕ). IsTree cs x (tree_at cs levels at)) {x = at} {y = root_of (tree_at cs levels at)} tree.root tree in
             let whole : IsAdded cs new (tree_at cs levels at) key (kept_part c top.0) = lifted cs new key c (tree_at cs levels at) (Fork l p k b s) p there own above free refl fork top.0 top.1 in
             let e : at ≡ Some top.0 = tree.root ∙ sym top.1 in
-            let now : with_root at after ≡ kept_part c top.0 = ap (λ (x : Option ℕ). with_root x after) e ∙ ap (λ (x : Part). with_root (Some top.0) x) after_is in
-            subst (λ (x : Part). IsAdded cs new (tree_at cs levels at) key x) {x = kept_part c top.0} {y = with_root at after} (sym now) whole
+            let now : with_root at after ≡ kept_part c top.0 = ap (λ (x : Option ℕ). with_root x after) e ∙ ap (λ (x : GrownPart). with_root (Some top.0) x) after_is in
+            subst (λ (x : GrownPart). IsAdded cs new (tree_at cs levels at) key x) {x = kept_part c top.0} {y = with_root at after} (sym now) whole
 
         pub part_cost : (s0 s1 s2 : Count) → IsHangCost (tree_at cs levels ls.right) part s0 s1 → IsJoinCost part.grew after.grew s1 s2 → IsHangCost (tree_at cs levels at) (with_root at after) s0 s2
         part_cost s0 s1 s2 cost join =
             let most : most_by part.grew after.grew ≡ 1 = ap (λ (g : Bool). most_by g after.grew) stays_low in
             let first : turns_by part.grew ≡ 2 = ap turns_by stays_low in
-            let then : turns_by (with_root at after).grew ≡ 2 = ap turns_by (root_grew at after ∙ ap (λ (x : Part). x.grew) after_is) in
+            let then : turns_by (with_root at after).grew ≡ 2 = ap turns_by (root_grew at after ∙ ap (λ (x : GrownPart). x.grew) after_is) in
             let h : height (tree_at cs levels ls.right) ≡ height s = ap height same_part in
             let d = cost.compared in let e = cost.written in let f = join.compared in let g = join.written in
             record { compared = f ∙ d; written = omega (arith, lower) }

@@ -7,7 +7,7 @@ use Rattle.std.proofs.Math.Nat.{le-max_left, le-max_right}
 use Rattle.std.proofs.lemmas.List.{length-set}
 use Rattle.span_value.specs.declared.refusal.Refusal.{Refusal}
 use Rattle.span_arena.specs.declared.cell.Cell.{Cell}
-use Rattle.span_keytree.specs.declared.join.Part.{Part}
+use Rattle.span_keytree.specs.declared.join.GrownPart.{GrownPart}
 use Rattle.span_keytree.specs.Puts.{Put, Found, Added}
 use Rattle.span_keytree.specs.declared.tree.TreeRoot.{TreeRoot}
 use Rattle.span_keytree.specs.Trees.{Tree, Leaf, Fork, Grown, root_of, IsInCells, one_at, count, shape, height, size, IsAvl, inserted, search_in}
@@ -15,7 +15,7 @@ use Rattle.span_keytree.specs.Avl.{grown_height}
 use Rattle.span_arena.specs.Counts.{Count}
 use Rattle.span_arena.specs.Content.{Content, IsNewChain}
 use Rattle.span_arena.specs.Cells.{cell_at}
-use Rattle.span_keytree.specs.Entries.{with_entry, Entry}
+use Rattle.span_keytree.specs.Entries.{with_entry, KeyEntry}
 use Rattle.span_keytree.specs.Items.{entry, items, holders, AreRising, below, above}
 use Rattle.span_keytree.specs.Nexts.{Nexts, next_of, IsLinked, places_with, with_place, with_cell, before_in, last_cell}
 use Rattle.span_keytree.specs.Puts.{IsTree, IsPut, IsPutIn, IsNext, IsAdded, IsPutCost, IsSearchOf, extra, extra_by}
@@ -29,7 +29,7 @@ use Rattle.span_keytree.proofs.Searching.{length_items, search_found, search_abs
 use Rattle.span_keytree.proofs.Placing.{items_inserted}
 use Rattle.span_keytree.proofs.Lasts.{last_stays, one_more_compared}
 use Rattle.span_keytree.proofs.Keyed.{keys_in_cells}
-use Rattle.span_keytree.proofs.Linking.{held_items, linked_same, room_same, linked_more}
+use Rattle.span_keytree.proofs.Linking.{held_items, linked_same, empty_link_same, linked_more}
 use Rattle.span_keytree.proofs.Sizes.{size_most}
 use Rattle.span_keytree.proofs.Exits.{found_is}
 
@@ -47,7 +47,7 @@ shape_is f (Fork l i k b r) (suc n) in_cells tall =
 
 -- ---- the entries
 
-rising_more : (key : List ℕ) (c : ℕ) (es : List Entry) → AreRising (below key es ++ above key es) → AreRising (with_entry es (entry key c))
+rising_more : (key : List ℕ) (c : ℕ) (es : List KeyEntry) → AreRising (below key es ++ above key es) → AreRising (with_entry es (entry key c))
 rising_more key c es rising = rising_around (below key es) (entry key c) (above key es) (record {
   front = rising_front (below key es) (above key es) rising;
   back = rising_back (below key es) (above key es) rising;
@@ -68,7 +68,7 @@ length_place n c = elim (cases_lt c (length n.next)) [
 place_same : (n : Nexts) (c i : ℕ) → next_of (with_place n c) i ≡ next_of n i
 place_same n c i = elim (cases_lt c (length n.next)) [
   | inl lt ↦ (let t : nat_lt c (length n.next) ≡ true = grind (arith, nat_tests) in rw t refl)
-  | inr ge ↦ (let t : nat_lt c (length n.next) ≡ false = grind (arith, nat_tests) in rw t (room_same n i))
+  | inr ge ↦ (let t : nat_lt c (length n.next) ≡ false = grind (arith, nat_tests) in rw t (empty_link_same n i))
 ]
 
 place_first : (n : Nexts) (c : ℕ) → (with_place n c).first ≡ n.first
@@ -93,7 +93,7 @@ linked_with cs at t ns key c tree rising linked places free number absent =
     (λ i. omega (arith, held_is i, tree.once i))
     (held_is c ∙ free)
     (subst (λ (x : Option ℕ). IsLinked (next_of (with_place ns c)) x (below key (items t) ++ above key (items t))) {x = ns.first} {y = (with_place ns c).first} (sym (place_first ns c))
-    (subst (λ (l : List Entry). IsLinked (next_of (with_place ns c)) ns.first l) {x = items t} {y = below key (items t) ++ above key (items t)} cut in_room))
+    (subst (λ (l : List KeyEntry). IsLinked (next_of (with_place ns c)) ns.first l) {x = items t} {y = below key (items t) ++ above key (items t)} cut in_room))
 
 -- ---- the index
 
@@ -102,7 +102,7 @@ pub record IsAfter (old new : Content) (ms : Nexts) (before after : TreeRoot) (k
   pub own : IsIndex new.cells ms after
   pub more : IsMore old new before after key cell
 
-module _ (a b : Content) (ns ms : Nexts) (before after : TreeRoot) (key : List ℕ) (part : Part) (index : IsIndex a.cells ns before) (added : IsAdded a.cells b.cells (tree_of a.cells before) key part) (fresh : IsNewChain a b part.cell)
+module _ (a b : Content) (ns ms : Nexts) (before after : TreeRoot) (key : List ℕ) (part : GrownPart) (index : IsIndex a.cells ns before) (added : IsAdded a.cells b.cells (tree_of a.cells before) key part) (fresh : IsNewChain a b part.cell)
     (nexts : ms ≡ with_cell (with_place ns part.cell) (before_in key None (tree_of a.cells before)) part.cell) (root : after.root ≡ Some part.root) (levels : after.levels ≡ grown_height part.grew before.levels)
     (last : after.last ≡ last_cell None (with_entry (entries_at a.cells before) (entry key part.cell))) where
   g : Grown
@@ -151,7 +151,7 @@ module _ (a b : Content) (ns ms : Nexts) (before after : TreeRoot) (key : List �
   linked_after =
       let then : IsLinked (next_of (with_cell (with_place ns part.cell) (before_in key None (tree_of a.cells before)) part.cell)) (with_cell (with_place ns part.cell) (before_in key None (tree_of a.cells before)) part.cell).first (with_entry (entries_at a.cells before) (entry key part.cell)) =
       linked_with a.cells before.root (tree_of a.cells before) ns key part.cell index.search.tree index.search.rising index.linked index.places added.free added.number added.absent in
-      subst (λ (l : List Entry). IsLinked (next_of ms) ms.first l) {x = with_entry (entries_at a.cells before) (entry key part.cell)} {y = entries_at b.cells after} (sym now)
+      subst (λ (l : List KeyEntry). IsLinked (next_of ms) ms.first l) {x = with_entry (entries_at a.cells before) (entry key part.cell)} {y = entries_at b.cells after} (sym now)
       (subst (λ (n : Nexts). IsLinked (next_of n) n.first (with_entry (entries_at a.cells before) (entry key part.cell))) {x = with_cell (with_place ns part.cell) (before_in key None (tree_of a.cells before)) part.cell} {y = ms} (sym nexts) then)
 
   places_after : length ms.next ≡ length b.cells
@@ -164,7 +164,7 @@ module _ (a b : Content) (ns ms : Nexts) (before after : TreeRoot) (key : List �
 
   pub index_after : IsAfter a b ms before after key part.cell
   index_after = record {
-    own = record { search = search_after; linked = linked_after; places = places_after; last = last ∙ ap (λ (es : List Entry). last_cell None es) (sym now) };
+    own = record { search = search_after; linked = linked_after; places = places_after; last = last ∙ ap (λ (es : List KeyEntry). last_cell None es) (sym now) };
     more = record { absent = search_absent key (tree_of a.cells before) index.search.rising added.absent; fresh = fresh; now = now };
   }
 
@@ -216,7 +216,7 @@ slot_found old new ns ms index key b v n put arena next is =
       index = refl;
     }
 
-pub slot_added : (old new : Content) (ns ms : Nexts) (before after : TreeRoot) (key : List ℕ) (v : Put) (part : Part) → IsIndex old.cells ns before → IsPut old.cells new.cells (tree_of old.cells before) key v → IsPutIn old new v → IsNext ns ms (before_in key None (tree_of old.cells before)) v → v ≡ Added part
+pub slot_added : (old new : Content) (ns ms : Nexts) (before after : TreeRoot) (key : List ℕ) (v : Put) (part : GrownPart) → IsIndex old.cells ns before → IsPut old.cells new.cells (tree_of old.cells before) key v → IsPutIn old new v → IsNext ns ms (before_in key None (tree_of old.cells before)) v → v ≡ Added part
     → after.root ≡ Some part.root → after.levels ≡ grown_height part.grew before.levels → after.last ≡ before.last → is_after old.cells before.last key ≡ false → IsAfter old new ms before after key part.cell
 slot_added old new ns ms before after key v part index put arena next is root levels last among =
     let added : IsAdded old.cells new.cells (tree_of old.cells before) key part = subst (λ (x : Put). IsPut old.cells new.cells (tree_of old.cells before) key x) {x = v} {y = Added part} is put in

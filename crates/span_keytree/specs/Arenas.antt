@@ -2,7 +2,7 @@
 use Rattle.std.specs.Prelude.{◌≡◌, ℕ, List, not, filter, length, Option, Some, None, slice_index_or, if◌then◌else◌}
 use Rattle.span_arena.specs.Content.{Content, is_unused}
 use Rattle.span_arena.specs.declared.version.Version.{Version}
-use Rattle.span_keytree.specs.Entries.{Entry}
+use Rattle.span_keytree.specs.Entries.{KeyEntry}
 use Rattle.span_keytree.specs.Items.{holders}
 
 abbrev pub one_if_chain : Option (List Version) → ℕ
@@ -10,7 +10,7 @@ one_if_chain None = 0
 one_if_chain (Some vs) = 1
 
 -- each chain of the arena is that of one key, and the keys have no others
-pub record IsArenaOf (es : List Entry) (a : Content) : Type 0 where
+pub record IsArenaOf (es : List KeyEntry) (a : Content) : Type 0 where
   pub each : (c : ℕ) → holders c es ≡ one_if_chain (slice_index_or a.chains c None)
 
 -- the same numbers are chains
@@ -19,7 +19,7 @@ HasSameChains old new =
     (c : ℕ) → one_if_chain (slice_index_or new.chains c None) ≡ one_if_chain (slice_index_or old.chains c None)
 
 -- the entries whose chains have a version, or something prepared for them
-abbrev pub in_use : Content → List Entry → List Entry
+abbrev pub in_use : Content → List KeyEntry → List KeyEntry
 in_use a es = filter (λ e. not (is_unused a e.chain.number)) es
 
 -- A number whose chain has no version and nothing prepared is no chain any more, and nothing else is changed. Of the

@@ -3,12 +3,12 @@ use Rattle.std.specs.Prelude.{ℕ, List, Some, Bool, true, false}
 use Rattle.span_arena.specs.declared.cell.Cell.{Cell}
 use Rattle.span_arena.specs.declared.cell.Balance.{Balance}
 use Rattle.span_arena.specs.declared.cell.Balance.TheVariants.{LeftHigh, Even, RightHigh}
-use Rattle.span_keytree.specs.declared.join.Part.{Part}
+use Rattle.span_keytree.specs.declared.join.GrownPart.{GrownPart}
 use Rattle.span_arena.specs.Counts.{Count}
 use Rattle.span_arena.specs.Cells.{with_links}
 use Rattle.span_keytree.specs.Effects.{links_with, links_of, turned_right_cells, turned_right_root, turned_left_cells, turned_left_root, IsWithin}
 
-abbrev pub part_of : Part → ℕ → Bool → Part
+abbrev pub part_of : GrownPart → ℕ → Bool → GrownPart
 part_of p root grew = record { cell = p.cell; root = root; grew = grew }
 
 abbrev pub higher_left_cells : Balance → List Cell → ℕ → ℕ → List Cell
@@ -21,12 +21,12 @@ joined_left_cells false cs at root =
     with_links cs at (links_with (Some root) (links_of cs at).right (links_of cs at).balance)
 joined_left_cells true cs at root = higher_left_cells (links_of cs at).balance cs at root
 
-abbrev pub higher_left_root : Balance → List Cell → ℕ → Part → Part
+abbrev pub higher_left_root : Balance → List Cell → ℕ → GrownPart → GrownPart
 higher_left_root LeftHigh cs at part = part_of part (turned_right_root cs at part.root) false
 higher_left_root Even cs at part = part_of part at true
 higher_left_root RightHigh cs at part = part_of part at false
 
-abbrev pub joined_left_root : Bool → List Cell → ℕ → Part → Part
+abbrev pub joined_left_root : Bool → List Cell → ℕ → GrownPart → GrownPart
 joined_left_root false cs at part = part_of part at false
 joined_left_root true cs at part = higher_left_root (links_of cs at).balance cs at part
 
@@ -40,12 +40,12 @@ joined_right_cells false cs at root =
     with_links cs at (links_with (links_of cs at).left (Some root) (links_of cs at).balance)
 joined_right_cells true cs at root = higher_right_cells (links_of cs at).balance cs at root
 
-abbrev pub higher_right_root : Balance → List Cell → ℕ → Part → Part
+abbrev pub higher_right_root : Balance → List Cell → ℕ → GrownPart → GrownPart
 higher_right_root RightHigh cs at part = part_of part (turned_left_root cs at part.root) false
 higher_right_root Even cs at part = part_of part at true
 higher_right_root LeftHigh cs at part = part_of part at false
 
-abbrev pub joined_right_root : Bool → List Cell → ℕ → Part → Part
+abbrev pub joined_right_root : Bool → List Cell → ℕ → GrownPart → GrownPart
 joined_right_root false cs at part = part_of part at false
 joined_right_root true cs at part = higher_right_root (links_of cs at).balance cs at part
 

@@ -8,7 +8,7 @@ use Rattle.span_arena.specs.declared.cell.Balance.{Balance}
 use Rattle.span_arena.specs.declared.cell.Balance.TheVariants.{LeftHigh, Even, RightHigh}
 use Rattle.span_arena.specs.Cells.{cell_at, new_cell}
 use Rattle.span_arena.specs.Counts.{Count}
-use Rattle.span_keytree.specs.declared.join.Part.{Part}
+use Rattle.span_keytree.specs.declared.join.GrownPart.{GrownPart}
 use Rattle.span_keytree.specs.Trees.{Tree, Leaf, Fork, height}
 
 -- the key is above those of the cells along the right links
@@ -22,7 +22,7 @@ is_after cs None key = true
 is_after cs (Some i) key = is_gt (byte_order key (cell_at cs i).key)
 
 -- a new cell, not joined to others
-pub record IsNewPart (cs : List Cell) (part : Part) : Type 0 where
+pub record IsNewPart (cs : List Cell) (part : GrownPart) : Type 0 where
   pub alone : cell_at cs part.cell ≡ new_cell (cell_at cs part.cell).key
   pub here : part.cell < length cs
   pub root : part.root ≡ part.cell
@@ -65,7 +65,7 @@ pub record IsStop (p : ℕ) (t : Tree) : Type 0 where
   pub uneven : IsUneven right
 
 -- a part that begins with this cell, if one is given
-abbrev pub with_root : Option ℕ → Part → Part
+abbrev pub with_root : Option ℕ → GrownPart → GrownPart
 with_root None part = part
 with_root (Some root) part = record { cell = part.cell; root = root; grew = part.grew }
 
@@ -85,7 +85,7 @@ turns_by true = 0
 turns_by false = 2
 
 -- no key is compared, and as many entries written as the tree has levels, and up to two
-pub record IsHangCost (t : Tree) (part : Part) (old new : Count) : Type 0 where
+pub record IsHangCost (t : Tree) (part : GrownPart) (old new : Count) : Type 0 where
   pub compared : new.compared ≡ old.compared
   pub written : new.written ≤ old.written + (height t + turns_by part.grew)
 

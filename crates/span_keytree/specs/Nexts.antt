@@ -4,7 +4,7 @@ use Rattle.span_keycode.specs.Order.{byte_order}
 use Rattle.span_keytree.specs.Trees.{Tree, Leaf, Fork, by_side}
 use Rattle.span_arena.specs.Cells.{is_past}
 use Rattle.span_arena.specs.Limits.{most_chains}
-use Rattle.span_keytree.specs.Entries.{Entry}
+use Rattle.span_keytree.specs.Entries.{KeyEntry}
 
 -- the first cell, and the cell after each
 pub record Nexts : Type 0 where
@@ -19,13 +19,13 @@ abbrev pub next_of : Nexts → ℕ → Option ℕ
 next_of n i = slice_index_or n.next i None
 
 -- the links lead from cell to cell as the entries follow each other, and end after the last
-abbrev pub IsLinked : (ℕ → Option ℕ) → Option ℕ → List Entry → Type 0
+abbrev pub IsLinked : (ℕ → Option ℕ) → Option ℕ → List KeyEntry → Type 0
 IsLinked f first [] = first ≡ None
 IsLinked f first (e ∷ es) = (first ≡ Some e.chain.number) × IsLinked f (f e.chain.number) es
 
 -- one cell more, to which no link leads
-abbrev pub with_room : Nexts → Nexts
-with_room n = record { first = n.first; next = n.next ++ None ∷ [] }
+abbrev pub with_empty_link : Nexts → Nexts
+with_empty_link n = record { first = n.first; next = n.next ++ None ∷ [] }
 
 -- how many places there are, with one for this number
 abbrev pub places_with : ℕ → ℕ → ℕ
@@ -33,7 +33,7 @@ places_with n cell = (if nat_lt cell n then n else (n + 1))
 
 -- with a place for the cell: its own, or one more
 abbrev pub with_place : Nexts → ℕ → Nexts
-with_place n cell = (if nat_lt cell (length n.next) then n else with_room n)
+with_place n cell = (if nat_lt cell (length n.next) then n else with_empty_link n)
 
 -- the cell is after another, or first
 abbrev pub with_cell : Nexts → Option ℕ → ℕ → Nexts
@@ -52,12 +52,12 @@ first_in key a Leaf = a
 first_in key a (Fork l n k bal r) = by_side (byte_order key k) (first_in key (Some n) l) n (first_in key a r)
 
 -- the cell of the last entry, or what is given where there is none
-abbrev pub last_cell : Option ℕ → List Entry → Option ℕ
+abbrev pub last_cell : Option ℕ → List KeyEntry → Option ℕ
 last_cell b [] = b
 last_cell b (e ∷ es) = last_cell (Some e.chain.number) es
 
 -- the cell of the first entry, or what is given where there is none
-abbrev pub head_cell : Option ℕ → List Entry → Option ℕ
+abbrev pub head_cell : Option ℕ → List KeyEntry → Option ℕ
 head_cell a [] = a
 head_cell a (e ∷ es) = Some e.chain.number
 

@@ -1,7 +1,7 @@
 -- A key put into a tree of cells.
 use Rattle.std.specs.Prelude.{◌≡◌, ◌≢◌, ℕ, ◌+◌, ◌<◌, ◌≤◌, List, length, Option, Some, None, Result, Ok, Err, Bool, true, false}
 use Rattle.span_arena.specs.declared.cell.Cell.{Cell}
-use Rattle.span_keytree.specs.declared.join.Part.{Part}
+use Rattle.span_keytree.specs.declared.join.GrownPart.{GrownPart}
 use Rattle.span_value.specs.declared.refusal.Refusal.{Refusal}
 use Rattle.span_keytree.specs.Trees.{Tree, root_of, IsInCells, count, height, shape, inserted, search_in}
 use Rattle.span_arena.specs.Counts.{Count}
@@ -12,13 +12,13 @@ use Rattle.span_keytree.specs.Nexts.{Nexts, places_with, with_place, with_cell}
 -- what came of a key that was put into a tree: it is that of this chain, or it has a new one
 pub data Put : Type 0 where
   Found : (cell : ℕ) → Put
-  Added : (part : Part) → Put
+  Added : (part : GrownPart) → Put
 
-abbrev pub put_of : Bool → Part → Put
+abbrev pub put_of : Bool → GrownPart → Put
 put_of false part = Found part.cell
 put_of true part = Added part
 
-abbrev pub put_result : Result Bool Refusal → Part → Result Put Refusal
+abbrev pub put_result : Result Bool Refusal → GrownPart → Result Put Refusal
 put_result (Ok is_added) part = Ok (put_of is_added part)
 put_result (Err why) part = Err why
 
@@ -42,7 +42,7 @@ pub record IsFound (old new : List Cell) (t : Tree) (key : List ℕ) (at : ℕ) 
   pub same : new ≡ old
 
 -- the key was not there, and is now, in a new cell
-pub record IsAdded (old new : List Cell) (t : Tree) (key : List ℕ) (part : Part) : Type 0 where
+pub record IsAdded (old new : List Cell) (t : Tree) (key : List ℕ) (part : GrownPart) : Type 0 where
   pub absent : search_in key t ≡ None
   pub free : count part.cell t ≡ 0
   pub number : part.cell ≤ length old

@@ -6,7 +6,7 @@ use Rattle.span_keytree.specs.declared.tree.TreeRoot.{TreeRoot}
 use Rattle.span_keytree.specs.Trees.{Tree, IsAvl, height}
 use Rattle.span_arena.specs.Counts.{Count}
 use Rattle.span_keytree.specs.Puts.{tree_at, IsTree}
-use Rattle.span_keytree.specs.Entries.{IsAbsent, with_entry, Entry}
+use Rattle.span_keytree.specs.Entries.{IsAbsent, with_entry, KeyEntry}
 use Rattle.span_keytree.specs.Items.{entry, items, AreRising, HasCell}
 use Rattle.span_keytree.specs.Nexts.{Nexts, next_of, IsLinked, last_cell}
 
@@ -14,7 +14,7 @@ abbrev pub tree_of : List Cell → TreeRoot → Tree
 tree_of cs index = tree_at cs index.levels index.root
 
 -- the keys in order, each with its cell
-abbrev pub entries_at : List Cell → TreeRoot → List Entry
+abbrev pub entries_at : List Cell → TreeRoot → List KeyEntry
 entries_at cs index = items (tree_of cs index)
 
 -- the index is a balanced tree of these cells, whose keys rise

@@ -16,7 +16,7 @@ use std::sync::ledger::Ledger;
 
 /// A part after a key more: the new cell, the part's first cell, and whether it has one level more.
 #[derive(Clone, Copy, Debug)]
-pub struct Part {
+pub struct GrownPart {
     pub cell: u32,
     pub root: u32,
     pub grew: bool,
@@ -293,7 +293,7 @@ fn leads_to(link: Option<u32>, cell: u32) -> bool
 fn keep_left<C: Ledger, W: Ledger>(
     arena: &mut Arena,
     at: u32,
-    part: &mut Part,
+    part: &mut GrownPart,
     steps: &mut Steps<C, W>,
 )
     requires at { at < length arena.old.cells }
@@ -317,7 +317,7 @@ fn keep_left<C: Ledger, W: Ledger>(
 fn keep_right<C: Ledger, W: Ledger>(
     arena: &mut Arena,
     at: u32,
-    part: &mut Part,
+    part: &mut GrownPart,
     steps: &mut Steps<C, W>,
 )
     requires at { at < length arena.old.cells }
@@ -339,7 +339,7 @@ fn keep_right<C: Ledger, W: Ledger>(
 fn raise_left<C: Ledger, W: Ledger>(
     arena: &mut Arena,
     at: u32,
-    part: &mut Part,
+    part: &mut GrownPart,
     steps: &mut Steps<C, W>,
 )
     requires at { at < length arena.old.cells }
@@ -375,7 +375,7 @@ fn raise_left<C: Ledger, W: Ledger>(
 fn raise_right<C: Ledger, W: Ledger>(
     arena: &mut Arena,
     at: u32,
-    part: &mut Part,
+    part: &mut GrownPart,
     steps: &mut Steps<C, W>,
 )
     requires at { at < length arena.old.cells }
@@ -410,7 +410,7 @@ fn raise_right<C: Ledger, W: Ledger>(
 pub(crate) fn join_left<C: Ledger, W: Ledger>(
     arena: &mut Arena,
     at: u32,
-    part: &mut Part,
+    part: &mut GrownPart,
     steps: &mut Steps<C, W>,
 )
     requires at { at < length arena.old.cells }
@@ -432,7 +432,7 @@ pub(crate) fn join_left<C: Ledger, W: Ledger>(
 pub(crate) fn join_right<C: Ledger, W: Ledger>(
     arena: &mut Arena,
     at: u32,
-    part: &mut Part,
+    part: &mut GrownPart,
     steps: &mut Steps<C, W>,
 )
     requires at { at < length arena.old.cells }

@@ -13,7 +13,7 @@ ghost use Rattle.span_keytree.specs.Nexts.{last_cell};
 ghost use Rattle.span_keytree.specs.Puts.{tree_at, IsAdded, IsTree};
 ghost use Rattle.span_keytree.specs.Trees.{count};
 
-use crate::join::{Part, join_right};
+use crate::join::{GrownPart, join_right};
 use crate::next::NextLinks;
 use crate::put::add_key;
 use crate::stop::last_stop;
@@ -77,7 +77,7 @@ pub(crate) fn put_last<C: Ledger, W: Ledger>(
     // The count of numbers fits, and with it that of the levels.
     let _count = arena.numbers();
     let stop = last_stop(arena, index);
-    let mut part = Part {
+    let mut part = GrownPart {
         cell: 0,
         root: 0,
         grew: false,
@@ -106,7 +106,7 @@ fn hang_last<C: Ledger, W: Ledger>(
     root: Option<u32>,
     levels: usize,
     stop: Option<u32>,
-    part: &mut Part,
+    part: &mut GrownPart,
     steps: &mut Steps<C, W>,
 )
     requires tree { IsTree arena.old.cells root (tree_at arena.old.cells levels root) }
@@ -158,7 +158,7 @@ fn stop_by(balance: Balance, stop: Option<u32>, above: Option<u32>) -> Option<u3
     }
 }
 
-fn begin_with(part: &mut Part, root: Option<u32>)
+fn begin_with(part: &mut GrownPart, root: Option<u32>)
     ensures { part.new ≡ with_root root part.old }
 {
     if let Some(root) = root {
@@ -172,7 +172,7 @@ fn hang<C: Ledger, W: Ledger>(
     arena: &mut Arena,
     at: Option<u32>,
     levels: usize,
-    part: &mut Part,
+    part: &mut GrownPart,
     steps: &mut Steps<C, W>,
 )
     requires tree { IsTree arena.old.cells at (tree_at arena.old.cells levels at) }

@@ -1,6 +1,6 @@
 //! The chains in the order of their keys, as links from each to the next.
 ghost use Rattle.std.specs.Prelude.{◌≡◌, ◌<◌, [], length, None, IfErr, IfSome, OnErr, OnOk};
-ghost use Rattle.span_keytree.specs.Nexts.{link_to, next_of, with_cell, with_room, without_first, without_last};
+ghost use Rattle.span_keytree.specs.Nexts.{link_to, next_of, with_cell, with_empty_link, without_first, without_last};
 
 use span_arena::token::NO_CHAIN;
 use span_value::refusal::Refusal;
@@ -87,8 +87,8 @@ impl NextLinks {
 
     /// A place for one chain more, to which no link leads. `Refusal::OutOfMemory` leaves all as it was. There are no more places than
     /// numbers of chains: the last number is `NO_CHAIN`.
-    pub(crate) fn add_room(&mut self) -> Result<(), Refusal>
-        ensures ok { OnOk result (self.new ≡ with_room self.old) }
+    pub(crate) fn add_empty_link(&mut self) -> Result<(), Refusal>
+        ensures ok { OnOk result (self.new ≡ with_empty_link self.old) }
         ensures err { OnErr result (self.new ≡ self.old) }
         ensures memory { IfErr result (λ why. why ≡ Refusal.OutOfMemory) }
     {
@@ -102,7 +102,7 @@ impl NextLinks {
     }
 
     /// Removes the last place.
-    pub(crate) fn drop_room(&mut self)
+    pub(crate) fn drop_empty_link(&mut self)
         requires { 0 < length self.old.next }
         ensures { self.new ≡ without_last self.old }
     {

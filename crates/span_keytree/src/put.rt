@@ -6,7 +6,7 @@ ghost use Rattle.span_keytree.specs.Effects.{IsInside, IsWithin};
 ghost use Rattle.span_keytree.specs.Nexts.{before_in, with_cell, with_place};
 ghost use Rattle.span_keytree.specs.Puts.{AreChains, IsTree, tree_at, put_of, put_result, IsPut, IsPutIn, IsNext, IsPutCost, IsNotFound};
 
-use crate::join::{Part, join_left, join_right};
+use crate::join::{GrownPart, join_left, join_right};
 use crate::next::NextLinks;
 use smallvec::SmallVec;
 use span_arena::arena::Arena;
@@ -37,20 +37,20 @@ fn add_cell<C: Ledger, W: Ledger>(
     ensures steps { IsWithin 2 steps.old steps.new }
 {
     let numbers = arena.numbers();
-    nexts.add_room()?;
+    nexts.add_empty_link()?;
     let key = mem::replace(key, Key::from_small_vec(SmallVec::new(nexts.allocator())));
     match arena.new_chain(key, steps) {
         Ok(chain) => {
             if (chain.number as usize) < numbers {
                 // The number was that of another chain, and has a place.
-                nexts.drop_room();
+                nexts.drop_empty_link();
             }
             steps.write();
             nexts.put_after(before, chain.number);
             Ok(chain.number)
         }
         Err(why) => {
-            nexts.drop_room();
+            nexts.drop_empty_link();
             Err(why)
         }
     }
@@ -66,7 +66,7 @@ pub(crate) fn add_key<C: Ledger, W: Ledger>(
     before: Option<u32>,
     levels: usize,
     key: &mut Key,
-    part: &mut Part,
+    part: &mut GrownPart,
     steps: &mut Steps<C, W>,
 ) -> Result<bool, Refusal>
     requires tree { IsTree arena.old.cells at (tree_at arena.old.cells levels at) }
@@ -86,7 +86,7 @@ pub(crate) fn add_key<C: Ledger, W: Ledger>(
 {
     let Some(at) = at else {
         let cell = add_cell(arena, nexts, before, key, steps)?;
-        *part = Part {
+        *part = GrownPart {
             cell,
             root: cell,
             grew: true,

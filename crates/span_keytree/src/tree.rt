@@ -8,7 +8,7 @@ ghost use Rattle.span_keytree.specs.Puts.{AreChains};
 ghost use Rattle.span_keytree.specs.Trees.{height};
 ghost use Rattle.span_keytree.specs.Ways.{IsNearSlotCost, IsPartFor};
 
-use crate::join::Part;
+use crate::join::GrownPart;
 use crate::last::{is_after, put_last};
 use crate::next::NextLinks;
 use crate::part::part_for;
@@ -79,7 +79,7 @@ fn put_among<C: Ledger, W: Ledger>(
 {
     // The count of numbers fits, and with it that of the levels.
     let _count = arena.numbers();
-    let mut part = Part {
+    let mut part = GrownPart {
         cell: 0,
         root: 0,
         grew: false,
@@ -157,7 +157,7 @@ fn put_into<C: Ledger, W: Ledger>(
     ensures cost { IsTreeCost (height (tree_of arena.old.cells index.now)) (tree_of arena.old.cells index.now)
         steps.old steps.new }
 {
-    let mut part = Part {
+    let mut part = GrownPart {
         cell: 0,
         root: 0,
         grew: false,

@@ -5,7 +5,7 @@ use Rattle.std.proofs.lemmas.Bool.Decides.{nat_tests}
 use Rattle.std.proofs.lemmas.List.{map-append, take-set, take_more_set}
 use Rattle.span_arena.specs.declared.cell.Cell.{Cell}
 use Rattle.span_arena.specs.Cells.{cell_at}
-use Rattle.span_keytree.specs.Entries.{Entry}
+use Rattle.span_keytree.specs.Entries.{KeyEntry}
 use Rattle.span_keytree.specs.Items.{entry}
 use Rattle.span_keytree.specs.Nexts.{Nexts, next_of}
 use Rattle.span_keywalk.specs.Walks.{is_stop, walked_in, short_entries, cell_entries, AreBelow, AreShortOf}
@@ -39,12 +39,12 @@ taken numbers count i false fits =
     let e : count + 0 ≡ count = omega arith in
     ap (λ (n : ℕ). take n (set numbers count i)) e ∙ take-set numbers count i
 
-below_last : (m : ℕ) (es : List Entry) (e : Entry) → AreBelow m es → e.chain.number < m → AreBelow m (es ++ e ∷ [])
+below_last : (m : ℕ) (es : List KeyEntry) (e : KeyEntry) → AreBelow m es → e.chain.number < m → AreBelow m (es ++ e ∷ [])
 below_last m [] e all last = (last, tt)
 below_last m (x ∷ es) e all last = (all.0, below_last m es e all.1 last)
 
 -- the same by other names
-pub same_short : (cs : List Cell) (ns : Nexts) (most : ℕ) (stop : Option ℕ) (es : List Entry) (xs ys : List ℕ) (n m : ℕ) (o p : Option ℕ) → xs ≡ ys → n ≡ m → o ≡ p
+pub same_short : (cs : List Cell) (ns : Nexts) (most : ℕ) (stop : Option ℕ) (es : List KeyEntry) (xs ys : List ℕ) (n m : ℕ) (o p : Option ℕ) → xs ≡ ys → n ≡ m → o ≡ p
     → AreShortOf cs ns most stop es ys m p → AreShortOf cs ns most stop es xs n o
 same_short cs ns most stop es xs ys n m o p e f g h =
     subst (λ (zs : List ℕ). AreShortOf cs ns most stop es zs n o) (sym e)
@@ -52,7 +52,7 @@ same_short cs ns most stop es xs ys n m o p e f g h =
     (subst (λ (q : Option ℕ). AreShortOf cs ns most stop es ys m q) (sym g) h))
 
 -- nothing is found, and then more
-pub short_after : (cs : List Cell) (ns : Nexts) (most : ℕ) (stop : Option ℕ) (es : List Entry) (xs ys : List ℕ) (n m : ℕ) (o p : Option ℕ) → xs ≡ []
+pub short_after : (cs : List Cell) (ns : Nexts) (most : ℕ) (stop : Option ℕ) (es : List KeyEntry) (xs ys : List ℕ) (n m : ℕ) (o p : Option ℕ) → xs ≡ []
     → AreShortOf cs ns most stop es xs n o → AreShortOf cs ns most stop (walked_in cs ns n o stop) ys m p → AreShortOf cs ns most stop es ys m p
 short_after cs ns most stop es xs ys n m o p none first later = record {
   short = later.short ∙ sym (ap (λ (zs : List ℕ). cell_entries cs zs ++ short_entries most (walked_in cs ns n o stop)) none) ∙ first.short;
@@ -62,7 +62,7 @@ short_after cs ns most stop es xs ys n m o p none first later = record {
 
 -- a key on
 module _ (cs : List Cell) (ns : Nexts) (most i : ℕ) where
-  joined : (b : Bool) (xs ys : List Entry) → cond b (xs ++ entry (cell_at cs i).key i ∷ []) xs ++ ys ≡ xs ++ cond b (entry (cell_at cs i).key i ∷ ys) ys
+  joined : (b : Bool) (xs ys : List KeyEntry) → cond b (xs ++ entry (cell_at cs i).key i ∷ []) xs ++ ys ≡ xs ++ cond b (entry (cell_at cs i).key i ∷ ys) ys
   joined true xs ys = append_assoc xs (entry (cell_at cs i).key i ∷ []) ys
   joined false xs ys = refl
 
@@ -70,23 +70,23 @@ module _ (cs : List Cell) (ns : Nexts) (most i : ℕ) where
   gathered true numbers = map-append (λ (j : ℕ). entry (cell_at cs j).key j) numbers (i ∷ [])
   gathered false numbers = refl
 
-  below_gathered : (b : Bool) (m : ℕ) (es : List Entry) → AreBelow m es → i < m → AreBelow m (cond b (es ++ entry (cell_at cs i).key i ∷ []) es)
+  below_gathered : (b : Bool) (m : ℕ) (es : List KeyEntry) → AreBelow m es → i < m → AreBelow m (cond b (es ++ entry (cell_at cs i).key i ∷ []) es)
   below_gathered true m es all here = below_last m es (entry (cell_at cs i).key i) all here
   below_gathered false m es all here = all
 
-  pub found_step : (n count : ℕ) (stop : Option ℕ) (numbers : List ℕ) (b : Bool) (next : Option ℕ) (es : List Entry) → 0 < n → is_stop i stop ≡ false → count < length numbers → b ≡ nat_le (length (cell_at cs i).key) most → next ≡ next_of ns i
+  pub found_step : (n count : ℕ) (stop : Option ℕ) (numbers : List ℕ) (b : Bool) (next : Option ℕ) (es : List KeyEntry) → 0 < n → is_stop i stop ≡ false → count < length numbers → b ≡ nat_le (length (cell_at cs i).key) most → next ≡ next_of ns i
       → AreShortOf cs ns most stop es (take count numbers) n (Some i) → AreShortOf cs ns most stop es (take (count + bool_byte b) (set numbers count i)) (n - 1) next
   found_step n count stop numbers b next es some miss fits short on so_far =
       let walk : walked_in cs ns n (Some i) stop ≡ entry (cell_at cs i).key i ∷ walked_in cs ns (n - 1) next stop =
       walked_more (cell_at cs) (next_of ns) n i stop some miss ∙ ap (λ (o : Option ℕ). entry (cell_at cs i).key i ∷ walked_in cs ns (n - 1) o stop) (sym on) in
       let both : AreBelow (length cs) (entry (cell_at cs i).key i ∷ walked_in cs ns (n - 1) next stop) = subst (AreBelow (length cs)) walk so_far.below in
-      let rest : List Entry = short_entries most (walked_in cs ns (n - 1) next stop) in
+      let rest : List KeyEntry = short_entries most (walked_in cs ns (n - 1) next stop) in
       let here : cell_entries cs (take (count + bool_byte b) (set numbers count i)) ≡ cond b (cell_entries cs (take count numbers) ++ entry (cell_at cs i).key i ∷ []) (cell_entries cs (take count numbers)) =
       ap (cell_entries cs) (taken numbers count i b fits) ∙ gathered b (take count numbers) in
       let shorter : short_entries most (walked_in cs ns n (Some i) stop) ≡ cond b (entry (cell_at cs i).key i ∷ rest) rest =
       ap (short_entries most) walk ∙ ap (λ (a : Bool). cond a (entry (cell_at cs i).key i ∷ rest) rest) (sym short) in
       record {
-        short = ap (λ (xs : List Entry). xs ++ rest) here ∙ joined b (cell_entries cs (take count numbers)) rest ∙ ap (λ (xs : List Entry). cell_entries cs (take count numbers) ++ xs) (sym shorter) ∙ so_far.short;
+        short = ap (λ (xs : List KeyEntry). xs ++ rest) here ∙ joined b (cell_entries cs (take count numbers)) rest ∙ ap (λ (xs : List KeyEntry). cell_entries cs (take count numbers) ++ xs) (sym shorter) ∙ so_far.short;
         found = subst (AreBelow (length cs)) (sym here) (below_gathered b (length cs) (cell_entries cs (take count numbers)) so_far.found both.0);
         below = both.1;
       }

@@ -16,7 +16,7 @@ use Rattle.span_arena.specs.declared.cell.Balance.{Balance}
 use Rattle.span_keytree.specs.declared.tree.TreeRoot.{TreeRoot}
 use Rattle.span_keytree.specs.Trees.{Tree, Leaf, Fork}
 use Rattle.span_arena.specs.Cells.{is_past}
-use Rattle.span_keytree.specs.Entries.{entries_under, Entry}
+use Rattle.span_keytree.specs.Entries.{entries_under, KeyEntry}
 use Rattle.span_keytree.specs.Items.{entry, items, AreRising, below, from, past}
 use Rattle.span_keytree.specs.Nexts.{Nexts, head_cell, first_past}
 use Rattle.span_keytree.specs.Roots.{entries_at, IsIndex}
@@ -100,8 +100,8 @@ past_more p a b less h =
 
 -- ---- the entries past them
 
-all_past : (p k : List ℕ) (es : List Entry) → is_past p k ≡ true → AllAbove k es → AllByRecursion (λ (e : Entry). is_past p e.key ≡ true) es
-all_past p k es h above = all_weaker (λ (e : Entry). byte_order k e.key ≡ Less) (λ (e : Entry). is_past p e.key ≡ true) (λ e x. past_more p k e.key x h) es above
+all_past : (p k : List ℕ) (es : List KeyEntry) → is_past p k ≡ true → AllAbove k es → AllByRecursion (λ (e : KeyEntry). is_past p e.key ≡ true) es
+all_past p k es h above = all_weaker (λ (e : KeyEntry). byte_order k e.key ≡ Less) (λ (e : KeyEntry). is_past p e.key ≡ true) (λ e x. past_more p k e.key x h) es above
 
 not_past : (p k : List ℕ) → is_past p k ≡ false → (a : List ℕ) → byte_order a k ≡ Less → is_past p a ≡ false
 not_past p k h a less = by (is_past p a) refl
@@ -110,11 +110,11 @@ not_past p k h a less = by (is_past p a) refl
     by false e = refl
     by true e = absurd (let f : true ≡ false = sym (past_more p a k less e) ∙ h in cc)
 
-filter_each : (t : Entry → Bool) (es : List Entry) → AllByRecursion (λ (e : Entry). t e ≡ true) es → filter t es ≡ es
+filter_each : (t : KeyEntry → Bool) (es : List KeyEntry) → AllByRecursion (λ (e : KeyEntry). t e ≡ true) es → filter t es ≡ es
 filter_each t [] h = refl
-filter_each t (e ∷ es) h = ap (λ (b : Bool). cond b (e ∷ filter t es) (filter t es)) h.0 ∙ ap (λ (xs : List Entry). e ∷ xs) (filter_each t es h.1)
+filter_each t (e ∷ es) h = ap (λ (b : Bool). cond b (e ∷ filter t es) (filter t es)) h.0 ∙ ap (λ (xs : List KeyEntry). e ∷ xs) (filter_each t es h.1)
 
-filter_none : (t : Entry → Bool) (es : List Entry) → AllByRecursion (λ (e : Entry). t e ≡ false) es → filter t es ≡ []
+filter_none : (t : KeyEntry → Bool) (es : List KeyEntry) → AllByRecursion (λ (e : KeyEntry). t e ≡ false) es → filter t es ≡ []
 filter_none t [] h = refl
 filter_none t (e ∷ es) h = ap (λ (b : Bool). cond b (e ∷ filter t es) (filter t es)) h.0 ∙ filter_none t es h.1
 
@@ -122,20 +122,20 @@ first_by : (b : Bool) (p : List ℕ) (x : Option ℕ) (l : Tree) (m : ℕ) (k : 
     → first_past p (Some m) l ≡ head_cell (Some m) (past p (items l)) → first_past p x r ≡ head_cell x (past p (items r))
     → cond b (first_past p (Some m) l) (first_past p x r) ≡ head_cell x (past p (items (Fork l m k bal r)))
 first_by true p x l m k bal r is a left right =
-    let rest : past p (entry k m ∷ items r) ≡ entry k m ∷ items r = filter_each (λ (e : Entry). is_past p e.key) (entry k m ∷ items r) (is, all_past p k (items r) is a.greater) in
+    let rest : past p (entry k m ∷ items r) ≡ entry k m ∷ items r = filter_each (λ (e : KeyEntry). is_past p e.key) (entry k m ∷ items r) (is, all_past p k (items r) is a.greater) in
     left
     ∙ sym (middle (past p (items l)))
-    ∙ ap (λ (es : List Entry). head_cell x es) (sym (filter-append (λ (e : Entry). is_past p e.key) (items l) (entry k m ∷ items r) ∙ ap (λ (es : List Entry). past p (items l) ++ es) rest))
+    ∙ ap (λ (es : List KeyEntry). head_cell x es) (sym (filter-append (λ (e : KeyEntry). is_past p e.key) (items l) (entry k m ∷ items r) ∙ ap (λ (es : List KeyEntry). past p (items l) ++ es) rest))
   where
-    middle : (xs : List Entry) → head_cell x (xs ++ entry k m ∷ items r) ≡ head_cell (Some m) xs
+    middle : (xs : List KeyEntry) → head_cell x (xs ++ entry k m ∷ items r) ≡ head_cell (Some m) xs
     middle [] = refl
     middle (y ∷ ys) = refl
 first_by false p x l m k bal r is a left right =
-    let none : past p (items l) ≡ [] = filter_none (λ (e : Entry). is_past p e.key) (items l) (all_weaker (λ (e : Entry). byte_order e.key k ≡ Less) (λ (e : Entry). is_past p e.key ≡ false) (λ e y. not_past p k is e.key y) (items l) a.smaller) in
+    let none : past p (items l) ≡ [] = filter_none (λ (e : KeyEntry). is_past p e.key) (items l) (all_weaker (λ (e : KeyEntry). byte_order e.key k ≡ Less) (λ (e : KeyEntry). is_past p e.key ≡ false) (λ e y. not_past p k is e.key y) (items l) a.smaller) in
     right
-    ∙ ap (λ (es : List Entry). head_cell x es) (sym (
-    filter-append (λ (e : Entry). is_past p e.key) (items l) (entry k m ∷ items r)
-    ∙ ap (λ (es : List Entry). es ++ past p (entry k m ∷ items r)) none
+    ∙ ap (λ (es : List KeyEntry). head_cell x es) (sym (
+    filter-append (λ (e : KeyEntry). is_past p e.key) (items l) (entry k m ∷ items r)
+    ∙ ap (λ (es : List KeyEntry). es ++ past p (entry k m ∷ items r)) none
     ∙ ap (λ (b : Bool). cond b (entry k m ∷ past p (items r)) (past p (items r))) is
     ))
 
@@ -148,39 +148,39 @@ first_past_is p x (Fork l m k bal r) rising =
 -- ---- the entries that begin with them
 
 -- where none is before them, those that begin with them are first
-cut_under_by : (b : Bool) (p : List ℕ) (e : Entry) (es : List Entry) → begins e.key p ≡ b → is_lt (byte_order e.key p) ≡ false → AreRising (e ∷ es) → es ≡ entries_under p es ++ past p es → e ∷ es ≡ entries_under p (e ∷ es) ++ past p (e ∷ es)
+cut_under_by : (b : Bool) (p : List ℕ) (e : KeyEntry) (es : List KeyEntry) → begins e.key p ≡ b → is_lt (byte_order e.key p) ≡ false → AreRising (e ∷ es) → es ≡ entries_under p es ++ past p es → e ∷ es ≡ entries_under p (e ∷ es) ++ past p (e ∷ es)
 cut_under_by true p e es is le rising rest =
     let out : is_past p e.key ≡ false = ap (λ (a : Bool). not (is_lt (byte_order e.key p)) && not a) is ∙ ap (λ (a : Bool). not a && false) le in
-    ap (λ (xs : List Entry). e ∷ xs) rest
+    ap (λ (xs : List KeyEntry). e ∷ xs) rest
     ∙ sym (ap (λ (b : Bool). cond b (e ∷ entries_under p es) (entries_under p es) ++ past p (e ∷ es)) is ∙ ap (λ (b : Bool). (e ∷ entries_under p es) ++ cond b (e ∷ past p es) (past p es)) out)
 cut_under_by false p e es is le rising rest =
     let after : is_past p e.key ≡ true = past_from p e.key le is in
-    let all : AllByRecursion (λ (f : Entry). is_past p f.key ≡ true) (e ∷ es) = (after, all_past p e.key es after rising.0) in
-    let none : entries_under p (e ∷ es) ≡ [] = filter_none (λ (f : Entry). begins f.key p) (e ∷ es) (all_weaker (λ (f : Entry). is_past p f.key ≡ true) (λ (f : Entry). begins f.key p ≡ false) (λ f x. (past_parts p f.key x).1) (e ∷ es) all) in
-    sym (ap (λ (xs : List Entry). xs ++ past p (e ∷ es)) none ∙ filter_each (λ (f : Entry). is_past p f.key) (e ∷ es) all)
+    let all : AllByRecursion (λ (f : KeyEntry). is_past p f.key ≡ true) (e ∷ es) = (after, all_past p e.key es after rising.0) in
+    let none : entries_under p (e ∷ es) ≡ [] = filter_none (λ (f : KeyEntry). begins f.key p) (e ∷ es) (all_weaker (λ (f : KeyEntry). is_past p f.key ≡ true) (λ (f : KeyEntry). begins f.key p ≡ false) (λ f x. (past_parts p f.key x).1) (e ∷ es) all) in
+    sym (ap (λ (xs : List KeyEntry). xs ++ past p (e ∷ es)) none ∙ filter_each (λ (f : KeyEntry). is_past p f.key) (e ∷ es) all)
 
-cut_under : (p : List ℕ) (es : List Entry) → AllByRecursion (λ (e : Entry). is_lt (byte_order e.key p) ≡ false) es → AreRising es → es ≡ entries_under p es ++ past p es
+cut_under : (p : List ℕ) (es : List KeyEntry) → AllByRecursion (λ (e : KeyEntry). is_lt (byte_order e.key p) ≡ false) es → AreRising es → es ≡ entries_under p es ++ past p es
 cut_under p [] le rising = refl
 cut_under p (e ∷ es) le rising = cut_under_by (begins e.key p) p e es refl le.0 rising (cut_under p es le.1 rising.1)
 
-from_not_below_by : (b : Bool) (p : List ℕ) (e : Entry) (es : List Entry) → is_lt (byte_order e.key p) ≡ b → AllByRecursion (λ (f : Entry). is_lt (byte_order f.key p) ≡ false) es → AllByRecursion (λ (f : Entry). is_lt (byte_order f.key p) ≡ false) (cond (not b) (e ∷ es) es)
+from_not_below_by : (b : Bool) (p : List ℕ) (e : KeyEntry) (es : List KeyEntry) → is_lt (byte_order e.key p) ≡ b → AllByRecursion (λ (f : KeyEntry). is_lt (byte_order f.key p) ≡ false) es → AllByRecursion (λ (f : KeyEntry). is_lt (byte_order f.key p) ≡ false) (cond (not b) (e ∷ es) es)
 from_not_below_by true p e es is h = h
 from_not_below_by false p e es is h = (is, h)
 
-from_not_below : (p : List ℕ) (es : List Entry) → AllByRecursion (λ (e : Entry). is_lt (byte_order e.key p) ≡ false) (from p es)
+from_not_below : (p : List ℕ) (es : List KeyEntry) → AllByRecursion (λ (e : KeyEntry). is_lt (byte_order e.key p) ≡ false) (from p es)
 from_not_below p [] = tt
 from_not_below p (e ∷ es) = from_not_below_by (is_lt (byte_order e.key p)) p e (from p es) refl (from_not_below p es)
 
 -- none of those below them begins with them, or is past them
-under_none : (p : List ℕ) (es : List Entry) → AllByRecursion (λ (e : Entry). byte_order e.key p ≡ Less) es → entries_under p es ≡ []
-under_none p es h = filter_none (λ (e : Entry). begins e.key p) es (all_weaker (λ (e : Entry). byte_order e.key p ≡ Less) (λ (e : Entry). begins e.key p ≡ false) (λ e x. by e x (begins e.key p) refl) es h)
+under_none : (p : List ℕ) (es : List KeyEntry) → AllByRecursion (λ (e : KeyEntry). byte_order e.key p ≡ Less) es → entries_under p es ≡ []
+under_none p es h = filter_none (λ (e : KeyEntry). begins e.key p) es (all_weaker (λ (e : KeyEntry). byte_order e.key p ≡ Less) (λ (e : KeyEntry). begins e.key p ≡ false) (λ e x. by e x (begins e.key p) refl) es h)
   where
-    by : (e : Entry) → byte_order e.key p ≡ Less → (b : Bool) → begins e.key p ≡ b → b ≡ false
+    by : (e : KeyEntry) → byte_order e.key p ≡ Less → (b : Bool) → begins e.key p ≡ b → b ≡ false
     by e x false is = refl
     by e x true is = absurd (let f : true ≡ false = sym (ap is_lt x) ∙ begins_not_before e.key p is in cc)
 
-past_none : (p : List ℕ) (es : List Entry) → AllByRecursion (λ (e : Entry). byte_order e.key p ≡ Less) es → past p es ≡ []
-past_none p es h = filter_none (λ (e : Entry). is_past p e.key) es (all_weaker (λ (e : Entry). byte_order e.key p ≡ Less) (λ (e : Entry). is_past p e.key ≡ false) (λ e x. ap (λ (a : Bool). not a && not (begins e.key p)) (ap is_lt x)) es h)
+past_none : (p : List ℕ) (es : List KeyEntry) → AllByRecursion (λ (e : KeyEntry). byte_order e.key p ≡ Less) es → past p es ≡ []
+past_none p es h = filter_none (λ (e : KeyEntry). is_past p e.key) es (all_weaker (λ (e : KeyEntry). byte_order e.key p ≡ Less) (λ (e : KeyEntry). is_past p e.key ≡ false) (λ e x. ap (λ (a : Bool). not a && not (begins e.key p)) (ap is_lt x)) es h)
 
 pub under_walked : (cs : List Cell) (ns : Nexts) (index : TreeRoot) (own : IsIndex cs ns index) (n : ℕ) (enough : length cs ≤ n) (p : List ℕ) (at stop : Option ℕ)
     → at ≡ head_cell None (from p (entries_at cs index)) → stop ≡ head_cell None (past p (entries_at cs index)) → IsWalked cs ns n at stop (entries_under p (entries_at cs index))
@@ -190,10 +190,10 @@ under_walked cs ns index own n enough p at stop first last =
     let rising : AreRising (from p es) = rising_back (below p es) (from p es) (subst AreRising {x = es} {y = below p es ++ from p es} cut own.search.rising) in
     let again : from p es ≡ entries_under p (from p es) ++ past p (from p es) = cut_under p (from p es) (from_not_below p es) rising in
     let rest : past p es ≡ past p (from p es) =
-    ap (past p) cut ∙ filter-append (λ (e : Entry). is_past p e.key) (below p es) (from p es) ∙ ap (λ (xs : List Entry). xs ++ past p (from p es)) (past_none p (below p es) (below_all p es)) in
+    ap (past p) cut ∙ filter-append (λ (e : KeyEntry). is_past p e.key) (below p es) (from p es) ∙ ap (λ (xs : List KeyEntry). xs ++ past p (from p es)) (past_none p (below p es) (below_all p es)) in
     let under : entries_under p es ≡ entries_under p (from p es) =
-    ap (entries_under p) cut ∙ filter-append (λ (e : Entry). begins e.key p) (below p es) (from p es) ∙ ap (λ (xs : List Entry). xs ++ entries_under p (from p es)) (under_none p (below p es) (below_all p es)) in
-    let is : es ≡ below p es ++ (entries_under p (from p es) ++ past p (from p es)) = cut ∙ ap (λ (xs : List Entry). below p es ++ xs) again in
+    ap (entries_under p) cut ∙ filter-append (λ (e : KeyEntry). begins e.key p) (below p es) (from p es) ∙ ap (λ (xs : List KeyEntry). xs ++ entries_under p (from p es)) (under_none p (below p es) (below_all p es)) in
+    let is : es ≡ below p es ++ (entries_under p (from p es) ++ past p (from p es)) = cut ∙ ap (λ (xs : List KeyEntry). below p es ++ xs) again in
     let walk : IsWalked cs ns n at stop (entries_under p (from p es)) =
-    part_walked cs ns index own n enough (below p es) (entries_under p (from p es)) (past p (from p es)) at stop is (first ∙ ap (λ (xs : List Entry). head_cell None xs) again) (last ∙ ap (λ (xs : List Entry). head_cell None xs) rest) in
-    subst (λ (xs : List Entry). IsWalked cs ns n at stop xs) {x = entries_under p (from p es)} {y = entries_under p es} (sym under) walk
+    part_walked cs ns index own n enough (below p es) (entries_under p (from p es)) (past p (from p es)) at stop is (first ∙ ap (λ (xs : List KeyEntry). head_cell None xs) again) (last ∙ ap (λ (xs : List KeyEntry). head_cell None xs) rest) in
+    subst (λ (xs : List KeyEntry). IsWalked cs ns n at stop xs) {x = entries_under p (from p es)} {y = entries_under p es} (sym under) walk

@@ -5,7 +5,7 @@ use Rattle.span_arena.specs.declared.cell.Cell.{Cell}
 use Rattle.span_arena.specs.declared.token.Chain.{Chain}
 use Rattle.span_arena.specs.Cells.{cell_at}
 use Rattle.span_keytree.specs.Items.{entry}
-use Rattle.span_keytree.specs.Entries.{Entry}
+use Rattle.span_keytree.specs.Entries.{KeyEntry}
 use Rattle.span_keytree.specs.Nexts.{Nexts, next_of}
 
 abbrev pub is_stop : ℕ → Option ℕ → Bool
@@ -13,28 +13,28 @@ is_stop i None = false
 is_stop i (Some j) = nat_eq i j
 
 -- the entries from a cell on and before another, by their links, and at most n of them
-abbrev pub walked : (ℕ → Cell) → (ℕ → Option ℕ) → ℕ → Option ℕ → Option ℕ → List Entry
+abbrev pub walked : (ℕ → Cell) → (ℕ → Option ℕ) → ℕ → Option ℕ → Option ℕ → List KeyEntry
 walked f g zero at stop = []
 walked f g (suc n) None stop = []
 walked f g (suc n) (Some i) stop = (if is_stop i stop then [] else entry (f i).key i ∷ walked f g n (g i) stop)
 
-abbrev pub walked_in : List Cell → Nexts → ℕ → Option ℕ → Option ℕ → List Entry
+abbrev pub walked_in : List Cell → Nexts → ℕ → Option ℕ → Option ℕ → List KeyEntry
 walked_in cs ns n at stop = walked (cell_at cs) (next_of ns) n at stop
 
 -- those whose keys have at most `most` bytes
-abbrev pub short_entries : ℕ → List Entry → List Entry
+abbrev pub short_entries : ℕ → List KeyEntry → List KeyEntry
 short_entries most es = filter (λ e. nat_le (length e.key) most) es
 
 -- the entries of cells
-abbrev pub cell_entries : List Cell → List ℕ → List Entry
+abbrev pub cell_entries : List Cell → List ℕ → List KeyEntry
 cell_entries cs numbers = map (λ i. entry (cell_at cs i).key i) numbers
 
 -- each entry has a cell below n
-abbrev pub AreBelow : ℕ → List Entry → Type 0
+abbrev pub AreBelow : ℕ → List KeyEntry → Type 0
 AreBelow n es = AllByRecursion (λ e. e.chain.number < n) es
 
 -- the entries of these cells, and then the short ones of at most `left` that are left from a cell on, are the short ones of es
-pub record AreShortOf (cs : List Cell) (ns : Nexts) (most : ℕ) (stop : Option ℕ) (es : List Entry) (numbers : List ℕ) (left : ℕ) (at : Option ℕ) : Type 0 where
+pub record AreShortOf (cs : List Cell) (ns : Nexts) (most : ℕ) (stop : Option ℕ) (es : List KeyEntry) (numbers : List ℕ) (left : ℕ) (at : Option ℕ) : Type 0 where
   pub short : cell_entries cs numbers ++ short_entries most (walked_in cs ns left at stop) ≡ short_entries most es
   pub found : AreBelow (length cs) (cell_entries cs numbers)
   pub below : AreBelow (length cs) (walked_in cs ns left at stop)

@@ -37,7 +37,7 @@ const NEAR: u32 = 8;
 /// How many keys a batch passes over at most.
 const MOST_PASSED: usize = 512;
 
-/// The keys of a batch lie apart where there are no more among so many.
+/// The keys of a batch lie apart where one in this many, or fewer, were found among those that it passed over.
 const APART: usize = 2;
 
 /// More levels than a tree of 2^32 keys has above the lowest.
@@ -239,12 +239,18 @@ fn until_stop(arena: &Arena, number: u32, stop: u32) -> u32 {
 
 /// A part of the walk: where it is, and where the next one begins.
 #[derive(Clone, Copy, Debug)]
-struct Lane {
+struct WalkPart {
     at: u32,
     end: u32,
 }
 
-fn lanes_from(arena: &Arena, ahead: &Ahead, number: u32, key: &[u8], stop: u32) -> [Lane; LANES] {
+fn lanes_from(
+    arena: &Arena,
+    ahead: &Ahead,
+    number: u32,
+    key: &[u8],
+    stop: u32,
+) -> [WalkPart; LANES] {
     let mut path = Path {
         turns: [Turn {
             number: NO_CHAIN,
@@ -254,14 +260,14 @@ fn lanes_from(arena: &Arena, ahead: &Ahead, number: u32, key: &[u8], stop: u32) 
     };
     let levels = upper_levels(arena.numbers(), ahead.has_rows);
     path.go_to(arena, ahead.root, levels, key);
-    let mut lanes = [Lane {
+    let mut lanes = [WalkPart {
         at: stop,
         end: stop,
     }; LANES];
     let mut from = number;
     for i in 0..LANES {
         let end = until_stop(arena, path.next(arena), stop);
-        lanes[i] = Lane { at: from, end };
+        lanes[i] = WalkPart { at: from, end };
         from = end;
     }
     lanes
@@ -293,7 +299,7 @@ fn is_none(arena: &Arena, number: u32, ahead: &Ahead) -> bool {
 }
 
 // A key on. A lane stays at its end, and at what is none.
-fn step(arena: &Arena, nexts: &NextLinks, lane: Lane, ahead: &Ahead) -> u32 {
+fn step(arena: &Arena, nexts: &NextLinks, lane: WalkPart, ahead: &Ahead) -> u32 {
     if lane.at == lane.end || lane.at as usize >= arena.numbers() {
         return lane.at;
     }
@@ -335,7 +341,12 @@ fn look_at_batch(arena: &Arena, batch: &Batch, has_rows: bool) -> bool {
 }
 
 // How many lanes have gone on.
-fn step_all(arena: &Arena, nexts: &NextLinks, lanes: &mut [Lane; LANES], ahead: &Ahead) -> usize {
+fn step_all(
+    arena: &Arena,
+    nexts: &NextLinks,
+    lanes: &mut [WalkPart; LANES],
+    ahead: &Ahead,
+) -> usize {
     let mut moved: usize = 0;
     for i in 0..LANES {
         let at = step(arena, nexts, lanes[i], ahead);

@@ -67,24 +67,24 @@ impl Batch {
 
 /// What was found from a chain on, and where the walk is then.
 #[derive(Debug, Drop)]
-pub(crate) struct Found {
+pub(crate) struct Refill {
     pub batch: Batch,
     pub at: Option<u32>,
     /// How many chains the walk may yet come to.
     pub left: usize,
     /// Nothing was found, and there may be more.
-    pub has_none: bool,
+    pub goes_on: bool,
 }
 
-impl Found {
+impl Refill {
     /// Nothing yet.
-    pub(crate) fn none(at: Option<u32>, left: usize) -> Found
+    pub(crate) fn none(at: Option<u32>, left: usize) -> Refill
         ensures batch { result.batch ≡ [] }
         ensures at { result.at ≡ at }
         ensures left { result.left ≡ left }
-        ensures none { result.has_none ≡ false }
+        ensures none { result.goes_on ≡ false }
     {
-        Found::of([NO_CHAIN; BATCH_KEYS], 0, at, left, false)
+        Refill::of([NO_CHAIN; BATCH_KEYS], 0, at, left, false)
     }
 
     fn of(
@@ -92,19 +92,19 @@ impl Found {
         count: usize,
         at: Option<u32>,
         left: usize,
-        has_none: bool,
-    ) -> Found
+        goes_on: bool,
+    ) -> Refill
         requires { count ≤ 32 }
         ensures batch { result.batch ≡ take count numbers }
         ensures at { result.at ≡ at }
         ensures left { result.left ≡ left }
-        ensures none { result.has_none ≡ has_none }
+        ensures none { result.goes_on ≡ goes_on }
     {
-        Found {
+        Refill {
             batch: Batch::of(numbers, count),
             at,
             left,
-            has_none,
+            goes_on,
         }
     }
 }
@@ -119,15 +119,15 @@ pub(crate) fn find_short(
     stop: Option<u32>,
     mut left: usize,
     keys: usize,
-) -> Found
+) -> Refill
     requires below { AreBelow (length arena.now.cells) (walked_in arena.now.cells nexts.now left (Some number) stop) }
     requires places { length nexts.now.next ≡ length arena.now.cells }
     requires keys { 0 < keys }
     ensures short { let all = walked_in arena.now.cells nexts.now left (Some number) stop in
         AreShortOf arena.now.cells nexts.now most stop all result.batch result.left result.at }
-    ensures more { IsTrue result.has_none → result.left < left }
-    ensures empty { IsTrue result.has_none → result.batch ≡ [] }
-    ensures none { result.has_none ≡ false → result.batch ≡ []
+    ensures more { IsTrue result.goes_on → result.left < left }
+    ensures empty { IsTrue result.goes_on → result.batch ≡ [] }
+    ensures none { result.goes_on ≡ false → result.batch ≡ []
         → walked_in arena.now.cells nexts.now result.left result.at stop ≡ [] }
 {
     let last = left.saturating_sub(keys);
@@ -135,18 +135,18 @@ pub(crate) fn find_short(
     let mut count: usize = 0;
     while left > last {
         if is_stop(number, stop) {
-            return Found::of(numbers, count, Some(number), left, false);
+            return Refill::of(numbers, count, Some(number), left, false);
         }
         if count >= BATCH_KEYS {
-            return Found::of(numbers, count, Some(number), left, false);
+            return Refill::of(numbers, count, Some(number), left, false);
         }
         numbers[count] = number;
         count += arena.has_short_key(number, most) as usize;
         left -= 1;
         let Some(next) = nexts.after(number) else {
-            return Found::of(numbers, count, None, left, false);
+            return Refill::of(numbers, count, None, left, false);
         };
         number = next;
     }
-    Found::of(numbers, count, Some(number), left, count == 0 && left > 0)
+    Refill::of(numbers, count, Some(number), left, count == 0 && left > 0)
 }

@@ -7,7 +7,7 @@ ghost use Rattle.span_keytree.specs.Entries.{entry_of};
 ghost use Rattle.span_keywalk.specs.Walks.{short_entries, walked_in, AreBelow, AreShortOf};
 
 use crate::ahead::Ahead;
-use crate::batch::{Found, find_short};
+use crate::batch::{Refill, find_short};
 use span_arena::arena::Arena;
 use span_arena::token::Chain;
 use span_keytree::next::NextLinks;
@@ -21,15 +21,15 @@ pub struct ShortWalk<'a> {
     stop: Option<u32>,
     most: usize,
     ahead: Ahead,
-    found: Found,
+    found: Refill,
 }
 
 impl<'a> Model for ShortWalk<'a> {
     ghost use Rattle.std.specs.Prelude.{◌≡◌, ◌++◌, List, length};
-    ghost use Rattle.span_keytree.specs.Entries.{Entry};
+    ghost use Rattle.span_keytree.specs.Entries.{KeyEntry};
     ghost use Rattle.span_keywalk.specs.Walks.{cell_entries, short_entries, walked_in, AreBelow};
 
-    ghost Value = { List Entry };
+    ghost Value = { List KeyEntry };
 
     ghost view = { λ w. cell_entries w.arena.now.cells w.found.batch
         ++ short_entries w.most (walked_in w.arena.now.cells w.nexts.now w.found.left w.found.at w.stop) };
@@ -85,7 +85,7 @@ pub(crate) fn short_from<'a>(
         stop,
         most,
         ahead,
-        found: Found::none(at, left),
+        found: Refill::none(at, left),
     }
 }
 
@@ -98,18 +98,18 @@ fn one_batch(
     at: Option<u32>,
     stop: Option<u32>,
     left: usize,
-) -> Found
+) -> Refill
     requires below { AreBelow (length arena.now.cells) (walked_in arena.now.cells nexts.now left at stop) }
     requires places { length nexts.now.next ≡ length arena.now.cells }
     ensures short { let all = walked_in arena.now.cells nexts.now left at stop in
         AreShortOf arena.now.cells nexts.now most stop all result.batch result.left result.at }
-    ensures more { IsTrue result.has_none → result.left < left }
-    ensures empty { IsTrue result.has_none → result.batch ≡ [] }
-    ensures none { result.has_none ≡ false → result.batch ≡ []
+    ensures more { IsTrue result.goes_on → result.left < left }
+    ensures empty { IsTrue result.goes_on → result.batch ≡ [] }
+    ensures none { result.goes_on ≡ false → result.batch ≡ []
         → walked_in arena.now.cells nexts.now result.left result.at stop ≡ [] }
 {
     let Some(number) = at else {
-        return Found::none(at, left);
+        return Refill::none(at, left);
     };
     let keys = ahead.look_before(arena, nexts, number, stop).max(1);
     let found = find_short(arena, nexts, most, number, stop, left, keys);
@@ -126,7 +126,7 @@ fn find_more(
     ahead: &mut Ahead,
     most: usize,
     stop: Option<u32>,
-    found: &mut Found,
+    found: &mut Refill,
 )
     requires below { AreBelow (length arena.now.cells)
         (walked_in arena.now.cells nexts.now found.old.left found.old.at stop) }
@@ -136,7 +136,7 @@ fn find_more(
     ensures none { found.new.batch ≡ [] → walked_in arena.now.cells nexts.now found.new.left found.new.at stop ≡ [] }
 {
     *found = one_batch(arena, nexts, ahead, most, found.at, stop, found.left);
-    while found.has_none {
+    while found.goes_on {
         *found = one_batch(arena, nexts, ahead, most, found.at, stop, found.left);
     }
 }

@@ -30,10 +30,10 @@ pub struct Walk<'a> {
 
 impl<'a> Model for Walk<'a> {
     ghost use Rattle.std.specs.Prelude.{◌≡◌, List, length};
-    ghost use Rattle.span_keytree.specs.Entries.{Entry};
+    ghost use Rattle.span_keytree.specs.Entries.{KeyEntry};
     ghost use Rattle.span_keywalk.specs.Walks.{walked_in, AreBelow};
 
-    ghost Value = { List Entry };
+    ghost Value = { List KeyEntry };
 
     ghost view = { λ w. walked_in w.arena.now.cells w.nexts.now w.left w.at w.stop };
 

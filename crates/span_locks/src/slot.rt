@@ -16,7 +16,7 @@ ghost use Rattle.span_board.specs.declared.board.Role.TheVariants.{Holder};
 use crate::journal::LockedJournal;
 use atomic_table::Badge;
 use span_binder::understand::understanding_is_unique;
-use span_board::board::{Board, Naming, Place};
+use span_board::board::{Board, DbSeat, Naming};
 use span_board::question::is_asked;
 use span_board::seats;
 use span_columns::leaf::Leaf;
@@ -39,7 +39,7 @@ use std::mem;
 pub struct LockedSlot<J: Naming> {
     pub(crate) number: usize,
     pub(crate) shard: Shard,
-    pub(crate) seat: Place,
+    pub(crate) seat: DbSeat,
     pub(crate) of: PhantomData<J>,
 }
 
@@ -57,7 +57,7 @@ impl<J: Naming> Model for LockedSlot<J> {
 
 impl<J: Naming> LockedSlot<J> {
     /// The slot of this number, with what its seat says that it has.
-    pub fn new(number: usize, shard: Shard, seat: Place) -> LockedSlot<J>
+    pub fn new(number: usize, shard: Shard, seat: DbSeat) -> LockedSlot<J>
         requires at { seat.table_id ≡ J.table }
         requires holder { seat.me ≡ (Holder number shard ∷ [], []) }
         ensures number { result.number ≡ number }

@@ -15,7 +15,7 @@ use Rattle.span_mutate.specs.declared.mutation.MutationKind.{MutationKind}
 use Rattle.span_mutate.specs.declared.batch.Heading.{Heading}
 use Rattle.span_mutate.specs.declared.batch.BatchRow.{BatchRow}
 use Rattle.span_mutate.specs.Batches.{row_mutation}
-use Rattle.span_records.specs.declared.layout.Layout.{Layout}
+use Rattle.span_records.specs.declared.layout.RecordLayout.{RecordLayout}
 use Rattle.span_records.specs.declared.layout.KeyField.{KeyField}
 use Rattle.span_records.specs.declared.layout.CellField.{CellField}
 use Rattle.span_value.specs.declared.refusal.Refusal.{Refusal}
@@ -42,17 +42,17 @@ abbrev pub column_names : List CellField → List (List ℕ)
 column_names parts = map (λ (part : CellField). part.column) parts
 
 -- what the mutations of records have in common
-abbrev pub heading_of : Layout → MutationKind → Heading
+abbrev pub heading_of : RecordLayout → MutationKind → Heading
 heading_of layout kind =
     record { kind = kind; table = layout.table; columns = column_names layout.cells.items }
 
 -- the mutation of a record: as many fields as the layout has, and the values are those of their cells
-abbrev pub IsOfRecord : Layout → MutationKind → List (List ℕ) → Mutation → Type 0
+abbrev pub IsOfRecord : RecordLayout → MutationKind → List (List ℕ) → Mutation → Type 0
 IsOfRecord layout kind fields m = (length fields ≡ layout.fields) × (m.kind ≡ kind) × (m.table ≡ layout.table)
     × AllZip (IsKeyCell fields) layout.key.items m.key × AllZip (IsColumnCell fields) layout.cells.items m.cells
 
 -- the row of a record: under the layout's heading it is the mutation of the record, whatever that does
-abbrev pub IsRowOf : Layout → List (List ℕ) → BatchRow → Type 0
+abbrev pub IsRowOf : RecordLayout → List (List ℕ) → BatchRow → Type 0
 IsRowOf layout fields row =
     (kind : MutationKind) → IsOfRecord layout kind fields (row_mutation (heading_of layout kind) row)
 
@@ -79,7 +79,7 @@ abbrev pub outside_key : List ℕ → List ℕ → List (ℕ × ℕ)
 outside_key key places = filter (λ field. not (list_any (λ place. place == field.1) key)) (enumerate_from 0 places)
 
 -- the layout of records of a table whose fields are for the columns at these places
-abbrev pub IsLayout : List Table → ℕ → List ℕ → Layout → Type 0
+abbrev pub IsLayout : List Table → ℕ → List ℕ → RecordLayout → Type 0
 IsLayout tables n places layout = (layout.fields ≡ length places)
     × AllZip (IsKeyField (columns_of tables n) places) (key_places tables n) layout.key.items
     × AllZip (IsCellField (columns_of tables n)) (outside_key (key_places tables n) places) layout.cells.items
@@ -100,13 +100,13 @@ HasNoPlaces columns key text why = ((why ≡ refusal.NoColumn) × NamesNone colu
     ⊎ ((why ≡ refusal.WrongType) × ((places : List ℕ) × ArePlaces columns text places × LacksKey key places))
 
 -- the layout of the columns that a text names, of the table with a name
-abbrev pub IsLayoutOf : List Table → List ℕ → List ℕ → Layout → Type 0
+abbrev pub IsLayoutOf : List Table → List ℕ → List ℕ → RecordLayout → Type 0
 IsLayoutOf tables table text layout =
     (n : ℕ) × (number_named tables table ≡ Some n) × ((places : List ℕ) × ArePlaces (columns_of tables n) text places
     × (layout.table ≡ table) × IsLayout tables n places layout)
 
 -- the layout of the key's columns alone
-abbrev pub IsKeyLayoutOf : List Table → List ℕ → Layout → Type 0
+abbrev pub IsKeyLayoutOf : List Table → List ℕ → RecordLayout → Type 0
 IsKeyLayoutOf tables table layout =
     (n : ℕ) × (number_named tables table ≡ Some n) × (layout.table ≡ table)
     × IsLayout tables n (key_places tables n) layout

@@ -26,7 +26,7 @@ use std::alloc::{AllocError, Global};
 
 /// Which field of a record is for which column.
 #[derive(Drop)]
-pub struct Layout {
+pub struct RecordLayout {
     /// The name of the table.
     table: Text,
     /// How many fields a record has.
@@ -55,7 +55,7 @@ struct CellField {
     column: Text,
 }
 
-impl Layout {
+impl RecordLayout {
     /// The fields of the columns that are named: those of the table in order where `columns` is `*`, else those between its commas.
     ///
     /// `NoTable`: no such table. `NoColumn`: no such column, or one named twice. `WrongType`: a column of the key is not named.
@@ -64,7 +64,7 @@ impl Layout {
         schema: &Schema,
         table: &str,
         columns: &str,
-    ) -> Result<Layout, Refusal>
+    ) -> Result<RecordLayout, Refusal>
         ensures read { IfOk result (λ layout. IsLayoutOf schema.now table.now columns.now layout) }
         ensures refusals { IfErr result (λ why. (why ≡ Refusal.OutOfMemory) ⊎ HasNoLayout schema.now table.now columns.now why) }
     {
@@ -77,7 +77,7 @@ impl Layout {
 
     /// The fields of the key's columns alone, in the order of the key. `NoTable`: no such table.
     #[tactic(auto, using(crate::proofs::Within::key_within, crate::proofs::Within::lacks_nothing))]
-    pub fn of_key(alloc: Global, schema: &Schema, table: &str) -> Result<Layout, Refusal>
+    pub fn of_key(alloc: Global, schema: &Schema, table: &str) -> Result<RecordLayout, Refusal>
         ensures read { IfOk result (λ layout. IsKeyLayoutOf schema.now table.now layout) }
         ensures refusals { IfErr result
             (λ why.
@@ -161,7 +161,7 @@ impl Layout {
             (λ heading. heading ≡ heading_of self kind)
             (λ why. why ≡ Refusal.OutOfMemory) }
     {
-        let Layout { table, cells, .. } = self;
+        let RecordLayout { table, cells, .. } = self;
         let columns = names_of(alloc, cells)?;
         Ok(Heading {
             kind,
@@ -395,7 +395,7 @@ fn layout_at(
     number: usize,
     table: &str,
     places: &[usize],
-) -> Result<Layout, Refusal>
+) -> Result<RecordLayout, Refusal>
     requires table { IsTable schema.now number }
     requires within { AreWithin (columns_of schema.now number) places.now }
     ensures table { IfOk result (λ layout. layout.table ≡ table.now) }
@@ -409,7 +409,7 @@ fn layout_at(
     let key_places = schema.key_places(number);
     let key = key_fields(alloc, declared, places, key_places)?;
     let cells = cell_fields(alloc, declared, places, key_places)?;
-    Ok(Layout {
+    Ok(RecordLayout {
         table: Text::from_str(alloc, table)?,
         fields: places.len(),
         key,

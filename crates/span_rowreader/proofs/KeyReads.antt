@@ -18,7 +18,7 @@ use Rattle.span_rowreader.specs.declared.steps.KeyStep.{KeyStep}
 use Rattle.span_rowreader.specs.declared.steps.KeyStep.TheVariants as step
 use Rattle.span_rowreader.specs.declared.reads.KeyRead.{KeyRead}
 use Rattle.span_rowreader.specs.Placed.{wants_none, put, placed, IsColumnPut, IsKeyPut}
-use Rattle.span_rowreader.specs.Reads.{column_read, step_read, reads_of, places_of, IsReadAdded, IsColumnAdded, AreReadsOf, IsCodedAt, AreCoded, IsReadPut, IsNoRead, AreReadsPut}
+use Rattle.span_rowreader.specs.Reads.{column_read, step_read, key_reads, places_of, IsReadAdded, IsColumnAdded, AreReadsOf, IsCodedAt, AreCoded, IsReadPut, IsNoRead, AreReadsPut}
 use Rattle.span_rowreader.specs.Steps.{column_steps, path_steps, key_steps}
 use Rattle.span_rowreader.proofs.KeyPlaces.{has_key_columns}
 use Rattle.span_rowreader.proofs.Placing.{none_put}
@@ -29,9 +29,9 @@ step_none : (s : KeyStep) (above : ℕ) (later : ℕ → List ℕ → List KeyRe
 step_none (step.Table t) above later none = none (above + 1)
 step_none (step.Column c) above later none = refl
 
-reads_none : (ss : List KeyStep) (above : ℕ) → reads_of ss above [] ≡ []
+reads_none : (ss : List KeyStep) (above : ℕ) → key_reads ss above [] ≡ []
 reads_none [] above = refl
-reads_none (s ∷ ss) above = step_none s above (reads_of ss) (reads_none ss)
+reads_none (s ∷ ss) above = step_none s above (key_reads ss) (reads_none ss)
 
 pub table_added : (t above : ℕ) (ps : List ℕ) (old : List KeyRead) → IsReadAdded (step.Table t) above ps old old (above + 1)
 table_added t above ps old = record { within = omega arith; added = λ later. refl }
@@ -41,9 +41,9 @@ no_place_left c above ps old none = record {
   within = omega arith;
   added = λ later.
       let gone : drop (length old) ps ≡ [] = drop_all (length old) ps none in
-      ap (λ (l : List ℕ). old ++ reads_of later above l) gone
+      ap (λ (l : List ℕ). old ++ key_reads later above l) gone
       ∙ ap (λ (l : List KeyRead). old ++ l) (reads_none later above)
-      ∙ sym (ap (λ (l : List ℕ). old ++ column_read c above l (reads_of later)) gone);
+      ∙ sym (ap (λ (l : List ℕ). old ++ column_read c above l (key_reads later)) gone);
 }
 
 pub column_added : (c : KeyPart) (above : ℕ) (ps : List ℕ) (old new : List KeyRead) → length old < length ps → new ≡ old ++ record { above = above; column = c; place = get_or ps (length old) 0 } ∷ [] → IsColumnAdded c above ps old new 0
@@ -52,30 +52,30 @@ column_added c above ps old new less e = record {
   added = λ later.
       let one : KeyRead = record { above = above; column = c; place = get_or ps (length old) 0 } in
       let len : length new ≡ length old + 1 = omega (arith, ap (length {A = KeyRead}) e, length-append old (one ∷ [])) in
-      let rest : List KeyRead = reads_of later 0 (drop (length old + 1) ps) in
-      ap (λ (k : ℕ). new ++ reads_of later 0 (drop k ps)) len
+      let rest : List KeyRead = key_reads later 0 (drop (length old + 1) ps) in
+      ap (λ (k : ℕ). new ++ key_reads later 0 (drop k ps)) len
       ∙ ap (λ (l : List KeyRead). l ++ rest) e
       ∙ append_assoc old (one ∷ []) rest
-      ∙ sym (ap (λ (l : List ℕ). old ++ column_read c above l (reads_of later)) (drop_more ps (length old) 0 less));
+      ∙ sym (ap (λ (l : List ℕ). old ++ column_read c above l (key_reads later)) (drop_more ps (length old) 0 less));
 }
 
 -- the columns so far, and those of the steps that are left
 abbrev pub ReadsSoFar : List KeyStep → List ℕ → ℕ → List KeyRead → ℕ → Type 0
-ReadsSoFar steps ps i reads above = reads ++ reads_of (drop i steps) above (drop (length reads) ps) ≡ reads_of steps 0 ps
+ReadsSoFar steps ps i reads above = reads ++ key_reads (drop i steps) above (drop (length reads) ps) ≡ key_reads steps 0 ps
 
 pub step_added : (steps : List KeyStep) (ps : List ℕ) (i : ℕ) (old new : List KeyRead) (above next : ℕ) (d : KeyStep) → i < length steps → IsReadAdded (get_or steps i d) above ps old new next → ReadsSoFar steps ps i old above → ReadsSoFar steps ps (i + 1) new next
 step_added steps ps i old new above next d less one so =
-    one.added (drop (i + 1) steps) ∙ ap (λ (l : List KeyStep). old ++ reads_of l above (drop (length old) ps)) (sym (drop_more steps i d less)) ∙ so
+    one.added (drop (i + 1) steps) ∙ ap (λ (l : List KeyStep). old ++ key_reads l above (drop (length old) ps)) (sym (drop_more steps i d less)) ∙ so
 
-pub all_added : (steps : List KeyStep) (ps : List ℕ) (i : ℕ) (reads : List KeyRead) (above : ℕ) → length steps ≤ i → ReadsSoFar steps ps i reads above → reads ≡ reads_of steps 0 ps
+pub all_added : (steps : List KeyStep) (ps : List ℕ) (i : ℕ) (reads : List KeyRead) (above : ℕ) → length steps ≤ i → ReadsSoFar steps ps i reads above → reads ≡ key_reads steps 0 ps
 all_added steps ps i reads above over so =
-    sym (append-nil reads) ∙ ap (λ (l : List KeyStep). reads ++ reads_of l above (drop (length reads) ps)) (sym (drop_all i steps over)) ∙ so
+    sym (append-nil reads) ∙ ap (λ (l : List KeyStep). reads ++ key_reads l above (drop (length reads) ps)) (sym (drop_all i steps over)) ∙ so
 
 -- ---- a key is what its columns code
 
 -- values are coded at the columns of steps, with these places
 abbrev AreAt : List KeyStep → ℕ → List ℕ → List Value → List ℕ → Type 0
-AreAt ss above ps vs bs = AreCoded (reads_of ss above ps) vs bs × (places_of (reads_of ss above ps) ≡ ps)
+AreAt ss above ps vs bs = AreCoded (key_reads ss above ps) vs bs × (places_of (key_reads ss above ps) ≡ ps)
 
 columns_coded : (cs : List KeyPart) (vs ws : List Value) (front bs : List ℕ) (more : List KeyStep) (ps : List ℕ) → AreFit cs vs → length ps ≡ length (vs ++ ws)
     → ((f qs : List ℕ) → length qs ≡ length ws → AreAt more (length f) qs ws (f ++ bs))
@@ -139,7 +139,7 @@ pub key_put : (schema : List Table) → MeetsRules schema → (n : ℕ) (ps : Li
     → AreReadsOf schema n ps ms rs → AreReadsPut rs ms bs old new found → IsKeyPut schema n ps ms bs old new found
 key_put schema rules n ps ms rs bs old new found many of done = record {
   put = λ vs k e.
-      let all : List KeyRead = reads_of (key_steps schema n) 0 ps in
+      let all : List KeyRead = key_reads (key_steps schema n) 0 ps in
       let coded = key_coded schema rules n ps vs many k in
       let P : List ℕ → Type 0 = λ xs. AreCoded (take of.count all) vs xs in
       let Q : List KeyRead → Type 0 = λ l. AreCoded l vs bs in

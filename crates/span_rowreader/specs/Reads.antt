@@ -22,14 +22,14 @@ step_read (step.Table t) above ps later = later (above + 1) ps
 step_read (step.Column c) above ps later = column_read c above ps later
 
 -- the columns of steps, with a place for each; above is how many numbers of tables are in front of the first of them
-abbrev pub reads_of : List KeyStep → ℕ → List ℕ → List KeyRead
-reads_of [] above ps = []
-reads_of (s ∷ ss) above ps = step_read s above ps (reads_of ss)
+abbrev pub key_reads : List KeyStep → ℕ → List ℕ → List KeyRead
+key_reads [] above ps = []
+key_reads (s ∷ ss) above ps = step_read s above ps (key_reads ss)
 
 -- whatever steps come later, their columns and those so far are the same as before a step
 pub record IsReadAdded (s : KeyStep) (above : ℕ) (ps : List ℕ) (old new : List KeyRead) (next : ℕ) : Type 0 where
   pub within : next ≤ above + 1
-  pub added : (later : List KeyStep) → new ++ reads_of later next (drop (length new) ps) ≡ old ++ reads_of (s ∷ later) above (drop (length old) ps)
+  pub added : (later : List KeyStep) → new ++ key_reads later next (drop (length new) ps) ≡ old ++ key_reads (s ∷ later) above (drop (length old) ps)
 
 abbrev pub IsColumnAdded : KeyPart → ℕ → List ℕ → List KeyRead → List KeyRead → ℕ → Type 0
 IsColumnAdded c above ps old new next = IsReadAdded (step.Column c) above ps old new next
@@ -40,7 +40,7 @@ places_of rs = map (λ (r : KeyRead). r.place) rs
 -- they are the columns of table n's keys at these places, up to the last that the mask has, or to one after it
 pub record AreReadsOf (schema : List Table) (n : ℕ) (ps : List ℕ) (ms : List Bool) (rs : List KeyRead) : Type 0 where
   pub count : ℕ
-  pub are : rs ≡ take count (reads_of (key_steps schema n) 0 ps)
+  pub are : rs ≡ take count (key_reads (key_steps schema n) 0 ps)
   pub left : wants_none ms (drop count ps) ≡ true
 
 -- ---- the values of columns in a coded key

@@ -64,8 +64,8 @@ fn put_cell(
 }
 
 /// Puts the wanted cells of a packed row, one of each kind, at their places; `count` is how many cells there are up to the last that is
-/// wanted, and those after it are not looked at. False if the bytes are no packed row of the kinds; where it is true they may be none
-/// either.
+/// wanted, and those after it are not looked at. False only where the bytes are no packed row of the kinds; where it is true they may
+/// be none either.
 pub(crate) fn put_cells(
     alloc: Global,
     kinds: &[Kind],

@@ -3,17 +3,17 @@ ghost use Rattle.std.specs.Prelude.{◌≡◌, ◌≤◌, ◌∷◌, ◌++◌, [
 ghost use Rattle.std.specs.Int.{to_be_bytes, w64};
 ghost use Rattle.span_value.specs.declared.value.Kind.TheVariants as kind;
 ghost use Rattle.span_value.specs.declared.value.Value.TheVariants.{Int};
-ghost use Rattle.span_keycode.specs.Coding.{in_direction, to_unsigned};
+ghost use Rattle.span_keycode.specs.Coding.{in_direction};
 ghost use Rattle.span_keycode.specs.Reads.{IsColumn};
 ghost use Rattle.span_rowcode.specs.Rows.{IsCell};
 ghost use Rattle.span_rowreader.specs.Numbers.{HasWord, IsNumberOf};
 
-use span_keycode::value::after;
+use span_keycode::value::{after, to_signed};
 use span_schema::layout::KeyPart;
 use span_value::value::Kind;
 
 /// The word in the first eight bytes, the highest byte first, as they are in a column that is descending or not.
-fn word_at(bytes: &[u8], desc: bool) -> Option<u64>
+fn first_word(bytes: &[u8], desc: bool) -> Option<u64>
     ensures { IfSome result (λ word. HasWord desc bytes.now word) }
 {
     match bytes.split_first_chunk::<8>() {
@@ -37,17 +37,6 @@ fn marks_value(byte: u8, desc: bool) -> bool
     if desc { byte == 254 } else { byte == 1 }
 }
 
-/// The number whose order among all numbers a word is.
-fn to_signed(word: u64) -> i64
-    ensures { to_unsigned result ≡ word }
-{
-    if word >= 1 << 63 {
-        (word - (1 << 63)) as i64
-    } else {
-        word as i64 - i64::MAX - 1
-    }
-}
-
 /// The number at the front of the bytes of a column of numbers. None where it is NULL, or none is coded there.
 fn key_number(desc: bool, bytes: &[u8]) -> Option<i64>
     ensures { IfSome result (λ number. IsNumberOf desc bytes.now number) }
@@ -58,7 +47,7 @@ fn key_number(desc: bool, bytes: &[u8]) -> Option<i64>
     if !marks_value(bytes[0], desc) {
         return None;
     }
-    match word_at(after(bytes, 1), desc) {
+    match first_word(after(bytes, 1), desc) {
         None => None,
         Some(word) => Some(to_signed(word)),
     }
@@ -94,7 +83,7 @@ fn packed_number(bytes: &[u8]) -> Option<i64>
     if bytes[0] != 1 {
         return None;
     }
-    match word_at(after(bytes, 1), false) {
+    match first_word(after(bytes, 1), false) {
         None => None,
         Some(word) => Some(word.cast_signed()),
     }

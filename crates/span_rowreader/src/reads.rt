@@ -66,7 +66,7 @@ pub(crate) fn key_reads(
     steps: &[KeyStep],
     places: &[usize],
 ) -> Result<Vec<KeyRead>, AllocError>
-    ensures { IfOk result (λ reads. reads.items ≡ spec.reads_of steps.now 0 places.now) }
+    ensures { IfOk result (λ reads. reads.items ≡ spec.key_reads steps.now 0 places.now) }
 {
     let mut reads = Vec::new(alloc);
     let mut above = 0;

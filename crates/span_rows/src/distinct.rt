@@ -6,7 +6,7 @@ ghost use Rattle.span_rows.specs.Answers.{Gives};
 ghost use Rattle.span_rows.specs.Columns.{distinct_at};
 ghost use Rattle.span_rows.specs.LentRows.{lent_rows};
 
-use super::key::{LentKey, RowKey};
+use super::key::{LentKey, LentRow};
 use super::row_list::RowList;
 use indexmap::IndexSet;
 use span_expr::cell::Failure;
@@ -37,7 +37,7 @@ pub(crate) fn are_equal(left: &[Value], right: &[Value]) -> bool
 }
 
 /// Copies of the rows of a set, in its order.
-fn rows_of(alloc: Global, seen: IndexSet<RowKey<'_>>) -> Result<RowList, AllocError>
+fn rows_of(alloc: Global, seen: IndexSet<LentRow<'_>>) -> Result<RowList, AllocError>
     ensures { IfOk result (λ rows. rows ≡ seen.entry.keys) }
 {
     let mut rows = RowList::new(alloc);
@@ -52,7 +52,7 @@ fn first_occurrences(alloc: Global, rows: &RowList) -> Result<RowList, AllocErro
 {
     let mut seen = IndexSet::new(alloc);
     for at in 0..rows.len() {
-        seen.insert(RowKey::new(rows.row(at)))?;
+        seen.insert(LentRow::new(rows.row(at)))?;
     }
     rows_of(alloc, seen)
 }

@@ -127,11 +127,11 @@ pub fn compare_columns(
 
 /// A lent row in a set of rows. Contracts see the row.
 #[derive(Drop)]
-pub struct RowKey<'a> {
+pub struct LentRow<'a> {
     values: &'a [Value],
 }
 
-impl<'a> Model for RowKey<'a> {
+impl<'a> Model for LentRow<'a> {
     ghost use Rattle.span_query.specs.Rows.{Row};
 
     ghost Value = { Row };
@@ -139,12 +139,12 @@ impl<'a> Model for RowKey<'a> {
     ghost view = { λ k. k.values.now };
 }
 
-impl<'a> RowKey<'a> {
+impl<'a> LentRow<'a> {
     /// The row as a key: keys are equal where the rows are. Nothing is copied.
-    pub fn new(values: &'a [Value]) -> RowKey<'a>
+    pub fn new(values: &'a [Value]) -> LentRow<'a>
         ensures { result ≡ values.now }
     {
-        RowKey { values }
+        LentRow { values }
     }
 
     /// The row.
@@ -155,7 +155,7 @@ impl<'a> RowKey<'a> {
     }
 }
 
-impl<'a> PartialEq for RowKey<'a> {
+impl<'a> PartialEq for LentRow<'a> {
     ghost use Rattle.std.specs.Cmp.{partial_equiv_from_equiv};
     ghost use Rattle.span_query.specs.Groups.{are_equal};
     ghost use Rattle.span_rows.specs.EqualRows.{rows_are_equivalent};
@@ -164,18 +164,18 @@ impl<'a> PartialEq for RowKey<'a> {
 
     ghost laws = { partial_equiv_from_equiv rows_are_equivalent };
 
-    fn eq(&self, other: &RowKey<'a>) -> bool {
+    fn eq(&self, other: &LentRow<'a>) -> bool {
         are_equal(self.values, other.values)
     }
 }
 
-impl<'a> Eq for RowKey<'a> {
+impl<'a> Eq for LentRow<'a> {
     ghost use Rattle.span_rows.specs.EqualRows.{rows_are_equivalent};
 
     ghost laws = { rows_are_equivalent };
 }
 
-impl<'a> Hash for RowKey<'a> {
+impl<'a> Hash for LentRow<'a> {
     ghost use Rattle.span_rows.specs.Hashes.{row_writes};
     ghost use Rattle.span_rows.specs.EqualRows.{equal_rows_hash_alike};
 

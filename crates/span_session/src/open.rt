@@ -7,7 +7,7 @@ ghost use Rattle.span_board.specs.declared.board.Role.TheVariants.{Keeper};
 
 use crate::db::Db;
 use atomic_table::{Badge, Table};
-use span_board::board::{Board, Change, Law, Meet, Naming, Place, View};
+use span_board::board::{Board, Change, DbSeat, Law, Meet, Naming, View};
 use span_board::places::SLOTS;
 use span_board::session::Session;
 use span_journal::journal::Journal;
@@ -22,15 +22,15 @@ use std::sync::Mutex;
 
 /// An empty database that has no name yet: its table, whose one seat has every role.
 #[derive(Drop)]
-pub struct Opened {
+pub struct UnnamedDb {
     table: Table<Change, View, (u64, usize), Law, Global>,
-    first: Place,
+    first: DbSeat,
     schema: Schema,
     sessions: u64,
     alloc: Global,
 }
 
-impl Model for Opened {
+impl Model for UnnamedDb {
     ghost use Rattle.std.specs.Prelude.{◌≡◌, []};
     ghost use Rattle.atomic_table.specs.Seated.{table_id_coded};
     ghost use Rattle.span_board.specs.declared.places.TheConstants.{SLOTS};
@@ -45,14 +45,14 @@ impl Model for Opened {
         × (o.table.shared.table_id.words ≡ 1) };
 }
 
-impl Opened {
+impl UnnamedDb {
     /// An empty database for this many sessions. Session k, counted from 0, is owner k.
-    pub fn new(alloc: Global, schema: Schema, sessions: u64) -> Result<Opened, AllocError>
+    pub fn new(alloc: Global, schema: Schema, sessions: u64) -> Result<UnnamedDb, AllocError>
         ensures schema { IfOk result (λ opened. opened.schema ≡ schema) }
         ensures sessions { IfOk result (λ opened. opened.sessions ≡ sessions) }
     {
         let (table, first) = Table::of_words(alloc, &[0], &(sessions, SLOTS))?;
-        Ok(Opened {
+        Ok(UnnamedDb {
             table,
             first,
             schema,
@@ -67,7 +67,7 @@ impl Opened {
         requires schema { self.schema ≡ J.schema }
         ensures { IfOk result (λ r. r.1.items ≡ newcomers 0 self.sessions) }
     {
-        let Opened {
+        let UnnamedDb {
             table,
             mut first,
             schema,
@@ -113,9 +113,9 @@ fn journal_of<J: Naming>(
 /// The slots, each under its lock, and what is left of the first seat.
 fn slots_of<J: Naming>(
     board: &Board<J>,
-    first: Place,
+    first: DbSeat,
     sessions: u64,
-) -> Result<(Vec<Mutex<LockedSlot<J>>>, Place), AllocError>
+) -> Result<(Vec<Mutex<LockedSlot<J>>>, DbSeat), AllocError>
     requires at { first.table_id ≡ J.table }
     requires roles { first.me ≡ (holders 0 SLOTS ++ clients 0 sessions, []) }
     ensures at { IfOk result (λ r. r.1.table_id ≡ J.table) }
@@ -136,7 +136,7 @@ fn slots_of<J: Naming>(
 /// The sessions, which have seen and made nothing.
 fn sessions_of<J: Naming>(
     board: &Board<J>,
-    first: Place,
+    first: DbSeat,
     count: u64,
 ) -> Result<Vec<Session<J>>, AllocError>
     requires at { first.table_id ≡ J.table }

@@ -7,7 +7,7 @@ use span_machine::step::Verdict;
 use span_mutate::mutation::{Mutation, MutationKind};
 use span_schema::schema::Schema;
 use span_session::db::Db;
-use span_session::open::Opened;
+use span_session::open::UnnamedDb;
 use span_session_fixtures::calls::{ask, split, two_of};
 use span_session_fixtures::clock::{OpenGate, SharedClock};
 use span_session_fixtures::users::{
@@ -38,14 +38,14 @@ const ALL: [i64; 16] = [
 fn sixteen_slots(rt: HostRuntime) -> Result<(), Fail> {
     let alloc = rt.alloc();
     let (schema, kept) = two_schemas(alloc, TABLES)?;
-    let opened = Opened::new(alloc, schema, 2)?;
+    let opened = UnnamedDb::new(alloc, schema, 2)?;
     by_all::<Brand, _>(&rt, alloc, opened, &kept)
 }
 
 fn by_all<J: Naming + Send + Sync, R: Threads + Wait + Abort + Sync>(
     rt: &R,
     alloc: Global,
-    opened: Opened,
+    opened: UnnamedDb,
     schema: &Schema,
 ) -> Result<(), Fail>
     requires table { opened.table ≡ J.table }

@@ -8,7 +8,7 @@ use span_checking::transaction::Transaction;
 use span_machine::step::Verdict;
 use span_schematext::text::parse_schema;
 use span_session::db::Db;
-use span_session::open::Opened;
+use span_session::open::UnnamedDb;
 use span_session_fixtures::calls::{split, users};
 use span_session_fixtures::clock::{SharedClock, Still};
 use span_session_fixtures::users::{TABLES, are_uids, both, insert, insert_into};
@@ -30,14 +30,14 @@ fn step_by_step(rt: HostRuntime) -> Result<(), Fail> {
     let schema = parse_schema(alloc, TABLES)?;
     let first = insert(alloc, &schema, 1)?;
     let second = insert(alloc, &schema, 2)?;
-    let opened = Opened::new(alloc, schema, 1)?;
+    let opened = UnnamedDb::new(alloc, schema, 1)?;
     by_one::<Brand, _>(&rt, alloc, opened, first, second)
 }
 
 fn by_one<J: Naming + Send + Sync, R: Threads + Wait + Abort + Sync>(
     rt: &R,
     alloc: Global,
-    opened: Opened,
+    opened: UnnamedDb,
     first: Transaction,
     second: Transaction,
 ) -> Result<(), Fail>
@@ -142,14 +142,14 @@ fn two_slots(rt: HostRuntime) -> Result<(), Fail> {
     let first = insert_into(alloc, "Users", &[1])?;
     let second = insert_into(alloc, "Users", &[200])?;
     let right = both(alloc, &schema, first, second)?;
-    let opened = Opened::new(alloc, schema, 1)?;
+    let opened = UnnamedDb::new(alloc, schema, 1)?;
     by_slots::<Brand, _>(&rt, alloc, opened, wrong, right)
 }
 
 fn by_slots<J: Naming + Send + Sync, R: Threads + Wait + Abort + Sync>(
     rt: &R,
     alloc: Global,
-    opened: Opened,
+    opened: UnnamedDb,
     wrong: Transaction,
     right: Transaction,
 ) -> Result<(), Fail>

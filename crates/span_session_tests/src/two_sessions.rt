@@ -8,7 +8,7 @@ use span_checking::transaction::Transaction;
 use span_params::params::Params;
 use span_schematext::text::parse_schema;
 use span_session::db::Db;
-use span_session::open::Opened;
+use span_session::open::UnnamedDb;
 use span_session_fixtures::clock::{OpenGate, SharedClock};
 use span_session_fixtures::users::{UIDS, USERS, are_uids, insert};
 use span_truetime::bound::Bound;
@@ -27,14 +27,14 @@ fn commit_and_query(rt: HostRuntime) -> Result<(), Fail> {
     let schema = parse_schema(alloc, USERS)?;
     let first = insert(alloc, &schema, 1)?;
     let second = insert(alloc, &schema, 2)?;
-    let opened = Opened::new(alloc, schema, 2)?;
+    let opened = UnnamedDb::new(alloc, schema, 2)?;
     by_two::<Brand, _>(&rt, alloc, opened, first, second)
 }
 
 fn by_two<J: Naming + Send + Sync, R: Threads + Wait + Abort + Sync>(
     rt: &R,
     alloc: Global,
-    opened: Opened,
+    opened: UnnamedDb,
     first: Transaction,
     second: Transaction,
 ) -> Result<(), Fail>

@@ -11,15 +11,15 @@ use std::alloc::{AllocError, Global};
 
 /// Chains of a store near the keys of the next mutations. Nothing rests on them: a look-up that begins at one finds what any other does.
 #[derive(Drop)]
-pub(crate) struct Ahead {
+pub(crate) struct NearChains {
     near: [u32; SEARCH_LANES],
     place: usize,
 }
 
-impl Ahead {
+impl NearChains {
     /// Nothing is searched yet.
-    pub(crate) fn new() -> Ahead {
-        Ahead {
+    pub(crate) fn new() -> NearChains {
+        NearChains {
             near: [NO_CHAIN; SEARCH_LANES],
             place: 0,
         }

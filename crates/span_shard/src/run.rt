@@ -10,7 +10,7 @@ ghost use Rattle.span_store.specs.KeyLists.{AreInOrder};
 ghost use Rattle.span_shard.specs.Overlay.{lacks_parent_over, own_code, HasFront, HasParent, HasPutRow, HasSameCleared, IsAddedAt, IsRowAlone, AreCellsOf, IsMergedRow, IsMergeRefused, IsPresenceRight, IsPresenceRefused, IsUnpacked, IsBlocked, HasNoKey, IsPutRow, IsNoPut, row_over, AreCleared, AreUnder, HasDeleted, IsNoDelete, AreTableRows, IsRunOf, IsRunFault, AreRunsOf};
 ghost use Rattle.span_shard.specs.Reading.{IsFault, IsPrepareRefusal};
 
-use super::ahead::Ahead;
+use super::ahead::NearChains;
 use super::lookups::Lookups;
 use super::merge::pack_merged;
 use super::overlay::{Changes, has_row, keys_under, row_over_near, row_under};
@@ -360,7 +360,7 @@ pub(crate) fn run(
     schema.meets_rules();
     let mut changes = Changes::new(alloc);
     let mut known = None;
-    let mut ahead = Ahead::new();
+    let mut ahead = NearChains::new();
     for mutation in mutations {
         let near = ahead.next(alloc, schema, store, mutations);
         known = run_one(alloc, schema, store, &mut changes, known, mutation, near)?;

@@ -12,7 +12,7 @@ use Rattle.span_mutate.specs.declared.mutation.MutationKind.{MutationKind}
 use Rattle.span_mutate.specs.declared.mutation.MutationKind.TheVariants.{Insert}
 use Rattle.span_mutate.specs.declared.batch.BatchRow.{BatchRow}
 use Rattle.span_mutate.specs.Batches.{batch_mutations, row_mutation, row_mutations}
-use Rattle.span_records.specs.declared.layout.Layout.{Layout}
+use Rattle.span_records.specs.declared.layout.RecordLayout.{RecordLayout}
 use Rattle.span_records.specs.Layouts.{HasNoLayout, IsLayoutOf, IsRowOf, heading_of}
 use Rattle.span_records.specs.Record.{record_fields}
 use Rattle.span_steps.specs.declared.refused.Refused.{Refused}
@@ -46,7 +46,7 @@ gathered_alone clock params gathered (Some load) none = absurd (cc none)
 gathered_alone clock params gathered None none = refl
 
 -- one row is gathered
-pub gathers_row : {T : Type 0} (layout : Layout) (kind : MutationKind) (text : List ℕ) (old new : RunningScript) (row : BatchRow) (rows : List BatchRow) (r : Result T Refusal)
+pub gathers_row : {T : Type 0} (layout : RecordLayout) (kind : MutationKind) (text : List ℕ) (old new : RunningScript) (row : BatchRow) (rows : List BatchRow) (r : Result T Refusal)
     → IsRowOf layout (record_fields text) row → rows ≡ row ∷ [] → Gathered (row_mutations (heading_of layout kind) rows) old new r
     → Changes (Gathers layout kind text (state_of old)) (RefusesRecord layout kind text) old new r
 gathers_row layout kind text old new row rows (Ok x) is one h = (
@@ -82,7 +82,7 @@ load_not_begun schema table columns clock params gathered None refused none is =
 
 module _ (clock : Interval) (params : List Parameter) (gathered : List Mutation) where
   -- the state with a load whose records are read so, and gave these mutations
-  abbrev state_at : Layout → List Mutation → ScriptState
+  abbrev state_at : RecordLayout → List Mutation → ScriptState
   state_at layout all = record { clock = clock; params = params; gathered = all; load = Some (record { layout = Ok layout; before = length gathered }) }
 
   one_more : (records : Records) (text : List ℕ) (new : Records) (adds : AddsRow records text new)
@@ -91,7 +91,7 @@ module _ (clock : Interval) (params : List Parameter) (gathered : List Mutation)
   one_more records text new adds =
       let f = row_mutation (heading_of records.layout Insert) in
       let rows = ap (λ (l : List BatchRow). state_at new.layout (gathered ++ row_mutations (heading_of new.layout Insert) l)) adds.3 in
-      let layout = ap (λ (w : Layout). state_at w (gathered ++ row_mutations (heading_of w Insert) (records.rows.items ++ adds.0 ∷ []))) adds.2 in
+      let layout = ap (λ (w : RecordLayout). state_at w (gathered ++ row_mutations (heading_of w Insert) (records.rows.items ++ adds.0 ∷ []))) adds.2 in
       let all : gathered ++ row_mutations (heading_of records.layout Insert) (records.rows.items ++ adds.0 ∷ []) ≡ (gathered ++ inserts_of records) ++ f adds.0 ∷ [] =
       ap (λ (l : List Mutation). gathered ++ l) (map-append f records.rows.items (adds.0 ∷ [])) ∙ sym (append_assoc gathered (inserts_of records) (f adds.0 ∷ [])) in
       rows ∙ layout ∙ ap (state_at records.layout) all

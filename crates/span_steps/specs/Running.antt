@@ -11,7 +11,7 @@ use Rattle.span_mutate.specs.declared.batch.BatchRow.{BatchRow}
 use Rattle.span_mutate.specs.Batches.{batch_mutations, row_mutation, row_mutations}
 use Rattle.span_command.specs.declared.line.Line.{Line}
 use Rattle.span_command.specs.declared.line.Line.TheVariants.{Text, Unreadable}
-use Rattle.span_records.specs.declared.layout.Layout.{Layout}
+use Rattle.span_records.specs.declared.layout.RecordLayout.{RecordLayout}
 use Rattle.span_records.specs.Layouts.{IsOfRecord, heading_of}
 use Rattle.span_records.specs.Record.{record_fields}
 use Rattle.span_steps.specs.declared.refused.Refused.{Refused}
@@ -21,7 +21,7 @@ use Rattle.span_steps.specs.declared.running.RunningScript.{RunningScript}
 use Rattle.span_answers.specs.Lines.{refused_line}
 use Rattle.span_steps.specs.States.{OpenLoad, ScriptState}
 
-abbrev pub layout_of : Result Records Refused → Result Layout Refusal
+abbrev pub layout_of : Result Records Refused → Result RecordLayout Refusal
 layout_of (Ok records) = Ok records.layout
 layout_of (Err refused) = Err refused.why
 

@@ -24,7 +24,7 @@ use Rattle.span_binder.specs.Understands.{Understands}
 use Rattle.span_core.specs.Explanations.{IsExplanation}
 use Rattle.span_command.specs.declared.command.Command.{Command}
 use Rattle.span_command.specs.declared.command.Command.TheVariants as command
-use Rattle.span_records.specs.declared.layout.Layout.{Layout}
+use Rattle.span_records.specs.declared.layout.RecordLayout.{RecordLayout}
 use Rattle.span_records.specs.Layouts.{IsOfRecord, IsLayoutOf, IsKeyLayoutOf, HasNoLayout}
 use Rattle.span_records.specs.Record.{record_fields}
 use Rattle.span_answers.specs.Lines.{number_line, refused_line}
@@ -33,7 +33,7 @@ use Rattle.span_steps.specs.Steps.{Takes}
 -- a load whose lines are read: how its records are read, or why it is refused; and how many mutations were gathered
 -- before it
 pub record OpenLoad : Type 0 where
-  pub layout : Result Layout Refusal
+  pub layout : Result RecordLayout Refusal
   pub before : ℕ
 
 -- a script between two lines
@@ -72,38 +72,38 @@ abbrev pub RefusesParam : Kind → List ℕ → Refusal → Type 0
 RefusesParam kind cell why = (why ≡ WrongType) × ((value : Value) → ¬ IsCell kind value cell)
 
 -- the mutation of a record is gathered
-abbrev pub Gathers : Layout → MutationKind → List ℕ → ScriptState → ScriptState → Type 0
+abbrev pub Gathers : RecordLayout → MutationKind → List ℕ → ScriptState → ScriptState → Type 0
 Gathers layout kind row state next =
     (m : Mutation) × IsOfRecord layout kind (record_fields row) m
     × (next ≡ record state { gathered = state.gathered ++ m ∷ [] })
 
 -- the record makes no mutation
-abbrev pub RefusesRecord : Layout → MutationKind → List ℕ → Refusal → Type 0
+abbrev pub RefusesRecord : RecordLayout → MutationKind → List ℕ → Refusal → Type 0
 RefusesRecord layout kind row why =
     (why ≡ WrongType) × ((m : Mutation) → ¬ IsOfRecord layout kind (record_fields row) m)
 
 abbrev pub Writes : List Table → MutationKind → List ℕ → List ℕ → List ℕ → ScriptState → ScriptState → Type 0
 Writes schema kind table columns row state next =
-    (layout : Layout) × IsLayoutOf schema table columns layout × Gathers layout kind row state next
+    (layout : RecordLayout) × IsLayoutOf schema table columns layout × Gathers layout kind row state next
 
 abbrev pub RefusesWrite : List Table → MutationKind → List ℕ → List ℕ → List ℕ → Refusal → Type 0
 RefusesWrite schema kind table columns row why =
     HasNoLayout schema table columns why
-    ⊎ ((layout : Layout) × IsLayoutOf schema table columns layout × RefusesRecord layout kind row why)
+    ⊎ ((layout : RecordLayout) × IsLayoutOf schema table columns layout × RefusesRecord layout kind row why)
 
 abbrev pub Deletes : List Table → List ℕ → List ℕ → ScriptState → ScriptState → Type 0
 Deletes schema table row state next =
-    (layout : Layout) × IsKeyLayoutOf schema table layout × Gathers layout mutation.Delete row state next
+    (layout : RecordLayout) × IsKeyLayoutOf schema table layout × Gathers layout mutation.Delete row state next
 
 abbrev pub RefusesDelete : List Table → List ℕ → List ℕ → Refusal → Type 0
 RefusesDelete schema table row why =
     ((why ≡ NoTable) × (number_named schema table ≡ None))
-    ⊎ ((layout : Layout) × IsKeyLayoutOf schema table layout × RefusesRecord layout mutation.Delete row why)
+    ⊎ ((layout : RecordLayout) × IsKeyLayoutOf schema table layout × RefusesRecord layout mutation.Delete row why)
 
 -- the record is that of a key of the table, and this is the deletion of its row
 abbrev pub IsDeletion : List Table → List ℕ → List ℕ → Mutation → Type 0
 IsDeletion schema table row m =
-    (layout : Layout) × IsKeyLayoutOf schema table layout × IsOfRecord layout mutation.Delete (record_fields row) m
+    (layout : RecordLayout) × IsKeyLayoutOf schema table layout × IsOfRecord layout mutation.Delete (record_fields row) m
 
 -- ---- loads
 

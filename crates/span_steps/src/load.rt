@@ -7,7 +7,7 @@ use super::refused::Refused;
 use csv::StringRecord;
 use span_core::{MutationKind, Refusal};
 use span_mutate::batch::BatchRow;
-use span_records::layout::Layout;
+use span_records::layout::RecordLayout;
 use std::alloc::Global;
 
 /// A load between its first line and its `end`.
@@ -20,7 +20,7 @@ pub struct Load {
 /// How the records of a load are read, and the rows that were read.
 #[derive(Drop)]
 pub struct Records {
-    pub layout: Layout,
+    pub layout: RecordLayout,
     pub rows: Vec<BatchRow>,
 }
 

@@ -21,7 +21,7 @@ use span_core::{
     Transaction,
 };
 use span_mutate::batch::{BatchRow, MutationBatch};
-use span_records::layout::Layout;
+use span_records::layout::RecordLayout;
 use span_value::cell::read_cell;
 use std::alloc::Global;
 use std::mem;
@@ -82,7 +82,7 @@ impl RunningScript {
         self.params.add(Text::from_str(alloc, name)?, kind, value)
     }
 
-    /// Gathers the write of a record. `NoTable`, `NoColumn` and `WrongType` as `Layout::of_columns` and `gather_record`.
+    /// Gathers the write of a record. `NoTable`, `NoColumn` and `WrongType` as `RecordLayout::of_columns` and `gather_record`.
     pub fn write(
         &mut self,
         alloc: Global,
@@ -97,11 +97,11 @@ impl RunningScript {
             (Writes schema.now kind table.now columns.now text.now (state_of self.old))
             (RefusesWrite schema.now kind table.now columns.now text.now) self.old self.new result }
     {
-        let layout = Layout::of_columns(alloc, schema, table, columns)?;
+        let layout = RecordLayout::of_columns(alloc, schema, table, columns)?;
         self.gather_record(alloc, layout, kind, text)
     }
 
-    /// Gathers a deletion. `NoTable` and `WrongType` as `Layout::of_key` and `gather_record`.
+    /// Gathers a deletion. `NoTable` and `WrongType` as `RecordLayout::of_key` and `gather_record`.
     pub fn delete(
         &mut self,
         alloc: Global,
@@ -114,7 +114,7 @@ impl RunningScript {
             (Deletes schema.now table.now text.now (state_of self.old))
             (RefusesDelete schema.now table.now text.now) self.old self.new result }
     {
-        let layout = Layout::of_key(alloc, schema, table)?;
+        let layout = RecordLayout::of_key(alloc, schema, table)?;
         self.gather_record(alloc, layout, MutationKind::Delete, text)
     }
 
@@ -123,7 +123,7 @@ impl RunningScript {
     fn gather_record(
         &mut self,
         alloc: Global,
-        layout: Layout,
+        layout: RecordLayout,
         kind: MutationKind,
         text: &str,
     ) -> Result<(), Refusal>
@@ -141,7 +141,7 @@ impl RunningScript {
     fn gather(
         &mut self,
         alloc: Global,
-        layout: Layout,
+        layout: RecordLayout,
         kind: MutationKind,
         rows: Vec<BatchRow>,
     ) -> Result<(), Refusal>
@@ -158,7 +158,7 @@ impl RunningScript {
     fn read_record(
         &mut self,
         alloc: Global,
-        layout: &Layout,
+        layout: &RecordLayout,
         kind: MutationKind,
         text: &str,
     ) -> Result<Mutation, Refusal>
@@ -170,7 +170,7 @@ impl RunningScript {
         layout.read_mutation(alloc, kind, text, &mut self.fields)
     }
 
-    /// The deletion of the row whose key a record has. `NoTable` and `WrongType` as `Layout::of_key` and `read_record`.
+    /// The deletion of the row whose key a record has. `NoTable` and `WrongType` as `RecordLayout::of_key` and `read_record`.
     fn read_deletion(
         &mut self,
         alloc: Global,
@@ -183,7 +183,7 @@ impl RunningScript {
             (λ why. (why ≡ Refusal.OutOfMemory) ⊎ RefusesDelete schema.now table.now text.now why) }
         ensures kept { state_of self.new ≡ state_of self.old }
     {
-        let layout = Layout::of_key(alloc, schema, table)?;
+        let layout = RecordLayout::of_key(alloc, schema, table)?;
         self.read_record(alloc, &layout, MutationKind::Delete, text)
     }
 
@@ -199,7 +199,7 @@ impl RunningScript {
         requires { self.old.load ≡ None }
         ensures { BeginsLoad schema.now table.now columns.now (state_of self.old) (state_of self.new) }
     {
-        let records = match Layout::of_columns(alloc, schema, table, columns) {
+        let records = match RecordLayout::of_columns(alloc, schema, table, columns) {
             Ok(layout) => Ok(Records {
                 layout,
                 rows: Vec::new(alloc),

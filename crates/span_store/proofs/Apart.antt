@@ -10,7 +10,7 @@ use Rattle.std.proofs.lemmas.List.Kept.{AllPairs-filter}
 use Rattle.std.proofs.lemmas.Map.Lookups.{exact_bytes}
 use Rattle.span_keycode.specs.Order.{byte_order}
 use Rattle.span_arena.specs.Content.{Content}
-use Rattle.span_keytree.specs.Entries.{Entry, IsRising, entries_from}
+use Rattle.span_keytree.specs.Entries.{KeyEntry, IsRising, entries_from}
 use Rattle.span_maderows.proofs.Bytes.{bytes_total}
 use Rattle.span_maderows.proofs.Lists.{all_map}
 use Rattle.span_store.specs.declared.node.PreparedNode.{PreparedNode}
@@ -29,36 +29,36 @@ apart t k l passes fails = by (byte_order k l) refl
     by Equal is = (let q : true ≡ false = sym passes ∙ ap t (exact_bytes k l is) ∙ fails in absurd cc)
     by Greater is = refl
 
-none_found : (a : Content) (ps : List PreparedNode) (k : List ℕ) (es : List Entry) → AllByRecursion (λ (e : Entry). is_eq (byte_order k e.key) ≡ false) es → find (is_key k) (all_kept a ps es) ≡ None
+none_found : (a : Content) (ps : List PreparedNode) (k : List ℕ) (es : List KeyEntry) → AllByRecursion (λ (e : KeyEntry). is_eq (byte_order k e.key) ≡ false) es → find (is_key k) (all_kept a ps es) ≡ None
 none_found a ps k [] h = refl
 none_found a ps k (e ∷ es) h = ap (λ b. cond b (Some (kept_entry a ps e)) (find (is_key k) (all_kept a ps es))) h.0 ∙ none_found a ps k es h.1
 
 -- no key is in a range in which none of those from its start on is before its end
-abbrev IsOutside : List ℕ → Option (List ℕ) → List Entry → Type 0
-IsOutside low high es = AllByRecursion (λ (e : Entry). is_from_to low high e.key ≡ false) es
+abbrev IsOutside : List ℕ → Option (List ℕ) → List KeyEntry → Type 0
+IsOutside low high es = AllByRecursion (λ (e : KeyEntry). is_from_to low high e.key ≡ false) es
 
-abbrev IsPast : Option (List ℕ) → List Entry → Type 0
-IsPast high es = AllByRecursion (λ (e : Entry). is_before_end high e.key ≡ false) es
+abbrev IsPast : Option (List ℕ) → List KeyEntry → Type 0
+IsPast high es = AllByRecursion (λ (e : KeyEntry). is_before_end high e.key ≡ false) es
 
-outside_more : (low : List ℕ) (high : Option (List ℕ)) (e : Entry) (es : List Entry) (b : Bool) → is_lt (byte_order e.key low) ≡ b → (IsPast high (entries_from low es) → IsOutside low high es)
+outside_more : (low : List ℕ) (high : Option (List ℕ)) (e : KeyEntry) (es : List KeyEntry) (b : Bool) → is_lt (byte_order e.key low) ≡ b → (IsPast high (entries_from low es) → IsOutside low high es)
     → IsPast high (cond (not b) (e ∷ entries_from low es) (entries_from low es)) → IsOutside low high (e ∷ es)
 outside_more low high e es true is rest h = (ap (λ b. not b && is_before_end high e.key) is, rest h)
 outside_more low high e es false is rest h = (ap (λ b. not b && is_before_end high e.key) is ∙ h.0, rest h.1)
 
-all_outside : (low : List ℕ) (high : Option (List ℕ)) (es : List Entry) → IsPast high (entries_from low es) → IsOutside low high es
+all_outside : (low : List ℕ) (high : Option (List ℕ)) (es : List KeyEntry) → IsPast high (entries_from low es) → IsOutside low high es
 all_outside low high [] h = tt
 all_outside low high (e ∷ es) h = outside_more low high e es (is_lt (byte_order e.key low)) refl (λ r. all_outside low high es r) h
 
-no_row : (a : Content) (ps : List PreparedNode) (es : List Entry) (low : List ℕ) (high : Option (List ℕ)) → AllByRecursion (λ (e : Entry). is_before_end high e.key ≡ false) (entries_from low es) → HasNoRowFrom (all_kept a ps es) low high
+no_row : (a : Content) (ps : List PreparedNode) (es : List KeyEntry) (low : List ℕ) (high : Option (List ℕ)) → AllByRecursion (λ (e : KeyEntry). is_before_end high e.key ≡ false) (entries_from low es) → HasNoRowFrom (all_kept a ps es) low high
 no_row a ps es low high h = λ k here.
     ap (λ (o : Option KeyVersions). row_at (versions_of o) end_of_time)
-    (none_found a ps k es (all_map (λ (e : Entry). is_from_to low high e.key ≡ false) (λ (e : Entry). is_eq (byte_order k e.key) ≡ false) (λ e out. apart (is_from_to low high) k e.key here out) es (all_outside low high es h)))
+    (none_found a ps k es (all_map (λ (e : KeyEntry). is_from_to low high e.key ≡ false) (λ (e : KeyEntry). is_eq (byte_order k e.key) ≡ false) (λ e out. apart (is_from_to low high) k e.key here out) es (all_outside low high es h)))
 
 -- where there is no key from one on
-pub no_row_after : (a : Content) (ps : List PreparedNode) (es left : List Entry) (low : List ℕ) → left ≡ entries_from low es → left ≡ [] → HasNoRowFrom (all_kept a ps es) low None
-no_row_after a ps es left low is none = no_row a ps es low None (subst (λ (l : List Entry). AllByRecursion (λ (e : Entry). is_before_end None e.key ≡ false) l) (sym none ∙ is) tt)
+pub no_row_after : (a : Content) (ps : List PreparedNode) (es left : List KeyEntry) (low : List ℕ) → left ≡ entries_from low es → left ≡ [] → HasNoRowFrom (all_kept a ps es) low None
+no_row_after a ps es left low is none = no_row a ps es low None (subst (λ (l : List KeyEntry). AllByRecursion (λ (e : KeyEntry). is_before_end None e.key ≡ false) l) (sym none ∙ is) tt)
 
-each_after : (P : Entry → Type 0) (es : List Entry) → ((j : ℕ) (d : Entry) → j < length es → P (get_or es j d)) → AllByRecursion P es
+each_after : (P : KeyEntry → Type 0) (es : List KeyEntry) → ((j : ℕ) (d : KeyEntry) → j < length es → P (get_or es j d)) → AllByRecursion P es
 each_after P [] h = tt
 each_after P (e ∷ es) h = (h zero e (omega arith), each_after P es (λ j d lt. h (suc j) d (omega arith)))
 
@@ -66,11 +66,11 @@ not_before : (k l : List ℕ) → byte_order k l ≡ Less → is_lt (byte_order 
 not_before k l less = ap is_lt (bytes_total.antisymm l k ∙ ap ordering_reverse less)
 
 -- where there is a first one
-pub no_row_before : (a : Content) (ps : List PreparedNode) (es left rest : List Entry) (low : List ℕ) (first : Entry) → IsRising es → left ≡ entries_from low es → left ≡ first ∷ rest → HasNoRowFrom (all_kept a ps es) low (Some first.key)
+pub no_row_before : (a : Content) (ps : List PreparedNode) (es left rest : List KeyEntry) (low : List ℕ) (first : KeyEntry) → IsRising es → left ≡ entries_from low es → left ≡ first ∷ rest → HasNoRowFrom (all_kept a ps es) low (Some first.key)
 no_row_before a ps es left rest low first rising is some =
-    let Rises : Entry → Entry → Type 0 = λ e f. byte_order e.key f.key ≡ Less in
+    let Rises : KeyEntry → KeyEntry → Type 0 = λ e f. byte_order e.key f.key ≡ Less in
     let same : entries_from low es ≡ first ∷ rest = sym is ∙ some in
-    let pairs : AllPairs Rises (first ∷ rest) = subst (λ (l : List Entry). AllPairs Rises l) same (AllPairs-filter Rises (λ (e : Entry). not (is_lt (byte_order e.key low))) es rising) in
-    let later : AllByRecursion (λ (f : Entry). Rises first f) rest = each_after (λ (f : Entry). Rises first f) rest (λ j d lt. pairs zero (suc j) d (omega arith) (omega arith)) in
-    let none : AllByRecursion (λ (e : Entry). is_before_end (Some first.key) e.key ≡ false) (first ∷ rest) = (ap is_lt (tied_itself bytes_total first.key), all_map (λ (f : Entry). Rises first f) (λ (f : Entry). is_before_end (Some first.key) f.key ≡ false) (λ f less. not_before first.key f.key less) rest later) in
-    no_row a ps es low (Some first.key) (subst (λ (l : List Entry). AllByRecursion (λ (e : Entry). is_before_end (Some first.key) e.key ≡ false) l) (sym same) none)
+    let pairs : AllPairs Rises (first ∷ rest) = subst (λ (l : List KeyEntry). AllPairs Rises l) same (AllPairs-filter Rises (λ (e : KeyEntry). not (is_lt (byte_order e.key low))) es rising) in
+    let later : AllByRecursion (λ (f : KeyEntry). Rises first f) rest = each_after (λ (f : KeyEntry). Rises first f) rest (λ j d lt. pairs zero (suc j) d (omega arith) (omega arith)) in
+    let none : AllByRecursion (λ (e : KeyEntry). is_before_end (Some first.key) e.key ≡ false) (first ∷ rest) = (ap is_lt (tied_itself bytes_total first.key), all_map (λ (f : KeyEntry). Rises first f) (λ (f : KeyEntry). is_before_end (Some first.key) f.key ≡ false) (λ f less. not_before first.key f.key less) rest later) in
+    no_row a ps es low (Some first.key) (subst (λ (l : List KeyEntry). AllByRecursion (λ (e : KeyEntry). is_before_end (Some first.key) e.key ≡ false) l) (sym same) none)

@@ -13,7 +13,7 @@ use Rattle.span_arena.specs.Content as content
 use Rattle.span_arena.proofs.Keeping.{chain_in_range}
 use Rattle.span_keytree.specs.Items.{holders}
 use Rattle.span_keytree.specs.Arenas.{one_if_chain, IsArenaOf}
-use Rattle.span_keytree.specs.Entries.{Entry}
+use Rattle.span_keytree.specs.Entries.{KeyEntry}
 use Rattle.span_store.specs.declared.node.PreparedNode.{PreparedNode}
 use Rattle.span_store.specs.KeyLists.{kept_of, live}
 use Rattle.span_store.specs.Stored.{version_of, chain_versions, is_for, write_of, write_for, kept_entry, all_kept, count_for, IsNodeOf, IsStored}
@@ -71,15 +71,15 @@ pick_below g k (suc n) lt = elim (cases_eq k n) [
 
 -- ---- a sum over entries is one over their chains
 
-sum_entries : (ℕ → ℕ) → List Entry → ℕ
+sum_entries : (ℕ → ℕ) → List KeyEntry → ℕ
 sum_entries g [] = 0
 sum_entries g (e ∷ es) = g e.chain.number + sum_entries g es
 
-picked : (ℕ → ℕ) → List Entry → ℕ → ℕ
+picked : (ℕ → ℕ) → List KeyEntry → ℕ → ℕ
 picked g [] c = 0
 picked g (e ∷ es) c = pick g e.chain.number c + picked g es c
 
-entries_picked : (g : ℕ → ℕ) (n : ℕ) → ((c : ℕ) → n ≤ c → g c ≡ 0) → (es : List Entry) → sum_entries g es ≡ sum_below (picked g es) n
+entries_picked : (g : ℕ → ℕ) (n : ℕ) → ((c : ℕ) → n ≤ c → g c ≡ 0) → (es : List KeyEntry) → sum_entries g es ≡ sum_below (picked g es) n
 unfolding sum_entries picked
 entries_picked g n past [] = sym (sum-none n)
 entries_picked g n past (e ∷ es) = elim (cases_lt e.chain.number n) [
@@ -87,7 +87,7 @@ entries_picked g n past (e ∷ es) = elim (cases_lt e.chain.number n) [
   | inr ge ↦ omega (arith, entries_picked g n past es, pick_past g e.chain.number n ge, past e.chain.number ge, sum-add (pick g e.chain.number) (picked g es) n)
 ]
 
-picked_none : (g : ℕ → ℕ) (c : ℕ) (es : List Entry) → holders c es ≡ 0 → picked g es c ≡ 0
+picked_none : (g : ℕ → ℕ) (c : ℕ) (es : List KeyEntry) → holders c es ≡ 0 → picked g es c ≡ 0
 unfolding picked
 picked_none g c [] h = refl
 picked_none g c (e ∷ es) h = elim (cases_eq e.chain.number c) [
@@ -100,7 +100,7 @@ picked_none g c (e ∷ es) h = elim (cases_eq e.chain.number c) [
       omega (arith, picked_none g c es rest, pick_elsewhere g e.chain.number c differs))
 ]
 
-picked_once : (g : ℕ → ℕ) (c : ℕ) (es : List Entry) → holders c es ≡ 1 → picked g es c ≡ g c
+picked_once : (g : ℕ → ℕ) (c : ℕ) (es : List KeyEntry) → holders c es ≡ 1 → picked g es c ≡ g c
 unfolding picked
 picked_once g c [] h = absurd (let f : ◌≡◌ {A = ℕ} 0 1 = h in omega arith)
 picked_once g c (e ∷ es) h = elim (cases_eq e.chain.number c) [
@@ -115,7 +115,7 @@ picked_once g c (e ∷ es) h = elim (cases_eq e.chain.number c) [
 ]
 
 -- each chain is that of one key
-entries_sum : (es : List Entry) (a : Content) (g : ℕ → ℕ) → IsArenaOf es a → ((c : ℕ) → get_or a.chains c None ≡ None → g c ≡ 0) → sum_entries g es ≡ sum_below g (length a.chains)
+entries_sum : (es : List KeyEntry) (a : Content) (g : ℕ → ℕ) → IsArenaOf es a → ((c : ℕ) → get_or a.chains c None ≡ None → g c ≡ 0) → sum_entries g es ≡ sum_below g (length a.chains)
 entries_sum es a g own none =
     entries_picked g (length a.chains) (λ c ge. none c (get_or-eq_default a.chains None ge)) es
     ∙ sum-same (picked g es) g (λ c. each c (get_or a.chains c None) refl (own.each c)) (length a.chains)
@@ -171,11 +171,11 @@ no_chain a c (p ∷ ps) none h = elim (cases_eq p.chain.number c) [
       omega (arith, zero_here, no_chain a c ps none h.1))
 ]
 
-module _ (es : List Entry) (a : Content) (ps : List PreparedNode) (stored : IsStored es a ps) (order : IsInOrder a) where
+module _ (es : List KeyEntry) (a : Content) (ps : List PreparedNode) (stored : IsStored es a ps) (order : IsInOrder a) where
   weight : ℕ → ℕ
   weight c = length (versions_in (get_or a.chains c None)) + prepared_for c a.prepared
 
-  keys_sum : (xs : List Entry) → live (all_kept a ps xs) ≡ sum_entries weight xs
+  keys_sum : (xs : List KeyEntry) → live (all_kept a ps xs) ≡ sum_entries weight xs
   unfolding sum_entries weight
   keys_sum [] = refl
   keys_sum (e ∷ xs) =

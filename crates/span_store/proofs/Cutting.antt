@@ -9,7 +9,7 @@ use Rattle.span_arena.specs.declared.version.Version as arena
 use Rattle.span_arena.specs.Content.{Content, Prepared, versions, versions_in, prepared_at, prepared_for, IsChain, kept_at, kept_upto, trimmed}
 use Rattle.span_arena.proofs.Keeping.{chain_in_range}
 use Rattle.span_keytree.specs.Arenas.{HasSameChains}
-use Rattle.span_keytree.specs.Entries.{Entry}
+use Rattle.span_keytree.specs.Entries.{KeyEntry}
 use Rattle.span_keyindex.proofs.Keeping.{own_stays, chain_same, same_after, same-kept}
 use Rattle.span_maderows.proofs.Lists.{all_map, all_append}
 use Rattle.span_store.specs.declared.chain.Version.{Version}
@@ -74,55 +74,55 @@ module _ (h : ℕ) (a b d : Content) (c : ℕ) (so_far : HasTrimmed h a b) (chai
     ];
   }
 
-  still : (e : Entry) → IsTrimmed h a b e → IsTrimmed h a d e
+  still : (e : KeyEntry) → IsTrimmed h a b e → IsTrimmed h a d e
   still e was = elim (cases_eq e.chain.number c) [
     | inl equal ↦ subst (λ y. versions d y ≡ kept_upto h (versions a y)) (sym equal) (here ∙ so_far.chains c)
     | inr differs ↦ elsewhere e.chain.number differs ∙ was
   ]
 
-  now : (e : Entry) → e.chain.number ≡ c → IsTrimmed h a d e
+  now : (e : KeyEntry) → e.chain.number ≡ c → IsTrimmed h a d e
   now e equal = subst (λ y. versions d y ≡ kept_upto h (versions a y)) (sym equal) (here ∙ so_far.chains c)
 
-pub trim_start : (h : ℕ) (es : List Entry) (a : Content) → AreTrimmed h es es a a
+pub trim_start : (h : ℕ) (es : List KeyEntry) (a : Content) → AreTrimmed h es es a a
 trim_start h es a = record { done = []; whole = refl; each = tt; so_far = record { same = λ c. refl; cells = refl; most = refl; prepared = refl; chains = λ c. refl } }
 
-pub trim_step : (h : ℕ) (es left rest : List Entry) (e : Entry) (a b d : Content) → AreTrimmed h es left a b → left ≡ e ∷ rest → IsChain b e.chain.number → d ≡ trimmed b e.chain.number h → AreTrimmed h es rest a d
+pub trim_step : (h : ℕ) (es left rest : List KeyEntry) (e : KeyEntry) (a b d : Content) → AreTrimmed h es left a b → left ≡ e ∷ rest → IsChain b e.chain.number → d ≡ trimmed b e.chain.number h → AreTrimmed h es rest a d
 trim_step h es left rest e a b d old is chain now_is = record {
   done = old.done ++ e ∷ [];
-  whole = append_assoc old.done (e ∷ []) rest ∙ ap (λ (l : List Entry). old.done ++ l) (sym is) ∙ old.whole;
+  whole = append_assoc old.done (e ∷ []) rest ∙ ap (λ (l : List KeyEntry). old.done ++ l) (sym is) ∙ old.whole;
   each = all_append (IsTrimmed h a d) old.done (e ∷ []) (all_map (IsTrimmed h a b) (IsTrimmed h a d) (λ x was. still h a b d e.chain.number old.so_far chain now_is x was) old.done old.each) (now h a b d e.chain.number old.so_far chain now_is e refl, tt);
   so_far = trimmed_now h a b d e.chain.number old.so_far chain now_is;
 }
 
 -- the chains that are left are chains still
-pub trim_chains : (h : ℕ) (rest : List Entry) (c : ℕ) (b d : Content) → IsChain b c → d ≡ trimmed b c h → All (λ (x : Entry). IsChain b x.chain.number) rest → All (λ (x : Entry). IsChain d x.chain.number) rest
+pub trim_chains : (h : ℕ) (rest : List KeyEntry) (c : ℕ) (b d : Content) → IsChain b c → d ≡ trimmed b c h → All (λ (x : KeyEntry). IsChain b x.chain.number) rest → All (λ (x : KeyEntry). IsChain d x.chain.number) rest
 trim_chains h rest c b d chain is all k e lt = chain_same b d _ (same-kept b d c (kept_upto h (versions b c)) chain is) (all k e lt)
 
 -- the first of the chains that are left is that of the first key
-pub record IsNextKey (left : List Entry) (chain : Chain) (rest : List Chain) : Type 0 where
-  pub first : Entry
-  pub others : List Entry
+pub record IsNextKey (left : List KeyEntry) (chain : Chain) (rest : List Chain) : Type 0 where
+  pub first : KeyEntry
+  pub others : List KeyEntry
   pub is : left ≡ first ∷ others
   pub chain_is : first.chain ≡ chain
-  pub rest_is : rest ≡ map (λ (e : Entry). e.chain) others
+  pub rest_is : rest ≡ map (λ (e : KeyEntry). e.chain) others
 
-pub next_key : (left : List Entry) (chain : Chain) (chains rest : List Chain) → chains ≡ map (λ (e : Entry). e.chain) left → chains ≡ chain ∷ rest → IsNextKey left chain rest
+pub next_key : (left : List KeyEntry) (chain : Chain) (chains rest : List Chain) → chains ≡ map (λ (e : KeyEntry). e.chain) left → chains ≡ chain ∷ rest → IsNextKey left chain rest
 next_key [] chain chains rest is first = absurd (let q : [] ≡ chain ∷ rest = sym is ∙ first in cc)
 next_key (e ∷ es) chain chains rest is first =
-    let q : e.chain ∷ map (λ (x : Entry). x.chain) es ≡ chain ∷ rest = sym is ∙ first in
-    record { first = e; others = es; is = refl; chain_is = (let c : e.chain ≡ chain = cc in c); rest_is = (let r : rest ≡ map (λ (x : Entry). x.chain) es = cc in r) }
+    let q : e.chain ∷ map (λ (x : KeyEntry). x.chain) es ≡ chain ∷ rest = sym is ∙ first in
+    record { first = e; others = es; is = refl; chain_is = (let c : e.chain ≡ chain = cc in c); rest_is = (let r : rest ≡ map (λ (x : KeyEntry). x.chain) es = cc in r) }
 
 -- the keys whose chains are left
-pub record IsLeft (h : ℕ) (es : List Entry) (chains : List Chain) (a b : Content) : Type 0 where
-  pub left : List Entry
-  pub is : chains ≡ map (λ (e : Entry). e.chain) left
-  pub are_chains : All (λ (e : Entry). IsChain b e.chain.number) left
+pub record IsLeft (h : ℕ) (es : List KeyEntry) (chains : List Chain) (a b : Content) : Type 0 where
+  pub left : List KeyEntry
+  pub is : chains ≡ map (λ (e : KeyEntry). e.chain) left
+  pub are_chains : All (λ (e : KeyEntry). IsChain b e.chain.number) left
   pub so_far : AreTrimmed h es left a b
 
-pub left_start : (h : ℕ) (es : List Entry) (chains : List Chain) (a : Content) → All (λ (e : Entry). IsChain a e.chain.number) es → chains ≡ map (λ (e : Entry). e.chain) es → IsLeft h es chains a a
+pub left_start : (h : ℕ) (es : List KeyEntry) (chains : List Chain) (a : Content) → All (λ (e : KeyEntry). IsChain a e.chain.number) es → chains ≡ map (λ (e : KeyEntry). e.chain) es → IsLeft h es chains a a
 left_start h es chains a all is = record { left = es; is = is; are_chains = all; so_far = trim_start h es a }
 
-module _ (h : ℕ) (es : List Entry) (chains rest : List Chain) (chain : Chain) (a b : Content) (now_left : IsLeft h es chains a b) (first : chains ≡ chain ∷ rest) where
+module _ (h : ℕ) (es : List KeyEntry) (chains rest : List Chain) (chain : Chain) (a b : Content) (now_left : IsLeft h es chains a b) (first : chains ≡ chain ∷ rest) where
   next : IsNextKey now_left.left chain rest
   next = next_key now_left.left chain chains rest now_left.is first
 
@@ -140,16 +140,16 @@ module _ (h : ℕ) (es : List Entry) (chains rest : List Chain) (chain : Chain) 
         so_far = trim_step h es now_left.left next.others next.first a b d now_left.so_far next.is there now_is;
       }
 
-pub left_none : (h : ℕ) (es : List Entry) (chains : List Chain) (a b : Content) → IsLeft h es chains a b → chains ≡ [] → AreTrimmed h es [] a b
-left_none h es chains a b now_left none = subst (λ (l : List Entry). AreTrimmed h es l a b) (nothing now_left.left (sym now_left.is ∙ none)) now_left.so_far
+pub left_none : (h : ℕ) (es : List KeyEntry) (chains : List Chain) (a b : Content) → IsLeft h es chains a b → chains ≡ [] → AreTrimmed h es [] a b
+left_none h es chains a b now_left none = subst (λ (l : List KeyEntry). AreTrimmed h es l a b) (nothing now_left.left (sym now_left.is ∙ none)) now_left.so_far
   where
-    nothing : (l : List Entry) → map (λ (e : Entry). e.chain) l ≡ [] → l ≡ []
+    nothing : (l : List KeyEntry) → map (λ (e : KeyEntry). e.chain) l ≡ [] → l ≡ []
     nothing [] h = refl
     nothing (e ∷ l) h = absurd cc
 
 -- ---- all chains
 
-module _ (h : ℕ) (es : List Entry) (a b : Content) (ps : List PreparedNode) (stored : IsStored es a ps) (all : AreTrimmed h es [] a b) where
+module _ (h : ℕ) (es : List KeyEntry) (a b : Content) (ps : List PreparedNode) (stored : IsStored es a ps) (all : AreTrimmed h es [] a b) where
   every : AllByRecursion (IsTrimmed h a b) es
   every = subst (AllByRecursion (IsTrimmed h a b)) (sym (append-nil all.done) ∙ all.whole) all.each
 
@@ -167,7 +167,7 @@ module _ (h : ℕ) (es : List Entry) (a b : Content) (ps : List PreparedNode) (s
     };
   }
 
-  key_is : (e : Entry) → IsTrimmed h a b e → kept_entry b ps e ≡ trimmed_key h (kept_entry a ps e)
+  key_is : (e : KeyEntry) → IsTrimmed h a b e → kept_entry b ps e ≡ trimmed_key h (kept_entry a ps e)
   key_is e is = kept_equal e.key (chain_versions b e.chain.number) (seen.kept_upto h (chain_versions a e.chain.number)) (write_for b ps e.chain.number) (write_for a ps e.chain.number)
       (ap (map version_of) is ∙ kept_mapped h (versions a e.chain.number))
       (write-same a b e.chain.number ps (all_whole (λ (q : PreparedNode). prepared_at b q.node.number ≡ prepared_at a q.node.number) stay ps))
@@ -175,6 +175,6 @@ module _ (h : ℕ) (es : List Entry) (a b : Content) (ps : List PreparedNode) (s
   pub keys_after : all_kept b ps es ≡ map (trimmed_key h) (all_kept a ps es)
   keys_after = go es every
     where
-      go : (xs : List Entry) → AllByRecursion (IsTrimmed h a b) xs → all_kept b ps xs ≡ map (trimmed_key h) (all_kept a ps xs)
+      go : (xs : List KeyEntry) → AllByRecursion (IsTrimmed h a b) xs → all_kept b ps xs ≡ map (trimmed_key h) (all_kept a ps xs)
       go [] t = refl
       go (e ∷ xs) t = ap (λ (k : KeyVersions). k ∷ all_kept b ps xs) (key_is e t.0) ∙ ap (λ (l : List KeyVersions). trimmed_key h (kept_entry a ps e) ∷ l) (go xs t.1)

@@ -12,7 +12,7 @@ use Rattle.span_arena.specs.Order.{IsLater}
 use Rattle.span_arena.specs.Order as order
 use Rattle.span_arena.proofs.Keeping.{chain_in_range}
 use Rattle.span_keytree.specs.Arenas.{HasSameChains}
-use Rattle.span_keytree.specs.Entries.{Entry}
+use Rattle.span_keytree.specs.Entries.{KeyEntry}
 use Rattle.span_keyindex.proofs.Keeping.{same-equal, same-linked, same_after}
 use Rattle.span_mutate.proofs.Runs.{item_first}
 use Rattle.span_maderows.proofs.Lists.{all_filter_itself}
@@ -215,7 +215,7 @@ other_stays txn committed b ps key c all = go ps all
 pub ended_keys : (txn : ℕ) (committed : Option ℕ) (a b : Content) (ps : List PreparedNode) → HasEnded txn committed a b ps (filter (is_other txn) ps) → (key : List ℕ) (c : ℕ) → kept b (filter (is_other txn) ps) key c ≡ applied_to_key txn committed (kept a ps key c)
 ended_keys txn committed a b ps h key c = sym (other_stays txn committed b (filter (is_other txn) ps) key c (all_filter_itself (is_other txn) ps)) ∙ h.keys key c
 
-pub ended_list : (txn : ℕ) (committed : Option ℕ) (a b : Content) (ps : List PreparedNode) (es : List Entry) → HasEnded txn committed a b ps (filter (is_other txn) ps) → all_kept b (filter (is_other txn) ps) es ≡ map (applied_to_key txn committed) (all_kept a ps es)
+pub ended_list : (txn : ℕ) (committed : Option ℕ) (a b : Content) (ps : List PreparedNode) (es : List KeyEntry) → HasEnded txn committed a b ps (filter (is_other txn) ps) → all_kept b (filter (is_other txn) ps) es ≡ map (applied_to_key txn committed) (all_kept a ps es)
 ended_list txn committed a b ps [] h = refl
 ended_list txn committed a b ps (e ∷ es) h =
     ap (λ (k : KeyVersions). k ∷ all_kept b (filter (is_other txn) ps) es) (ended_keys txn committed a b ps h e.key e.chain.number)

@@ -13,7 +13,7 @@ use Rattle.span_arena.specs.Limits.{most_nodes}
 use Rattle.span_arena.specs.declared.token.Chain.{Chain}
 use Rattle.span_arena.specs.Content.{Content}
 use Rattle.span_keytree.specs.Arenas.{IsArenaOf}
-use Rattle.span_keytree.specs.Entries.{Entry}
+use Rattle.span_keytree.specs.Entries.{KeyEntry}
 use Rattle.span_store.specs.declared.node.PreparedNode.{PreparedNode}
 use Rattle.span_store.specs.Stored.{all_kept, IsStored, IsRefusedFor}
 use Rattle.span_store.proofs.Slots.{IsSlot}
@@ -38,7 +38,7 @@ live_used (c ∷ cs) = cases (is_used c) refl (live_used cs)
     cases false is again = again ∙ sym (sum_by-cons kept_of c cs ∙ ap (λ n. n + live cs) (unused_kept c is) ∙ (let e : 0 + live cs ≡ live cs = omega arith in e))
 
 -- what the arena refuses, by the keys
-pub refused_there : (es fs : List Entry) (a b : Content) (ps : List PreparedNode) (key : List ℕ) (chain : Chain) → IsSlot es fs a b ps key chain → IsArenaOf fs b → a.most ≡ most_nodes → AllByRecursion IsInUse (all_kept a ps es)
+pub refused_there : (es fs : List KeyEntry) (a b : Content) (ps : List PreparedNode) (key : List ℕ) (chain : Chain) → IsSlot es fs a b ps key chain → IsArenaOf fs b → a.most ≡ most_nodes → AllByRecursion IsInUse (all_kept a ps es)
     → (why : Refusal) → IsRefusedFor b chain.number why → IsPutRefused (all_kept a ps es) key why
 refused_there es fs a b ps key chain slot own most used why refused = elim refused [
   | inl memory ↦ inl memory

@@ -9,7 +9,7 @@ use Rattle.span_arena.specs.Order.{AreFalling, AreInTimeOrder}
 use Rattle.span_arena.proofs.Falling.{first_is_last}
 use Rattle.span_keytree.specs.Items.{holders}
 use Rattle.span_keytree.specs.Arenas.{IsArenaOf, one_if_chain}
-use Rattle.span_keytree.specs.Entries.{Entry}
+use Rattle.span_keytree.specs.Entries.{KeyEntry}
 use Rattle.span_store.specs.declared.chain.Version.{Version}
 use Rattle.span_store.specs.declared.chain.PreparedWrite.{PreparedWrite}
 use Rattle.span_store.specs.declared.node.PreparedNode.{PreparedNode}
@@ -20,7 +20,7 @@ use Rattle.span_store.specs.Stored.{version_of, chain_versions, write_for, all_k
 use Rattle.span_store.proofs.Ending.{same_timestamps}
 
 -- where it is so of every key, it is so of the chain of each
-of_holder : (txn ts : ℕ) (a : Content) (ps : List PreparedNode) (es : List Entry) (c : ℕ) → AllByRecursion (λ (k : KeyVersions). IsLaterWrite txn ts k.versions k.prepared) (all_kept a ps es) → 0 < holders c es
+of_holder : (txn ts : ℕ) (a : Content) (ps : List PreparedNode) (es : List KeyEntry) (c : ℕ) → AllByRecursion (λ (k : KeyVersions). IsLaterWrite txn ts k.versions k.prepared) (all_kept a ps es) → 0 < holders c es
     → IsLaterWrite txn ts (chain_versions a c) (write_for a ps c)
 of_holder txn ts a ps [] c all some = absurd (omega arith)
 of_holder txn ts a ps (e ∷ es) c all some = elim (cases_eq e.chain.number c) [
@@ -33,7 +33,7 @@ of_none : (txn ts : ℕ) (p : Option PreparedWrite) → IsLaterWrite txn ts [] p
 of_none txn ts None = tt
 of_none txn ts (Some w) = λ _. tt
 
-pub later_ends : (txn : ℕ) (committed : Option ℕ) (es : List Entry) (a : Content) (ps : List PreparedNode) → IsArenaOf es a → IsLaterCommit txn committed (all_kept a ps es) → AreLaterEnds txn committed a ps
+pub later_ends : (txn : ℕ) (committed : Option ℕ) (es : List KeyEntry) (a : Content) (ps : List PreparedNode) → IsArenaOf es a → IsLaterCommit txn committed (all_kept a ps es) → AreLaterEnds txn committed a ps
 later_ends txn None es a ps own later c = tt
 later_ends txn (Some ts) es a ps own later c = by_chain (get_or a.chains c None) refl
   where
@@ -42,7 +42,7 @@ later_ends txn (Some ts) es a ps own later c = by_chain (get_or a.chains c None)
     by_chain (Some vs) e = of_holder txn ts a ps es c later (let n : holders c es ≡ 1 = subst (λ (o : Option (List arena.Version)). holders c es ≡ one_if_chain o) e (own.each c) in omega arith)
 
 -- the versions of each key fall as those of its chain do
-pub keys_fall : (a : Content) (ps : List PreparedNode) (es : List Entry) → AreInTimeOrder a → HaveFallingVersions (all_kept a ps es)
+pub keys_fall : (a : Content) (ps : List PreparedNode) (es : List KeyEntry) → AreInTimeOrder a → HaveFallingVersions (all_kept a ps es)
 keys_fall a ps [] falling = tt
 keys_fall a ps (e ∷ es) falling = (subst AreFalling (sym (same_timestamps (versions a e.chain.number))) (falling e.chain.number), keys_fall a ps es falling)
 

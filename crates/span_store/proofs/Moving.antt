@@ -9,22 +9,22 @@ use Rattle.span_arena.specs.Content.{Content, versions, versions_in, prepared_fo
 use Rattle.span_arena.proofs.Counts.{sum-push}
 use Rattle.span_arena.proofs.Keeping.{chain_in_range}
 use Rattle.span_keytree.specs.Arenas.{one_if_chain, HasSameChains}
-use Rattle.span_keytree.specs.Entries.{Entry, keys_of}
+use Rattle.span_keytree.specs.Entries.{KeyEntry, keys_of}
 use Rattle.span_keytree.specs.Items.{holders}
 use Rattle.span_keytree.proofs.Counting.{one_same}
 use Rattle.span_keyindex.proofs.Keeping.{chain_same, same_after, same-kept}
 use Rattle.span_keytree.proofs.Linking.{held_append}
 use Rattle.span_maderows.proofs.Lists.{all_map, all_append}
-use Rattle.span_store.specs.Stored.{versions_count, HasRoom, HaveVersions, HasSameKeys, AreMoved}
+use Rattle.span_store.specs.Stored.{versions_count, AreReserved, HaveVersions, HasSameKeys, AreMoved}
 use Rattle.span_store.proofs.Seeing.{chains_left, first_chain}
 use Rattle.span_store.proofs.Cutting.{IsNextKey, next_key}
 
 -- ---- room
 
-pub no_room : (a : Content) → HasRoom 0 a a
+pub no_room : (a : Content) → AreReserved 0 a a
 no_room a = record { chains = refl; cells = refl; most = refl; free = omega arith; prepared = λ c. refl }
 
-pub room_node : (n : ℕ) (a b d : Content) → HasRoom n a b → d ≡ with_free_node b → HasRoom (n + 1) a d
+pub room_node : (n : ℕ) (a b d : Content) → AreReserved n a b → d ≡ with_free_node b → AreReserved (n + 1) a d
 room_node n a b d room is = record {
   chains = ap (λ (x : Content). x.chains) is ∙ room.chains;
   cells = ap (λ (x : Content). x.cells) is ∙ room.cells;
@@ -34,7 +34,7 @@ room_node n a b d room is = record {
       omega (arith, room.prepared c));
 }
 
-pub room_more : (n m k : ℕ) (a b d : Content) → HasRoom n a b → HasRoom m b d → n + m ≡ k → HasRoom k a d
+pub room_more : (n m k : ℕ) (a b d : Content) → AreReserved n a b → AreReserved m b d → n + m ≡ k → AreReserved k a d
 room_more n m k a b d first next sum = record {
   chains = next.chains ∙ first.chains;
   cells = next.cells ∙ first.cells;
@@ -43,34 +43,34 @@ room_more n m k a b d first next sum = record {
   prepared = λ c. next.prepared c ∙ first.prepared c;
 }
 
-count_append : (a : Content) (xs ys : List Entry) → versions_count a (xs ++ ys) ≡ versions_count a xs + versions_count a ys
+count_append : (a : Content) (xs ys : List KeyEntry) → versions_count a (xs ++ ys) ≡ versions_count a xs + versions_count a ys
 count_append a [] ys = omega arith
 count_append a (x ∷ xs) ys = omega (arith, count_append a xs ys)
 
 -- there is capacity for the versions of the first keys, and these chains are left
-pub record IsRoomSoFar (es : List Entry) (chains : List Chain) (a : Content) (old new : Content) : Type 0 where
-  pub done : List Entry
-  pub left : List Entry
+pub record IsRoomSoFar (es : List KeyEntry) (chains : List Chain) (a : Content) (old new : Content) : Type 0 where
+  pub done : List KeyEntry
+  pub left : List KeyEntry
   pub whole : es ≡ done ++ left
-  pub is : chains ≡ map (λ (e : Entry). e.chain) left
-  pub are_chains : All (λ (e : Entry). IsChain a e.chain.number) left
-  pub room : HasRoom (versions_count a done) old new
+  pub is : chains ≡ map (λ (e : KeyEntry). e.chain) left
+  pub are_chains : All (λ (e : KeyEntry). IsChain a e.chain.number) left
+  pub room : AreReserved (versions_count a done) old new
 
-pub room_starts : (es : List Entry) (chains : List Chain) (a old : Content) → All (λ (e : Entry). IsChain a e.chain.number) es → chains ≡ map (λ (e : Entry). e.chain) es → IsRoomSoFar es chains a old old
+pub room_starts : (es : List KeyEntry) (chains : List Chain) (a old : Content) → All (λ (e : KeyEntry). IsChain a e.chain.number) es → chains ≡ map (λ (e : KeyEntry). e.chain) es → IsRoomSoFar es chains a old old
 room_starts es chains a old all is = record { done = []; left = es; whole = refl; is = is; are_chains = all; room = no_room old }
 
-module _ (es : List Entry) (chains rest : List Chain) (chain : Chain) (a old b : Content) (so_far : IsRoomSoFar es chains a old b) (first : chains ≡ chain ∷ rest) where
+module _ (es : List KeyEntry) (chains rest : List Chain) (chain : Chain) (a old b : Content) (so_far : IsRoomSoFar es chains a old b) (first : chains ≡ chain ∷ rest) where
   next_room : IsNextKey so_far.left chain rest
   next_room = next_key so_far.left chain chains rest so_far.is first
 
   pub room_chain : IsChain a chain.number
   room_chain = subst (λ (c : Chain). IsChain a c.number) {x = next_room.first.chain} {y = chain} next_room.chain_is (first_chain a so_far.left next_room.others next_room.first next_room.is so_far.are_chains)
 
-  pub room_step : (n : ℕ) (d : Content) → n ≡ length (versions a chain.number) → HasRoom n b d → IsRoomSoFar es rest a old d
+  pub room_step : (n : ℕ) (d : Content) → n ≡ length (versions a chain.number) → AreReserved n b d → IsRoomSoFar es rest a old d
   room_step n d count more = record {
     done = so_far.done ++ next_room.first ∷ [];
     left = next_room.others;
-    whole = so_far.whole ∙ ap (λ (l : List Entry). so_far.done ++ l) next_room.is ∙ sym (append_assoc so_far.done (next_room.first ∷ []) next_room.others);
+    whole = so_far.whole ∙ ap (λ (l : List KeyEntry). so_far.done ++ l) next_room.is ∙ sym (append_assoc so_far.done (next_room.first ∷ []) next_room.others);
     is = next_room.rest_is;
     are_chains = chains_left a so_far.left next_room.others next_room.first next_room.is so_far.are_chains;
     room = room_more (versions_count a so_far.done) n (versions_count a (so_far.done ++ next_room.first ∷ [])) old b d so_far.room more
@@ -78,39 +78,39 @@ module _ (es : List Entry) (chains rest : List Chain) (chain : Chain) (a old b :
         omega (arith, count_append a so_far.done (next_room.first ∷ [])));
   }
 
-none_left : (l : List Entry) → map (λ (e : Entry). e.chain) l ≡ [] → l ≡ []
+none_left : (l : List KeyEntry) → map (λ (e : KeyEntry). e.chain) l ≡ [] → l ≡ []
 none_left [] h = refl
 none_left (e ∷ l) h = absurd cc
 
-pub room_ends : (es : List Entry) (chains : List Chain) (a old b : Content) → IsRoomSoFar es chains a old b → chains ≡ [] → HasRoom (versions_count a es) old b
+pub room_ends : (es : List KeyEntry) (chains : List Chain) (a old b : Content) → IsRoomSoFar es chains a old b → chains ≡ [] → AreReserved (versions_count a es) old b
 room_ends es chains a old b so_far none =
-    let whole : es ≡ so_far.done = so_far.whole ∙ ap (λ (l : List Entry). so_far.done ++ l) (none_left so_far.left (sym so_far.is ∙ none)) ∙ append-nil so_far.done in
-    subst (λ (l : List Entry). HasRoom (versions_count a l) old b) (sym whole) so_far.room
+    let whole : es ≡ so_far.done = so_far.whole ∙ ap (λ (l : List KeyEntry). so_far.done ++ l) (none_left so_far.left (sym so_far.is ∙ none)) ∙ append-nil so_far.done in
+    subst (λ (l : List KeyEntry). AreReserved (versions_count a l) old b) (sym whole) so_far.room
 
 -- ---- the move
 
 -- the versions of the first keys are moved, and these chains are left
-pub record IsMoving (es fs : List Entry) (sources chains : List Chain) (a b c d : Content) : Type 0 where
-  pub done : List Entry
-  pub left : List Entry
-  pub filled : List Entry
-  pub open_ones : List Entry
+pub record IsMoving (es fs : List KeyEntry) (sources chains : List Chain) (a b c d : Content) : Type 0 where
+  pub done : List KeyEntry
+  pub left : List KeyEntry
+  pub filled : List KeyEntry
+  pub open_ones : List KeyEntry
   pub whole : es ≡ done ++ left
   pub parts : fs ≡ filled ++ open_ones
-  pub sources_are : sources ≡ map (λ (e : Entry). e.chain) left
-  pub chains_are : chains ≡ map (λ (e : Entry). e.chain) open_ones
+  pub sources_are : sources ≡ map (λ (e : KeyEntry). e.chain) left
+  pub chains_are : chains ≡ map (λ (e : KeyEntry). e.chain) open_ones
   pub equal : length left ≡ length open_ones
-  pub are_sources : All (λ (e : Entry). IsChain b e.chain.number) left
-  pub are_chains : All (λ (e : Entry). IsChain d e.chain.number) open_ones
+  pub are_sources : All (λ (e : KeyEntry). IsChain b e.chain.number) left
+  pub are_chains : All (λ (e : KeyEntry). IsChain d e.chain.number) open_ones
   pub from : HasSameKeys a b
-  pub gone : AllByRecursion (λ (e : Entry). versions b e.chain.number ≡ []) done
+  pub gone : AllByRecursion (λ (e : KeyEntry). versions b e.chain.number ≡ []) done
   pub stay : (x : ℕ) → holders x done ≡ 0 → versions b x ≡ versions a x
   pub to : HasSameKeys c d
   pub there : HaveVersions a d done filled
   pub none : (x : ℕ) → holders x filled ≡ 0 → versions d x ≡ []
   pub room : versions_count a left ≤ d.free
 
-length_keys : (es fs : List Entry) → keys_of es ≡ keys_of fs → length fs ≡ length es
+length_keys : (es fs : List KeyEntry) → keys_of es ≡ keys_of fs → length fs ≡ length es
 length_keys [] [] same = refl
 length_keys [] (f ∷ fs) same = absurd (let q : [] ≡ f.key ∷ keys_of fs = same in cc)
 length_keys (e ∷ es) [] same = absurd (let q : e.key ∷ keys_of es ≡ [] = same in cc)
@@ -122,8 +122,8 @@ length_keys (e ∷ es) (f ∷ fs) same =
 same_keys : (a : Content) → HasSameKeys a a
 same_keys a = record { same = λ c. refl; cells = refl; most = refl; prepared = refl }
 
-pub moving_starts : (es fs : List Entry) (sources chains : List Chain) (a c : Content) → sources ≡ map (λ (e : Entry). e.chain) es → chains ≡ map (λ (e : Entry). e.chain) fs → keys_of fs ≡ keys_of es
-    → All (λ (e : Entry). IsChain a e.chain.number) es → All (λ (e : Entry). IsChain c e.chain.number) fs → ((x : ℕ) → versions c x ≡ []) → versions_count a es ≤ c.free → IsMoving es fs sources chains a a c c
+pub moving_starts : (es fs : List KeyEntry) (sources chains : List Chain) (a c : Content) → sources ≡ map (λ (e : KeyEntry). e.chain) es → chains ≡ map (λ (e : KeyEntry). e.chain) fs → keys_of fs ≡ keys_of es
+    → All (λ (e : KeyEntry). IsChain a e.chain.number) es → All (λ (e : KeyEntry). IsChain c e.chain.number) fs → ((x : ℕ) → versions c x ≡ []) → versions_count a es ≤ c.free → IsMoving es fs sources chains a a c c
 moving_starts es fs sources chains a c sources_are chains_are keys all_sources all_chains none room = record {
   done = [];
   left = es;
@@ -146,14 +146,14 @@ moving_starts es fs sources chains a c sources_are chains_are keys all_sources a
 }
 
 -- where no chain is left of the one, none is left of the other
-pub some_open : (left open_ones : List Entry) (sources rest : List Chain) (source : Chain) (chains : List Chain) → length left ≡ length open_ones → sources ≡ map (λ (e : Entry). e.chain) left → sources ≡ source ∷ rest
-    → chains ≡ map (λ (e : Entry). e.chain) open_ones → chains ≡ [] → ⊥
+pub some_open : (left open_ones : List KeyEntry) (sources rest : List Chain) (source : Chain) (chains : List Chain) → length left ≡ length open_ones → sources ≡ map (λ (e : KeyEntry). e.chain) left → sources ≡ source ∷ rest
+    → chains ≡ map (λ (e : KeyEntry). e.chain) open_ones → chains ≡ [] → ⊥
 some_open [] open_ones sources rest source chains equal is first others none = (let q : [] ≡ source ∷ rest = sym is ∙ first in cc)
 some_open (e ∷ left) [] sources rest source chains equal is first others none = (let z : suc (length left) ≡ 0 = equal in omega arith)
-some_open (e ∷ left) (f ∷ open_ones) sources rest source chains equal is first others none = (let q : f.chain ∷ map (λ (x : Entry). x.chain) open_ones ≡ [] = sym others ∙ none in cc)
+some_open (e ∷ left) (f ∷ open_ones) sources rest source chains equal is first others none = (let q : f.chain ∷ map (λ (x : KeyEntry). x.chain) open_ones ≡ [] = sym others ∙ none in cc)
 
 -- another chain of the new arena leaves what is there
-there_stays : (a d e : Content) (es fs : List Entry) (c : ℕ) → holders c fs ≡ 0 → ((x : ℕ) → x ≢ c → versions e x ≡ versions d x) → HaveVersions a d es fs → HaveVersions a e es fs
+there_stays : (a d e : Content) (es fs : List KeyEntry) (c : ℕ) → holders c fs ≡ 0 → ((x : ℕ) → x ≢ c → versions e x ≡ versions d x) → HaveVersions a d es fs → HaveVersions a e es fs
 there_stays a d e [] [] c other stay there = tt
 there_stays a d e [] (f ∷ fs) c other stay there = there
 there_stays a d e (x ∷ es) [] c other stay there = there
@@ -161,16 +161,16 @@ there_stays a d e (x ∷ es) (f ∷ fs) c other stay there =
     let differs : f.chain.number ≢ c = λ same. (let one : 1 ≤ holders c (f ∷ fs) = held_one f fs c same in omega arith) in
     (stay f.chain.number differs ∙ there.0, there_stays a d e es fs c (omega arith) stay there.1)
   where
-    held_one : (f : Entry) (fs : List Entry) (c : ℕ) → f.chain.number ≡ c → 1 ≤ holders c (f ∷ fs)
+    held_one : (f : KeyEntry) (fs : List KeyEntry) (c : ℕ) → f.chain.number ≡ c → 1 ≤ holders c (f ∷ fs)
     held_one f fs c same = omega (arith, one_same c f.chain.number (sym same))
 
-there_more : (a d : Content) (es fs : List Entry) (e f : Entry) → HaveVersions a d es fs → versions d f.chain.number ≡ versions a e.chain.number → HaveVersions a d (es ++ e ∷ []) (fs ++ f ∷ [])
+there_more : (a d : Content) (es fs : List KeyEntry) (e f : KeyEntry) → HaveVersions a d es fs → versions d f.chain.number ≡ versions a e.chain.number → HaveVersions a d (es ++ e ∷ []) (fs ++ f ∷ [])
 there_more a d [] [] e f there here = (here, tt)
 there_more a d [] (g ∷ fs) e f there here = absurd there
 there_more a d (x ∷ es) [] e f there here = absurd there
 there_more a d (x ∷ es) (g ∷ fs) e f there here = (there.0, there_more a d es fs e f there.1 here)
 
-all_chains_stay : (b d : Content) (es : List Entry) → HasSameChains b d → All (λ (e : Entry). IsChain b e.chain.number) es → All (λ (e : Entry). IsChain d e.chain.number) es
+all_chains_stay : (b d : Content) (es : List KeyEntry) → HasSameChains b d → All (λ (e : KeyEntry). IsChain b e.chain.number) es → All (λ (e : KeyEntry). IsChain d e.chain.number) es
 all_chains_stay b d es same all k e lt = chain_same b d _ same (all k e lt)
 
 same_keys_after : (a b d : Content) → HasSameKeys a b → HasSameKeys b d → HasSameKeys a d
@@ -181,7 +181,7 @@ same_keys_after a b d first next = record {
   prepared = next.prepared ∙ first.prepared;
 }
 
-module _ (es fs : List Entry) (sources left_sources chains left_chains : List Chain) (source chain : Chain) (a b c d : Content) (once : (x : ℕ) → holders x es ≤ 1) (once_there : (x : ℕ) → holders x fs ≤ 1)
+module _ (es fs : List KeyEntry) (sources left_sources chains left_chains : List Chain) (source chain : Chain) (a b c d : Content) (once : (x : ℕ) → holders x es ≤ 1) (once_there : (x : ℕ) → holders x fs ≤ 1)
     (moving : IsMoving es fs sources chains a b c d) (first : sources ≡ source ∷ left_sources) (first_there : chains ≡ chain ∷ left_chains) where
   from_next : IsNextKey moving.left source left_sources
   from_next = next_key moving.left source sources left_sources moving.sources_are first
@@ -196,10 +196,10 @@ module _ (es fs : List Entry) (sources left_sources chains left_chains : List Ch
   to_chain = subst (λ (x : Chain). IsChain d x.number) {x = to_next.first.chain} {y = chain} to_next.chain_is (first_chain d moving.open_ones to_next.others to_next.first to_next.is moving.are_chains)
 
   held_from : (x : ℕ) → holders x es ≡ holders x moving.done + holders x (from_next.first ∷ from_next.others)
-  held_from x = ap (holders x) moving.whole ∙ held_append x moving.done moving.left ∙ ap (λ (l : List Entry). holders x moving.done + holders x l) from_next.is
+  held_from x = ap (holders x) moving.whole ∙ held_append x moving.done moving.left ∙ ap (λ (l : List KeyEntry). holders x moving.done + holders x l) from_next.is
 
   held_to : (x : ℕ) → holders x fs ≡ holders x moving.filled + holders x (to_next.first ∷ to_next.others)
-  held_to x = ap (holders x) moving.parts ∙ held_append x moving.filled moving.open_ones ∙ ap (λ (l : List Entry). holders x moving.filled + holders x l) to_next.is
+  held_to x = ap (holders x) moving.parts ∙ held_append x moving.filled moving.open_ones ∙ ap (λ (l : List KeyEntry). holders x moving.filled + holders x l) to_next.is
 
   source_number : from_next.first.chain.number ≡ source.number
   source_number = ap (λ (x : Chain). x.number) from_next.chain_is
@@ -244,7 +244,7 @@ module _ (es fs : List Entry) (sources left_sources chains left_chains : List Ch
     to_same : HasSameChains d h
     to_same x = ap (λ (w : Content). one_if_chain (get_or w.chains x None)) here ∙ same-kept d (with_kept d chain.number (versions b source.number)) chain.number (versions b source.number) to_chain refl x
 
-    still_gone : (e : Entry) → versions b e.chain.number ≡ [] → versions g e.chain.number ≡ []
+    still_gone : (e : KeyEntry) → versions b e.chain.number ≡ [] → versions g e.chain.number ≡ []
     still_gone e was = elim (cases_eq e.chain.number source.number) [
       | inl equal ↦ ap (versions g) equal ∙ from_here
       | inr differs ↦ from_elsewhere e.chain.number differs ∙ was
@@ -256,8 +256,8 @@ module _ (es fs : List Entry) (sources left_sources chains left_chains : List Ch
       left = from_next.others;
       filled = moving.filled ++ to_next.first ∷ [];
       open_ones = to_next.others;
-      whole = moving.whole ∙ ap (λ (l : List Entry). moving.done ++ l) from_next.is ∙ sym (append_assoc moving.done (from_next.first ∷ []) from_next.others);
-      parts = moving.parts ∙ ap (λ (l : List Entry). moving.filled ++ l) to_next.is ∙ sym (append_assoc moving.filled (to_next.first ∷ []) to_next.others);
+      whole = moving.whole ∙ ap (λ (l : List KeyEntry). moving.done ++ l) from_next.is ∙ sym (append_assoc moving.done (from_next.first ∷ []) from_next.others);
+      parts = moving.parts ∙ ap (λ (l : List KeyEntry). moving.filled ++ l) to_next.is ∙ sym (append_assoc moving.filled (to_next.first ∷ []) to_next.others);
       sources_are = from_next.rest_is;
       chains_are = to_next.rest_is;
       equal = (let x : length moving.left ≡ suc (length from_next.others) = ap length from_next.is in
@@ -270,8 +270,8 @@ module _ (es fs : List Entry) (sources left_sources chains left_chains : List Ch
         most = ap (λ (x : Content). x.most) there;
         prepared = ap (λ (x : Content). x.prepared) there;
       });
-      gone = all_append (λ (e : Entry). versions g e.chain.number ≡ []) moving.done (from_next.first ∷ [])
-          (all_map (λ (e : Entry). versions b e.chain.number ≡ []) (λ (e : Entry). versions g e.chain.number ≡ []) still_gone moving.done moving.gone) (ap (versions g) source_number ∙ from_here, tt);
+      gone = all_append (λ (e : KeyEntry). versions g e.chain.number ≡ []) moving.done (from_next.first ∷ [])
+          (all_map (λ (e : KeyEntry). versions b e.chain.number ≡ []) (λ (e : KeyEntry). versions g e.chain.number ≡ []) still_gone moving.done moving.gone) (ap (versions g) source_number ∙ from_here, tt);
       stay = λ x other. (
           let split : holders x (moving.done ++ from_next.first ∷ []) ≡ holders x moving.done + holders x (from_next.first ∷ []) = held_append x moving.done (from_next.first ∷ []) in
           let differs : x ≢ source.number = λ same. (let one = one_same x from_next.first.chain.number (same ∙ sym source_number) in absurd (omega (arith, split, one))) in
@@ -292,20 +292,20 @@ module _ (es fs : List Entry) (sources left_sources chains left_chains : List Ch
           let e : length (versions b source.number) ≡ length (versions a source.number) = ap length source_same in omega (arith, count_is, moving.room));
     }
 
-pub moving_ends : (es fs : List Entry) (sources chains : List Chain) (a b c d : Content) → IsMoving es fs sources chains a b c d → sources ≡ [] → AreMoved es fs a b c d
+pub moving_ends : (es fs : List KeyEntry) (sources chains : List Chain) (a b c d : Content) → IsMoving es fs sources chains a b c d → sources ≡ [] → AreMoved es fs a b c d
 moving_ends es fs sources chains a b c d moving none =
     let nothing : moving.left ≡ [] = none_left moving.left (sym moving.sources_are ∙ none) in
     let open_none : moving.open_ones ≡ [] = empty moving.open_ones (let z : length moving.left ≡ 0 = ap length nothing in omega (arith, moving.equal)) in
-    let whole : moving.done ≡ es = sym (moving.whole ∙ ap (λ (l : List Entry). moving.done ++ l) nothing ∙ append-nil moving.done) in
-    let parts : moving.filled ≡ fs = sym (moving.parts ∙ ap (λ (l : List Entry). moving.filled ++ l) open_none ∙ append-nil moving.filled) in
+    let whole : moving.done ≡ es = sym (moving.whole ∙ ap (λ (l : List KeyEntry). moving.done ++ l) nothing ∙ append-nil moving.done) in
+    let parts : moving.filled ≡ fs = sym (moving.parts ∙ ap (λ (l : List KeyEntry). moving.filled ++ l) open_none ∙ append-nil moving.filled) in
     record {
       from = moving.from;
-      gone = subst (λ (l : List Entry). AllByRecursion (λ (e : Entry). versions b e.chain.number ≡ []) l) whole moving.gone;
+      gone = subst (λ (l : List KeyEntry). AllByRecursion (λ (e : KeyEntry). versions b e.chain.number ≡ []) l) whole moving.gone;
       stay = λ x other. moving.stay x (ap (holders x) whole ∙ other);
       to = moving.to;
-      there = subst (λ (l : List Entry). HaveVersions a d l fs) whole (subst (λ (l : List Entry). HaveVersions a d moving.done l) parts moving.there);
+      there = subst (λ (l : List KeyEntry). HaveVersions a d l fs) whole (subst (λ (l : List KeyEntry). HaveVersions a d moving.done l) parts moving.there);
     }
   where
-    empty : (l : List Entry) → length l ≡ 0 → l ≡ []
+    empty : (l : List KeyEntry) → length l ≡ 0 → l ≡ []
     empty [] h = refl
     empty (e ∷ l) h = absurd (let z : suc (length l) ≡ 0 = h in omega arith)

@@ -5,7 +5,7 @@ use Rattle.std.specs.List.{filter_map, cons_option}
 use Rattle.span_keycode.specs.declared.range.KeyRange.{KeyRange}
 use Rattle.span_arena.specs.declared.version.Version as arena
 use Rattle.span_arena.specs.Content.{Content, newest_upto, IsChain}
-use Rattle.span_keytree.specs.Entries.{entries_in, entries_under, Entry}
+use Rattle.span_keytree.specs.Entries.{entries_in, entries_under, KeyEntry}
 use Rattle.span_keywalk.specs.Walks.{short_entries}
 use Rattle.span_maderows.specs.Made.{begins_with}
 use Rattle.span_maderows.proofs.Lists.{filter-map}
@@ -32,32 +32,32 @@ row_missing (x ∷ xs) s e = cases (nat_le x.timestamp s) (row_missing xs s) e
     cases true again f = absurd (let g : Some x ≡ None = f in cc)
     cases false again f = again f
 
-bare_map : (a : Content) (ps : List PreparedNode) (es : List Entry) → map versions_alone (all_kept a ps es) ≡ map (versions_alone_at a) es
+bare_map : (a : Content) (ps : List PreparedNode) (es : List KeyEntry) → map versions_alone (all_kept a ps es) ≡ map (versions_alone_at a) es
 bare_map a ps [] = refl
 bare_map a ps (e ∷ es) = ap (λ (l : List KeyVersions). versions_alone_at a e ∷ l) (bare_map a ps es)
 
-pub under_is : (a : Content) (ps : List PreparedNode) (es fs : List Entry) (front : List ℕ) → fs ≡ entries_under front es → map (versions_alone_at a) fs ≡ map versions_alone (filter (λ (c : KeyVersions). begins_with c.key front) (all_kept a ps es))
+pub under_is : (a : Content) (ps : List PreparedNode) (es fs : List KeyEntry) (front : List ℕ) → fs ≡ entries_under front es → map (versions_alone_at a) fs ≡ map versions_alone (filter (λ (c : KeyVersions). begins_with c.key front) (all_kept a ps es))
 under_is a ps es fs front is =
     ap (map (versions_alone_at a)) is ∙ sym (ap (map versions_alone) (filter-map (λ (c : KeyVersions). begins_with c.key front) (kept_entry a ps) es) ∙ bare_map a ps (entries_under front es))
 
-seen_map : (a : Content) (ps : List PreparedNode) (s : ℕ) (es : List Entry) → filter_map (seen_at s) (all_kept a ps es) ≡ filter_map (seen_entry a s) es
+seen_map : (a : Content) (ps : List PreparedNode) (s : ℕ) (es : List KeyEntry) → filter_map (seen_at s) (all_kept a ps es) ≡ filter_map (seen_entry a s) es
 seen_map a ps s [] = refl
 seen_map a ps s (e ∷ es) = ap (cons_option (seen_entry a s e)) (seen_map a ps s es)
 
-pub within_is : (a : Content) (ps : List PreparedNode) (es fs : List Entry) (range : KeyRange) (s : ℕ) → fs ≡ entries_in range es → filter_map (seen_entry a s) fs ≡ snapshot range s (all_kept a ps es)
+pub within_is : (a : Content) (ps : List PreparedNode) (es fs : List KeyEntry) (range : KeyRange) (s : ℕ) → fs ≡ entries_in range es → filter_map (seen_entry a s) fs ≡ snapshot range s (all_kept a ps es)
 within_is a ps es fs range s is =
     ap (filter_map (seen_entry a s)) is ∙ sym (ap (filter_map (seen_at s)) (filter-map (λ (c : KeyVersions). is_within range c.key) (kept_entry a ps) es) ∙ seen_map a ps s (entries_in range es))
 
 -- ---- a walk, step by step
 
-pub chains_left : (a : Content) (es fs : List Entry) (e : Entry) → es ≡ e ∷ fs → All (λ (x : Entry). IsChain a x.chain.number) es → All (λ (x : Entry). IsChain a x.chain.number) fs
+pub chains_left : (a : Content) (es fs : List KeyEntry) (e : KeyEntry) → es ≡ e ∷ fs → All (λ (x : KeyEntry). IsChain a x.chain.number) es → All (λ (x : KeyEntry). IsChain a x.chain.number) fs
 chains_left a es fs e is all k d lt =
-    let whole : All (λ (x : Entry). IsChain a x.chain.number) (e ∷ fs) = subst (λ (l : List Entry). All (λ (x : Entry). IsChain a x.chain.number) l) is all in
+    let whole : All (λ (x : KeyEntry). IsChain a x.chain.number) (e ∷ fs) = subst (λ (l : List KeyEntry). All (λ (x : KeyEntry). IsChain a x.chain.number) l) is all in
     whole (suc k) d (omega arith)
 
-pub first_chain : (a : Content) (es fs : List Entry) (e : Entry) → es ≡ e ∷ fs → All (λ (x : Entry). IsChain a x.chain.number) es → IsChain a e.chain.number
+pub first_chain : (a : Content) (es fs : List KeyEntry) (e : KeyEntry) → es ≡ e ∷ fs → All (λ (x : KeyEntry). IsChain a x.chain.number) es → IsChain a e.chain.number
 first_chain a es fs e is all =
-    let whole : All (λ (x : Entry). IsChain a x.chain.number) (e ∷ fs) = subst (λ (l : List Entry). All (λ (x : Entry). IsChain a x.chain.number) l) is all in
+    let whole : All (λ (x : KeyEntry). IsChain a x.chain.number) (e ∷ fs) = subst (λ (l : List KeyEntry). All (λ (x : KeyEntry). IsChain a x.chain.number) l) is all in
     whole zero e (omega arith)
 
 pub pushed_step : {X Y : Type 0} (f : X → Y) (found more : List Y) (es fs : List X) (e : X) (all : List Y) → es ≡ e ∷ fs → more ≡ found ++ f e ∷ [] → found ++ map f es ≡ all → more ++ map f fs ≡ all
@@ -92,7 +92,7 @@ short_row most key (Some row) rest rows short is =
     ap (λ (l : List KeyRow). the_row key row ∷ l) is ∙ sym (ap (λ (b : Bool). cond b (the_row key row ∷ filter (has_short_key most) rows) (filter (has_short_key most) rows)) short)
 
 -- the rows of the short keys are the rows with short keys
-pub short_seen : (a : Content) (s most : ℕ) (es : List Entry) → filter_map (seen_entry a s) (short_entries most es) ≡ filter (has_short_key most) (filter_map (seen_entry a s) es)
+pub short_seen : (a : Content) (s most : ℕ) (es : List KeyEntry) → filter_map (seen_entry a s) (short_entries most es) ≡ filter (has_short_key most) (filter_map (seen_entry a s) es)
 short_seen a s most [] = refl
 short_seen a s most (e ∷ es) = cases (nat_le (length e.key) most) refl (short_seen a s most es)
   where
@@ -102,15 +102,15 @@ short_seen a s most (e ∷ es) = cases (nat_le (length e.key) most) refl (short_
     cases false is rest = rest ∙ sym (long_row most e.key (row_at (chain_versions a e.chain.number) s) (filter_map (seen_entry a s) es) is)
 
 -- a key that has no row at s has none among the rows
-pub unseen_skipped : (a : Content) (s : ℕ) (es fs : List Entry) (e : Entry) → es ≡ e ∷ fs → row_at (chain_versions a e.chain.number) s ≡ None → filter_map (seen_entry a s) es ≡ filter_map (seen_entry a s) fs
+pub unseen_skipped : (a : Content) (s : ℕ) (es fs : List KeyEntry) (e : KeyEntry) → es ≡ e ∷ fs → row_at (chain_versions a e.chain.number) s ≡ None → filter_map (seen_entry a s) es ≡ filter_map (seen_entry a s) fs
 unseen_skipped a s es fs e is none =
     ap (filter_map (seen_entry a s)) is ∙ ap (λ (o : Option (List ℕ)). cons_option (option_map (the_row e.key) o) (filter_map (seen_entry a s) fs)) none
 
 -- any other has its row first
-pub seen_first : (a : Content) (s : ℕ) (es fs : List Entry) (e : Entry) (row : List ℕ) → es ≡ e ∷ fs → row_at (chain_versions a e.chain.number) s ≡ Some row → filter_map (seen_entry a s) es ≡ the_row e.key row ∷ filter_map (seen_entry a s) fs
+pub seen_first : (a : Content) (s : ℕ) (es fs : List KeyEntry) (e : KeyEntry) (row : List ℕ) → es ≡ e ∷ fs → row_at (chain_versions a e.chain.number) s ≡ Some row → filter_map (seen_entry a s) es ≡ the_row e.key row ∷ filter_map (seen_entry a s) fs
 seen_first a s es fs e row is some =
     ap (filter_map (seen_entry a s)) is ∙ ap (λ (o : Option (List ℕ)). cons_option (option_map (the_row e.key) o) (filter_map (seen_entry a s) fs)) some
 
 -- one key fewer is left
-pub fewer_left : (es fs : List Entry) (e : Entry) → es ≡ e ∷ fs → length fs < length es
-fewer_left es fs e is = subst (λ (l : List Entry). length fs < length l) (sym is) (omega arith)
+pub fewer_left : (es fs : List KeyEntry) (e : KeyEntry) → es ≡ e ∷ fs → length fs < length es
+fewer_left es fs e is = subst (λ (l : List KeyEntry). length fs < length l) (sym is) (omega arith)

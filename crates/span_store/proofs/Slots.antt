@@ -19,7 +19,7 @@ use Rattle.span_arena.specs.Content.{Content, Prepared, versions, versions_in, p
 use Rattle.span_arena.proofs.Keeping.{is_new_chain}
 use Rattle.span_keytree.specs.Items.{holders}
 use Rattle.span_keytree.specs.Arenas.{one_if_chain, IsArenaOf, in_use, IsWithoutUnused}
-use Rattle.span_keytree.specs.Entries.{HasChain, IsAbsent, IsSlotFor, with_entry, Entry}
+use Rattle.span_keytree.specs.Entries.{HasChain, IsAbsent, IsSlotFor, with_entry, KeyEntry}
 use Rattle.span_keyindex.proofs.Holders.{holders-append, one_here, one_of, chains_elsewhere}
 use Rattle.span_keytree.proofs.Rising.{turned}
 use Rattle.span_mutate.specs.Directories.{IsRising}
@@ -68,85 +68,85 @@ all_unmapped P f (x ∷ xs) h = (h.0, all_unmapped P f xs h.1)
 
 -- ---- a key that is not there
 
-abbrev before : List ℕ → Entry → Bool
+abbrev before : List ℕ → KeyEntry → Bool
 before key e = is_lt (byte_order e.key key)
 
-abbrev later : List ℕ → Entry → Bool
+abbrev later : List ℕ → KeyEntry → Bool
 later key e = is_gt (byte_order e.key key)
 
-all_following : (key : List ℕ) (es : List Entry) → AllByRecursion (λ (e : Entry). byte_order e.key key ≡ Greater) es → filter (before key) es ++ filter (later key) es ≡ es
+all_following : (key : List ℕ) (es : List KeyEntry) → AllByRecursion (λ (e : KeyEntry). byte_order e.key key ≡ Greater) es → filter (before key) es ++ filter (later key) es ≡ es
 all_following key [] h = refl
 all_following key (e ∷ es) h =
     let no : before key e ≡ false = ap is_lt h.0 in
     let so : later key e ≡ true = ap is_gt h.0 in
     ap (λ b. cond b (e ∷ filter (before key) es) (filter (before key) es) ++ cond (later key e) (e ∷ filter (later key) es) (filter (later key) es)) no
     ∙ ap (λ b. filter (before key) es ++ cond b (e ∷ filter (later key) es) (filter (later key) es)) so
-    ∙ ap (λ (l : List Entry). l ++ e ∷ filter (later key) es) (none_before es h.1)
-    ∙ ap (λ (l : List Entry). e ∷ l) (ap (λ (l : List Entry). l ++ filter (later key) es) (sym (none_before es h.1)) ∙ all_following key es h.1)
+    ∙ ap (λ (l : List KeyEntry). l ++ e ∷ filter (later key) es) (none_before es h.1)
+    ∙ ap (λ (l : List KeyEntry). e ∷ l) (ap (λ (l : List KeyEntry). l ++ filter (later key) es) (sym (none_before es h.1)) ∙ all_following key es h.1)
   where
-    none_before : (es : List Entry) → AllByRecursion (λ (e : Entry). byte_order e.key key ≡ Greater) es → filter (before key) es ≡ []
+    none_before : (es : List KeyEntry) → AllByRecursion (λ (e : KeyEntry). byte_order e.key key ≡ Greater) es → filter (before key) es ≡ []
     none_before [] h = refl
     none_before (e ∷ es) h = ap (λ b. cond b (e ∷ filter (before key) es) (filter (before key) es)) (ap is_lt h.0) ∙ none_before es h.1
 
 -- what does not have the key comes before it or after it
-parted : (a : Content) (ps : List PreparedNode) (key : List ℕ) (es : List Entry) → AreInOrder (all_kept a ps es) → IsAbsent es key → filter (before key) es ++ filter (later key) es ≡ es
+parted : (a : Content) (ps : List PreparedNode) (key : List ℕ) (es : List KeyEntry) → AreInOrder (all_kept a ps es) → IsAbsent es key → filter (before key) es ++ filter (later key) es ≡ es
 parted a ps key [] rising absent = refl
 parted a ps key (e ∷ es) rising absent = cases (byte_order e.key key) refl (parted a ps key es rising.1 (λ k d lt. absent (suc k) d (omega arith)))
   where
     cases : (o : Ordering) → byte_order e.key key ≡ o → filter (before key) es ++ filter (later key) es ≡ es → cond (is_lt o) (e ∷ filter (before key) es) (filter (before key) es) ++ cond (is_gt o) (e ∷ filter (later key) es) (filter (later key) es) ≡ e ∷ es
-    cases Less is again = ap (λ (l : List Entry). e ∷ l) again
+    cases Less is again = ap (λ (l : List KeyEntry). e ∷ l) again
     cases Equal is again = absurd (absent zero e (omega arith) (exact_bytes e.key key is))
     cases Greater is again =
-        let all : AllByRecursion (λ (x : Entry). byte_order x.key key ≡ Greater) es =
-        all_map (λ (x : Entry). byte_order e.key x.key ≡ Less) (λ (x : Entry). byte_order x.key key ≡ Greater)
+        let all : AllByRecursion (λ (x : KeyEntry). byte_order x.key key ≡ Greater) es =
+        all_map (λ (x : KeyEntry). byte_order e.key x.key ≡ Less) (λ (x : KeyEntry). byte_order x.key key ≡ Greater)
         (λ x lt. turned key x.key Less (bytes_total.trans key e.key x.key (turned e.key key Greater is) lt)) es
         (all_unmapped (λ (c : KeyVersions). byte_order e.key c.key ≡ Less) (kept_entry a ps) es rising.0) in
         none_in_front all
       where
-        none_in_front : AllByRecursion (λ (x : Entry). byte_order x.key key ≡ Greater) es → filter (before key) es ++ e ∷ filter (later key) es ≡ e ∷ es
+        none_in_front : AllByRecursion (λ (x : KeyEntry). byte_order x.key key ≡ Greater) es → filter (before key) es ++ e ∷ filter (later key) es ≡ e ∷ es
         none_in_front all =
             let none : filter (before key) es ≡ [] = none_before es all in
-            ap (λ (l : List Entry). l ++ e ∷ filter (later key) es) none ∙ ap (λ (l : List Entry). e ∷ l) (ap (λ (l : List Entry). l ++ filter (later key) es) (sym none) ∙ all_following key es all)
+            ap (λ (l : List KeyEntry). l ++ e ∷ filter (later key) es) none ∙ ap (λ (l : List KeyEntry). e ∷ l) (ap (λ (l : List KeyEntry). l ++ filter (later key) es) (sym none) ∙ all_following key es all)
           where
-            none_before : (xs : List Entry) → AllByRecursion (λ (x : Entry). byte_order x.key key ≡ Greater) xs → filter (before key) xs ≡ []
+            none_before : (xs : List KeyEntry) → AllByRecursion (λ (x : KeyEntry). byte_order x.key key ≡ Greater) xs → filter (before key) xs ≡ []
             none_before [] h = refl
             none_before (x ∷ xs) h = ap (λ b. cond b (x ∷ filter (before key) xs) (filter (before key) xs)) (ap is_lt h.0) ∙ none_before xs h.1
 
 -- ---- a place for a write
 
-abbrev pub entry : List ℕ → Chain → Entry
+abbrev pub entry : List ℕ → Chain → KeyEntry
 entry key chain = record { key = key; chain = chain }
 
 -- the key is between others, and all that there was is seen as it was
-pub record IsSlot (es fs : List Entry) (a b : Content) (ps : List PreparedNode) (key : List ℕ) (chain : Chain) : Type 0 where
-  pub front : List Entry
-  pub back : List Entry
+pub record IsSlot (es fs : List KeyEntry) (a b : Content) (ps : List PreparedNode) (key : List ℕ) (chain : Chain) : Type 0 where
+  pub front : List KeyEntry
+  pub back : List KeyEntry
   pub whole : fs ≡ front ++ entry key chain ∷ back
-  pub keys : (e : Entry) → kept_entry b ps e ≡ kept_entry a ps e
+  pub keys : (e : KeyEntry) → kept_entry b ps e ≡ kept_entry a ps e
   pub owned : AreOwned b ps
   pub most : b.most ≡ a.most
   pub vacant : count_for chain.number ps ≡ 0 → prepared_at (all_kept a ps es) key ≡ None
   pub put : (txn : ℕ) (w : Write) → w.key ≡ key → with_write txn w (all_kept a ps es) ≡ map (kept_entry a ps) front ++ with_prepared (prepared_write txn w) (kept_entry b ps (entry key chain)) ∷ map (kept_entry a ps) back
   pub undone : AllByRecursion IsInUse (all_kept a ps es) → filter is_used (all_kept b ps fs) ≡ all_kept a ps es
 
-record IsSplitAt (es : List Entry) (e : Entry) : Type 0 where
-  front : List Entry
-  back : List Entry
+record IsSplitAt (es : List KeyEntry) (e : KeyEntry) : Type 0 where
+  front : List KeyEntry
+  back : List KeyEntry
   whole : es ≡ front ++ e ∷ back
 
-split_at : (es : List Entry) (i : ℕ) (e : Entry) → i < length es → get_or es i e ≡ e → IsSplitAt es e
+split_at : (es : List KeyEntry) (i : ℕ) (e : KeyEntry) → i < length es → get_or es i e ≡ e → IsSplitAt es e
 split_at [] i e lt is = absurd (let l : i < 0 = lt in omega arith)
-split_at (x ∷ xs) zero e lt is = record { front = []; back = xs; whole = ap (λ (y : Entry). y ∷ xs) is }
+split_at (x ∷ xs) zero e lt is = record { front = []; back = xs; whole = ap (λ (y : KeyEntry). y ∷ xs) is }
 split_at (x ∷ xs) (suc i) e lt is =
     let rest = split_at xs i e (omega arith) is in
-    record { front = x ∷ rest.front; back = rest.back; whole = ap (λ (l : List Entry). x ∷ l) rest.whole }
+    record { front = x ∷ rest.front; back = rest.back; whole = ap (λ (l : List KeyEntry). x ∷ l) rest.whole }
 
 find_here : (key : List ℕ) (xs ys : List KeyVersions) (c : KeyVersions) → AllByRecursion (λ (d : KeyVersions). byte_order key d.key ≡ Greater) xs → is_key key c ≡ true → find (is_key key) (xs ++ c ∷ ys) ≡ Some c
 find_here key [] ys c later same = ap (λ b. cond b (Some c) (find (is_key key) ys)) same
 find_here key (x ∷ xs) ys c later same = ap (λ b. cond b (Some x) (find (is_key key) (xs ++ c ∷ ys))) (ap is_eq later.0) ∙ find_here key xs ys c later.1 same
 
 -- the key was there
-module _ (es : List Entry) (a : Content) (ps : List PreparedNode) (key : List ℕ) (chain : Chain) (owned : AreOwned a ps) (order : AreInOrder (all_kept a ps es)) (has : HasChain es key chain) where
+module _ (es : List KeyEntry) (a : Content) (ps : List PreparedNode) (key : List ℕ) (chain : Chain) (owned : AreOwned a ps) (order : AreInOrder (all_kept a ps es)) (has : HasChain es key chain) where
   at : IsSplitAt es (entry key chain)
   at = split_at es has.0 (entry key chain) has.1 has.2
 
@@ -176,7 +176,7 @@ module _ (es : List Entry) (a : Content) (ps : List PreparedNode) (key : List �
     undone = λ used. filter_all is_used (all_kept a ps es) used;
   }
 
-pub found_none : (es : List Entry) (a : Content) (ps : List PreparedNode) (key : List ℕ) → IsAbsent es key → find (is_key key) (all_kept a ps es) ≡ None
+pub found_none : (es : List KeyEntry) (a : Content) (ps : List PreparedNode) (key : List ℕ) → IsAbsent es key → find (is_key key) (all_kept a ps es) ≡ None
 found_none [] a ps key absent = refl
 found_none (e ∷ es) a ps key absent =
     ap (λ b. cond b (Some (kept_entry a ps e)) (find (is_key key) (all_kept a ps es))) (other (byte_order key e.key) refl) ∙ found_none es a ps key (λ k d lt. absent (suc k) d (omega arith))
@@ -187,7 +187,7 @@ found_none (e ∷ es) a ps key absent =
     other Greater is = refl
 
 -- the key is new
-module _ (es : List Entry) (a b : Content) (ps : List PreparedNode) (key : List ℕ) (chain : Chain) (owned : AreOwned a ps) (order : AreInOrder (all_kept a ps es)) (absent : IsAbsent es key) (new : IsNewChain a b chain.number) where
+module _ (es : List KeyEntry) (a b : Content) (ps : List PreparedNode) (key : List ℕ) (chain : Chain) (owned : AreOwned a ps) (order : AreInOrder (all_kept a ps es)) (absent : IsAbsent es key) (new : IsNewChain a b chain.number) where
   prepared_is : b.prepared ≡ a.prepared
   prepared_is = ap (λ (x : Content). x.prepared) new.now
 
@@ -200,7 +200,7 @@ module _ (es : List Entry) (a b : Content) (ps : List PreparedNode) (key : List 
   stay : AllByRecursion (λ (q : PreparedNode). content.prepared_at b q.node.number ≡ content.prepared_at a q.node.number) ps
   stay = all_whole (λ (q : PreparedNode). content.prepared_at b q.node.number ≡ content.prepared_at a q.node.number) (λ q. ap (λ (l : List (Option Prepared)). get_or l q.node.number None) prepared_is) ps
 
-  key_is : (e : Entry) → kept_entry b ps e ≡ kept_entry a ps e
+  key_is : (e : KeyEntry) → kept_entry b ps e ≡ kept_entry a ps e
   key_is e = kept_equal e.key (chain_versions b e.chain.number) (chain_versions a e.chain.number) (write_for b ps e.chain.number) (write_for a ps e.chain.number)
       (ap (map version_of) (versions_are e.chain.number)) (write-same a b e.chain.number ps stay)
 
@@ -230,11 +230,11 @@ module _ (es : List Entry) (a b : Content) (ps : List PreparedNode) (key : List 
 
   in_front : AllByRecursion (λ (d : KeyVersions). byte_order key d.key ≡ Greater) (map (kept_entry a ps) (filter (before key) es))
   in_front = all_mapped (λ (d : KeyVersions). byte_order key d.key ≡ Greater) (kept_entry a ps) (filter (before key) es)
-      (all_map (λ (e : Entry). before key e ≡ true) (λ (e : Entry). byte_order key e.key ≡ Greater) (λ e h. turned e.key key Less (is_less (byte_order e.key key) h)) (filter (before key) es) (all_filter_itself (before key) es))
+      (all_map (λ (e : KeyEntry). before key e ≡ true) (λ (e : KeyEntry). byte_order key e.key ≡ Greater) (λ e h. turned e.key key Less (is_less (byte_order e.key key) h)) (filter (before key) es) (all_filter_itself (before key) es))
 
   in_back : AllByRecursion (λ (d : KeyVersions). byte_order key d.key ≡ Less) (map (kept_entry a ps) (filter (later key) es))
   in_back = all_mapped (λ (d : KeyVersions). byte_order key d.key ≡ Less) (kept_entry a ps) (filter (later key) es)
-      (all_map (λ (e : Entry). later key e ≡ true) (λ (e : Entry). byte_order key e.key ≡ Less) (λ e h. turned e.key key Greater (is_greater (byte_order e.key key) h)) (filter (later key) es) (all_filter_itself (later key) es))
+      (all_map (λ (e : KeyEntry). later key e ≡ true) (λ (e : KeyEntry). byte_order key e.key ≡ Less) (λ e h. turned e.key key Greater (is_greater (byte_order e.key key) h)) (filter (later key) es) (all_filter_itself (later key) es))
 
   fresh_is : (txn : ℕ) (w : Write) → w.key ≡ key → new_key txn w ≡ with_prepared (prepared_write txn w) (kept_entry b ps (entry key chain))
   fresh_is txn w is =
@@ -267,22 +267,22 @@ module _ (es : List Entry) (a b : Content) (ps : List PreparedNode) (key : List 
         let P : List ℕ → Type 0 = λ k. AllByRecursion (λ (d : KeyVersions). byte_order k d.key ≡ Greater) xs in
         let Q : List ℕ → Type 0 = λ k. AllByRecursion (λ (d : KeyVersions). byte_order k d.key ≡ Less) ys in
         ap (with_write txn w) mapped_parts ∙ with_write-between txn w xs ys (subst P (sym is) in_front) (subst Q (sym is) in_back) ∙ ap (λ (k : KeyVersions). xs ++ k ∷ ys) (fresh_is txn w is));
-    undone = λ used. left_out ∙ ap (filter is_used) (map_alike (kept_entry b ps) (kept_entry a ps) es (all_whole (λ (e : Entry). kept_entry b ps e ≡ kept_entry a ps e) key_is es)) ∙ filter_all is_used (all_kept a ps es) used;
+    undone = λ used. left_out ∙ ap (filter is_used) (map_alike (kept_entry b ps) (kept_entry a ps) es (all_whole (λ (e : KeyEntry). kept_entry b ps e ≡ kept_entry a ps e) key_is es)) ∙ filter_all is_used (all_kept a ps es) used;
   }
 
-pub slot_is : (es fs : List Entry) (a b : Content) (ps : List PreparedNode) (key : List ℕ) (chain : Chain) → AreOwned a ps → AreInOrder (all_kept a ps es) → IsSlotFor es fs a b key chain → IsSlot es fs a b ps key chain
+pub slot_is : (es fs : List KeyEntry) (a b : Content) (ps : List PreparedNode) (key : List ℕ) (chain : Chain) → AreOwned a ps → AreInOrder (all_kept a ps es) → IsSlotFor es fs a b key chain → IsSlot es fs a b ps key chain
 slot_is es fs a b ps key chain owned order slot = elim slot [
   | inl there ↦ (
-      let P : List Entry → Type 0 = λ l. IsSlot es l a b ps key chain in
+      let P : List KeyEntry → Type 0 = λ l. IsSlot es l a b ps key chain in
       let Q : Content → Type 0 = λ x. IsSlot es es a x ps key chain in
       subst P (sym there.1) (subst Q (sym there.2) (slot_there es a ps key chain owned order there.0)))
   | inr new ↦ (
-      let P : List Entry → Type 0 = λ l. IsSlot es l a b ps key chain in
+      let P : List KeyEntry → Type 0 = λ l. IsSlot es l a b ps key chain in
       subst P (sym new.2) (slot_new es a b ps key chain owned order new.0 new.1))
 ]
 
 -- the key goes again where it came with the write
-module _ (es fs gs : List Entry) (a b c d : Content) (ps qs : List PreparedNode) (key : List ℕ) (chain : Chain) (slot : IsSlot es fs a b ps key chain) (arena_is : c ≡ b) (nodes_are : qs ≡ ps) (without : IsWithoutUnused c d) where
+module _ (es fs gs : List KeyEntry) (a b c d : Content) (ps qs : List PreparedNode) (key : List ℕ) (chain : Chain) (slot : IsSlot es fs a b ps key chain) (arena_is : c ≡ b) (nodes_are : qs ≡ ps) (without : IsWithoutUnused c d) where
   pub undone_owned : AreOwned d qs
   undone_owned = owned_used fs c d qs (subst (λ x. AreOwned x qs) (sym arena_is) (subst (AreOwned b) (sym nodes_are) slot.owned)) without
 
@@ -298,11 +298,11 @@ at_most_one : (o : Option (List arena.Version)) → one_if_chain o ≤ 1
 at_most_one None = omega arith
 at_most_one (Some vs) = omega arith
 
-no_holder : (c : ℕ) (es : List Entry) → holders c es ≡ 0 → AllByRecursion (λ (e : Entry). nat_eq e.chain.number c ≡ false) es
+no_holder : (c : ℕ) (es : List KeyEntry) → holders c es ≡ 0 → AllByRecursion (λ (e : KeyEntry). nat_eq e.chain.number c ≡ false) es
 no_holder c [] h = tt
 no_holder c (e ∷ es) h = (zero_for (nat_eq e.chain.number c) (let f : one_of c e + holders c es ≡ 0 = h in omega arith), no_holder c es (let f : one_of c e + holders c es ≡ 0 = h in omega arith))
 
-module _ (es fs : List Entry) (a b d : Content) (ps qs : List PreparedNode) (key : List ℕ) (chain : Chain) (txn : ℕ) (w : Write) (slot : IsSlot es fs a b ps key chain) (own : IsArenaOf fs b) (put : HasPrepared b d ps qs chain.number (prepared_write txn w)) (is : w.key ≡ key) where
+module _ (es fs : List KeyEntry) (a b d : Content) (ps qs : List PreparedNode) (key : List ℕ) (chain : Chain) (txn : ℕ) (w : Write) (slot : IsSlot es fs a b ps key chain) (own : IsArenaOf fs b) (put : HasPrepared b d ps qs chain.number (prepared_write txn w)) (is : w.key ≡ key) where
   apart : (holders chain.number slot.front ≡ 0) × (holders chain.number slot.back ≡ 0)
   apart =
       let most : one_if_chain (get_or b.chains chain.number None) ≤ 1 = at_most_one (get_or b.chains chain.number None) in
@@ -313,7 +313,7 @@ module _ (es fs : List Entry) (a b d : Content) (ps qs : List PreparedNode) (key
   chains_are : (c : ℕ) → chain_versions d c ≡ chain_versions b c
   chains_are c = ap (λ (cs : List (Option (List arena.Version))). map version_of (versions_in (get_or cs c None))) put.chains
 
-  other : (e : Entry) → nat_eq e.chain.number chain.number ≡ false → kept_entry d qs e ≡ kept_entry a ps e
+  other : (e : KeyEntry) → nat_eq e.chain.number chain.number ≡ false → kept_entry d qs e ≡ kept_entry a ps e
   other e apart_from =
       let t : nat_eq chain.number e.chain.number ≡ false = grind (arith, nat_tests) in
       kept_equal e.key (chain_versions d e.chain.number) (chain_versions b e.chain.number) (write_for d qs e.chain.number) (write_for b ps e.chain.number) (chains_are e.chain.number)
@@ -325,8 +325,8 @@ module _ (es fs : List Entry) (a b d : Content) (ps qs : List PreparedNode) (key
       kept_equal key (chain_versions d chain.number) (chain_versions b chain.number) (write_for d qs chain.number) (Some (prepared_write txn w)) (chains_are chain.number)
       (put.writes chain.number ∙ ap (λ v. cond v (Some (prepared_write txn w)) (write_for b ps chain.number)) t)
 
-  others : (xs : List Entry) → holders chain.number xs ≡ 0 → map (kept_entry d qs) xs ≡ map (kept_entry a ps) xs
-  others xs none = map_alike (kept_entry d qs) (kept_entry a ps) xs (all_map (λ (e : Entry). nat_eq e.chain.number chain.number ≡ false) (λ (e : Entry). kept_entry d qs e ≡ kept_entry a ps e) other xs (no_holder chain.number xs none))
+  others : (xs : List KeyEntry) → holders chain.number xs ≡ 0 → map (kept_entry d qs) xs ≡ map (kept_entry a ps) xs
+  others xs none = map_alike (kept_entry d qs) (kept_entry a ps) xs (all_map (λ (e : KeyEntry). nat_eq e.chain.number chain.number ≡ false) (λ (e : KeyEntry). kept_entry d qs e ≡ kept_entry a ps e) other xs (no_holder chain.number xs none))
 
   pub put_done : all_kept d qs fs ≡ with_write txn w (all_kept a ps es)
   put_done =

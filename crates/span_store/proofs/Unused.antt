@@ -7,7 +7,7 @@ use Rattle.span_arena.specs.declared.version.Version as arena
 use Rattle.span_arena.specs.Content.{Content, Prepared, versions, versions_in, prepared_at, prepared_for, one_for, is_unused}
 use Rattle.span_arena.proofs.Counts.{one_for-at, one_for-same}
 use Rattle.span_keytree.specs.Arenas.{in_use, IsWithoutUnused}
-use Rattle.span_keytree.specs.Entries.{Entry}
+use Rattle.span_keytree.specs.Entries.{KeyEntry}
 use Rattle.span_maderows.proofs.Lists.{all_map, all_filter_itself, filter-map}
 use Rattle.span_store.specs.declared.node.PreparedNode.{PreparedNode}
 use Rattle.span_store.specs.Versions.{is_empty, is_used}
@@ -67,7 +67,7 @@ used_is a ps key c owned =
     unused_is (nat_eq (length (versions a c)) 0) (is_empty (chain_versions a c)) (nat_eq (prepared_for c a.prepared) 0) (is_some (write_for a ps c)) (empty_is (versions a c))
     (ap (λ n. nat_eq n 0) (owned.counted c) ∙ nothing_for a c ps)
 
-module _ (es : List Entry) (a b : Content) (ps : List PreparedNode) (owned : AreOwned a ps) (without : IsWithoutUnused a b) where
+module _ (es : List KeyEntry) (a b : Content) (ps : List PreparedNode) (owned : AreOwned a ps) (without : IsWithoutUnused a b) where
   prepared_is : b.prepared ≡ a.prepared
   prepared_is = ap (λ (x : Content). x.prepared) without.others
 
@@ -77,7 +77,7 @@ module _ (es : List Entry) (a b : Content) (ps : List PreparedNode) (owned : Are
   chain_is : (c : ℕ) → is_unused a c ≡ false → get_or b.chains c None ≡ get_or a.chains c None
   chain_is c used = without.chains c ∙ ap (λ t. cond t None (get_or a.chains c None)) used
 
-  key_is : (e : Entry) → not (is_unused a e.chain.number) ≡ true → kept_entry b ps e ≡ kept_entry a ps e
+  key_is : (e : KeyEntry) → not (is_unused a e.chain.number) ≡ true → kept_entry b ps e ≡ kept_entry a ps e
   key_is e used =
       let f : is_unused a e.chain.number ≡ false = not_true (is_unused a e.chain.number) used in
       kept_equal e.key (chain_versions b e.chain.number) (chain_versions a e.chain.number) (write_for b ps e.chain.number) (write_for a ps e.chain.number)
@@ -91,8 +91,8 @@ module _ (es : List Entry) (a b : Content) (ps : List PreparedNode) (owned : Are
   pub keys_used : all_kept b ps (in_use a es) ≡ filter is_used (all_kept a ps es)
   keys_used =
       map_alike (kept_entry b ps) (kept_entry a ps) (in_use a es)
-      (all_map (λ (e : Entry). not (is_unused a e.chain.number) ≡ true) (λ (e : Entry). kept_entry b ps e ≡ kept_entry a ps e) key_is (in_use a es) (all_filter_itself (λ (e : Entry). not (is_unused a e.chain.number)) es))
-      ∙ ap (map (kept_entry a ps)) (filter_alike (λ (e : Entry). not (is_unused a e.chain.number)) (λ (e : Entry). is_used (kept_entry a ps e)) es (λ e. used_is a ps e.key e.chain.number owned))
+      (all_map (λ (e : KeyEntry). not (is_unused a e.chain.number) ≡ true) (λ (e : KeyEntry). kept_entry b ps e ≡ kept_entry a ps e) key_is (in_use a es) (all_filter_itself (λ (e : KeyEntry). not (is_unused a e.chain.number)) es))
+      ∙ ap (map (kept_entry a ps)) (filter_alike (λ (e : KeyEntry). not (is_unused a e.chain.number)) (λ (e : KeyEntry). is_used (kept_entry a ps e)) es (λ e. used_is a ps e.key e.chain.number owned))
       ∙ sym (filter-map is_used (kept_entry a ps) es)
 
   node_stays : (p : PreparedNode) → IsNodeOf a p → IsNodeOf b p

@@ -6,7 +6,7 @@ pub use Rattle.span_keycode.specs.Parts.{is_within}
 use Rattle.span_store.specs.KeyVersions.{KeyVersions}
 use Rattle.span_store.specs.Versions.{row_at}
 use Rattle.span_arena.specs.Content.{Content}
-use Rattle.span_keytree.specs.Entries.{Entry as IndexEntry}
+use Rattle.span_keytree.specs.Entries.{KeyEntry}
 use Rattle.span_store.specs.declared.snapshot.Entry.{Entry}
 use Rattle.span_store.specs.Stored.{chain_versions}
 
@@ -34,11 +34,11 @@ entry_row e = record { key = e.key.now; row = e.row.now }
 abbrev pub versions_alone : KeyVersions → KeyVersions
 versions_alone c = record { key = c.key; versions = c.versions; prepared = None }
 
-abbrev pub versions_alone_at : Content → IndexEntry → KeyVersions
+abbrev pub versions_alone_at : Content → KeyEntry → KeyVersions
 versions_alone_at a e = record { key = e.key; versions = chain_versions a e.chain.number; prepared = None }
 
 -- the row that is seen of a key at s, if there is one
-abbrev pub seen_entry : Content → ℕ → IndexEntry → Option KeyRow
+abbrev pub seen_entry : Content → ℕ → KeyEntry → Option KeyRow
 seen_entry a s e = seen_at s (versions_alone_at a e)
 
 -- the row has a key of at most `most` bytes

@@ -11,7 +11,7 @@ use Rattle.span_arena.specs.declared.version.Version as arena
 use Rattle.span_keytree.specs.Arenas.{IsArenaOf, HasSameChains}
 use Rattle.span_keyindex.specs.Indexes.{IsIndexOf}
 use Rattle.span_keyindex.specs.declared.index.KeyIndex.{KeyIndex}
-use Rattle.span_keytree.specs.Entries.{Entry}
+use Rattle.span_keytree.specs.Entries.{KeyEntry}
 use Rattle.span_keytree.specs.Items.{holders}
 use Rattle.span_store.specs.declared.chain.Version.{Version}
 use Rattle.span_store.specs.declared.chain.PreparedWrite.{PreparedWrite}
@@ -47,11 +47,11 @@ write_for a (p ∷ ps) c = (if is_for c p then Some (write_of a p) else write_fo
 abbrev pub kept : Content → List PreparedNode → List ℕ → ℕ → KeyVersions
 kept a ps key c = record { key = key; versions = chain_versions a c; prepared = write_for a ps c }
 
-abbrev pub kept_entry : Content → List PreparedNode → Entry → KeyVersions
+abbrev pub kept_entry : Content → List PreparedNode → KeyEntry → KeyVersions
 kept_entry a ps e = kept a ps e.key e.chain.number
 
 -- all keys
-abbrev pub all_kept : Content → List PreparedNode → List Entry → List KeyVersions
+abbrev pub all_kept : Content → List PreparedNode → List KeyEntry → List KeyVersions
 all_kept a ps es = map (kept_entry a ps) es
 
 -- how many nodes are prepared for a chain
@@ -72,7 +72,7 @@ pub record AreOwned (a : Content) (ps : List PreparedNode) : Type 0 where
   pub once : (c : ℕ) → count_for c ps ≤ 1
 
 -- the chains are those of the keys, and the prepared nodes these
-pub record IsStored (es : List Entry) (a : Content) (ps : List PreparedNode) : Type 0 where
+pub record IsStored (es : List KeyEntry) (a : Content) (ps : List PreparedNode) : Type 0 where
   pub own : IsArenaOf es a
   pub owned : AreOwned a ps
   pub most : a.most ≡ most_nodes
@@ -153,12 +153,12 @@ pub record HasTrimmed (h : ℕ) (a b : Content) : Type 0 where
   pub chains : (c : ℕ) → kept_upto h (versions b c) ≡ kept_upto h (versions a c)
 
 -- the chain is trimmed
-abbrev pub IsTrimmed : ℕ → Content → Content → Entry → Type 0
+abbrev pub IsTrimmed : ℕ → Content → Content → KeyEntry → Type 0
 IsTrimmed h a b e = versions b e.chain.number ≡ kept_upto h (versions a e.chain.number)
 
 -- some keys' chains are trimmed, and these are left
-pub record AreTrimmed (h : ℕ) (es left : List Entry) (a b : Content) : Type 0 where
-  pub done : List Entry
+pub record AreTrimmed (h : ℕ) (es left : List KeyEntry) (a b : Content) : Type 0 where
+  pub done : List KeyEntry
   pub whole : done ++ left ≡ es
   pub each : AllByRecursion (IsTrimmed h a b) done
   pub so_far : HasTrimmed h a b
@@ -166,12 +166,12 @@ pub record AreTrimmed (h : ℕ) (es left : List Entry) (a b : Content) : Type 0 
 -- ---- split
 
 -- how many versions the keys have
-abbrev pub versions_count : Content → List Entry → ℕ
+abbrev pub versions_count : Content → List KeyEntry → ℕ
 versions_count a [] = 0
 versions_count a (e ∷ es) = length (versions a e.chain.number) + versions_count a es
 
 -- there are free nodes more, and all else is as it was
-pub record HasRoom (n : ℕ) (a b : Content) : Type 0 where
+pub record AreReserved (n : ℕ) (a b : Content) : Type 0 where
   pub chains : b.chains ≡ a.chains
   pub cells : b.cells ≡ a.cells
   pub most : b.most ≡ a.most
@@ -179,7 +179,7 @@ pub record HasRoom (n : ℕ) (a b : Content) : Type 0 where
   pub prepared : (c : ℕ) → prepared_for c b.prepared ≡ prepared_for c a.prepared
 
 -- the keys of the one have the versions of those of the other, each of its own
-abbrev pub HaveVersions : Content → Content → List Entry → List Entry → Type 0
+abbrev pub HaveVersions : Content → Content → List KeyEntry → List KeyEntry → Type 0
 HaveVersions a d [] [] = Unit {0}
 HaveVersions a d [] (f ∷ fs) = ⊥
 HaveVersions a d (e ∷ es) [] = ⊥
@@ -193,9 +193,9 @@ pub record HasSameKeys (a b : Content) : Type 0 where
   pub prepared : b.prepared ≡ a.prepared
 
 -- all versions of the keys es of a are those of the keys fs of d now: b is a without them, and d is c with them
-pub record AreMoved (es fs : List Entry) (a b c d : Content) : Type 0 where
+pub record AreMoved (es fs : List KeyEntry) (a b c d : Content) : Type 0 where
   pub from : HasSameKeys a b
-  pub gone : AllByRecursion (λ (e : Entry). versions b e.chain.number ≡ []) es
+  pub gone : AllByRecursion (λ (e : KeyEntry). versions b e.chain.number ≡ []) es
   pub stay : (x : ℕ) → holders x es ≡ 0 → versions b x ≡ versions a x
   pub to : HasSameKeys c d
   pub there : HaveVersions a d es fs

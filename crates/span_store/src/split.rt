@@ -3,7 +3,7 @@ ghost use Rattle.std.specs.Prelude.{◌≡◌, ℕ, ◌≤◌, [], IfErr, OnOk};
 ghost use Rattle.span_arena.specs.Content.{versions};
 ghost use Rattle.span_keytree.specs.Entries.{entries_from, keys_of};
 ghost use Rattle.span_keyindex.specs.Indexes.{IsIndexOf, entries_of};
-ghost use Rattle.span_store.specs.Stored.{AreMoved, HasRoom, versions_count};
+ghost use Rattle.span_store.specs.Stored.{AreMoved, AreReserved, versions_count};
 
 use super::search::chains_from;
 use span_arena::arena::Arena;
@@ -11,7 +11,7 @@ use span_keyindex::index::KeyIndex;
 use span_value::refusal::Refusal;
 
 /// Adds a free node for each version of the keys from `key` on. The refusal is `OutOfMemory`.
-pub(crate) fn add_room(
+pub(crate) fn reserve_versions(
     index: &KeyIndex,
     arena: &Arena,
     key: &[u8],
@@ -19,7 +19,7 @@ pub(crate) fn add_room(
 ) -> Result<(), Refusal>
     requires { IsIndexOf index.now arena.now }
     ensures ok { OnOk result
-        (HasRoom (versions_count arena.now (entries_from key.now (entries_of index.now arena.now))) room.old room.new) }
+        (AreReserved (versions_count arena.now (entries_from key.now (entries_of index.now arena.now))) room.old room.new) }
     ensures memory { IfErr result (λ why. why ≡ Refusal.OutOfMemory) }
 {
     let mut chains = chains_from(index, arena, key);
@@ -31,7 +31,7 @@ pub(crate) fn add_room(
 
 /// Adds free nodes. The refusal is `OutOfMemory`.
 fn add_nodes(room: &mut Arena, count: usize) -> Result<(), Refusal>
-    ensures ok { OnOk result (HasRoom count room.old room.new) }
+    ensures ok { OnOk result (AreReserved count room.old room.new) }
     ensures memory { IfErr result (λ why. why ≡ Refusal.OutOfMemory) }
 {
     for _node in 0..count {

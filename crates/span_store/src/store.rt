@@ -7,7 +7,7 @@ ghost use Rattle.span_store.specs.KeyLists.{AreInOrder, HaveFallingVersions, IsI
 
 use super::node::{PreparedNode, end_nodes, prepare_node};
 use super::search::{slot_near, split_at};
-use super::split::{add_room, move_versions};
+use super::split::{move_versions, reserve_versions};
 use super::trim::trim_chains;
 use super::write::{NearWrite, Write, last_chains};
 use span_arena::arena::Arena;
@@ -118,7 +118,7 @@ impl Store {
     {
         let part = split_at(alloc, &self.index, &self.arena, key)?;
         let (index, mut arena) = part;
-        add_room(&self.index, &self.arena, key, &mut arena)?;
+        reserve_versions(&self.index, &self.arena, key, &mut arena)?;
         // Nothing takes memory from here on.
         move_versions(&self.index, &mut self.arena, key, &index, &mut arena);
         self.index.remove_empty(&mut self.arena);

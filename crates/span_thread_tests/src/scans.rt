@@ -6,7 +6,7 @@ use span_board::session::Session;
 use span_gather::rows::Rows;
 use span_schema::schema::Schema;
 use span_session::db::Db;
-use span_session::open::Opened;
+use span_session::open::UnnamedDb;
 use span_session_fixtures::calls::{ask, commit_users, split, two_of};
 use span_session_fixtures::clock::{Meeting, SharedClock};
 use span_session_fixtures::users::{USERS, are_uids, two_schemas};
@@ -28,14 +28,14 @@ const HIGH_UIDS: &str = "SELECT uid FROM Users WHERE uid >= 100";
 fn two_scans_at_once(rt: HostRuntime) -> Result<(), Fail> {
     let alloc = rt.alloc();
     let (schema, kept) = two_schemas(alloc, USERS)?;
-    let opened = Opened::new(alloc, schema, 2)?;
+    let opened = UnnamedDb::new(alloc, schema, 2)?;
     by_scans::<Brand, _>(&rt, alloc, opened, &kept)
 }
 
 fn by_scans<J: Naming + Send + Sync, R: Threads + Wait + Abort + Sync>(
     rt: &R,
     alloc: Global,
-    opened: Opened,
+    opened: UnnamedDb,
     schema: &Schema,
 ) -> Result<(), Fail>
     requires table { opened.table ≡ J.table }

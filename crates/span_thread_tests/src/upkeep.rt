@@ -5,7 +5,7 @@ use span_board::board::Naming;
 use span_board::session::Session;
 use span_schema::schema::Schema;
 use span_session::db::Db;
-use span_session::open::Opened;
+use span_session::open::UnnamedDb;
 use span_session_fixtures::calls::{ask, commit_users, split, two_of};
 use span_session_fixtures::clock::{OpenGate, SharedClock};
 use span_session_fixtures::users::{UIDS, USERS, are_uids, two_schemas};
@@ -33,14 +33,14 @@ const HORIZON: u64 = 1_650;
 fn answers_beside_upkeep(rt: HostRuntime) -> Result<(), Fail> {
     let alloc = rt.alloc();
     let (schema, kept) = two_schemas(alloc, USERS)?;
-    let opened = Opened::new(alloc, schema, 2)?;
+    let opened = UnnamedDb::new(alloc, schema, 2)?;
     by_upkeep::<Brand, _>(&rt, alloc, opened, &kept)
 }
 
 fn by_upkeep<J: Naming + Send + Sync, R: Threads + Wait + Abort + Sync>(
     rt: &R,
     alloc: Global,
-    opened: Opened,
+    opened: UnnamedDb,
     schema: &Schema,
 ) -> Result<(), Fail>
     requires table { opened.table ≡ J.table }

@@ -5,7 +5,7 @@ use span_board::board::Naming;
 use span_board::session::Session;
 use span_schema::schema::Schema;
 use span_session::db::Db;
-use span_session::open::Opened;
+use span_session::open::UnnamedDb;
 use span_session_fixtures::calls::{ask_by, commit_users, split};
 use span_session_fixtures::clock::{Meeting, OpenGate, SharedClock};
 use span_session_fixtures::users::{USERS, are_uids, two_schemas};
@@ -24,14 +24,14 @@ use std::thread::Threads;
 fn two_workers(rt: HostRuntime) -> Result<(), Fail> {
     let alloc = rt.alloc();
     let (schema, kept) = two_schemas(alloc, USERS)?;
-    let opened = Opened::new(alloc, schema, 1)?;
+    let opened = UnnamedDb::new(alloc, schema, 1)?;
     by_workers::<Brand, _>(&rt, alloc, opened, &kept)
 }
 
 fn by_workers<J: Naming + Send + Sync, R: Threads + Wait + Abort + Sync>(
     rt: &R,
     alloc: Global,
-    opened: Opened,
+    opened: UnnamedDb,
     schema: &Schema,
 ) -> Result<(), Fail>
     requires table { opened.table ≡ J.table }

@@ -3,7 +3,7 @@ use Rattle.span_query.specs.Rows.{Row, ◌>>=◌, filter_where}
 use Rattle.span_query.specs.Groups.{groups}
 use Rattle.span_rows.specs.Answers.{Gives}
 use Rattle.span_rows.specs.RowPlaces.{rows_at}
-use Rattle.span_groups.specs.declared.aggregate.State.{State}
+use Rattle.span_groups.specs.declared.aggregate.AggregateState.{AggregateState}
 use Rattle.span_groups.specs.declared.group.GroupLists.{GroupLists}
 use Rattle.span_groups.specs.GroupStates.{AreGroupLists, HaveKeys}
 use Rattle.span_rows.specs.Filtering.{holds_where}
@@ -57,7 +57,7 @@ loop-at-preserved c =
     let within : c.loop-at.at < length rows = search rules in
     let i = c.loop-at.at in
     let keys : List Row = c.loop-at.index.keys in
-    let states : List State = c.loop-at.groups.states.items in
+    let states : List AggregateState = c.loop-at.groups.states.items in
     elim c.if-branch.branch [
       | then-branch+in_ok-take_row_at w ↦
           let holds : holds_where filter row ≡ Some true = search rules in

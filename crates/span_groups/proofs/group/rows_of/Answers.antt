@@ -6,7 +6,7 @@ use Rattle.span_query.specs.Groups.{columns_at, group_row, groups}
 use Rattle.span_rows.specs.Answers.{Gives}
 use Rattle.span_rows.specs.LentRows.{lent_rows}
 use Rattle.span_rows.proofs.Gathering.{drop_at}
-use Rattle.span_groups.specs.declared.aggregate.State.{State}
+use Rattle.span_groups.specs.declared.aggregate.AggregateState.{AggregateState}
 use Rattle.span_groups.specs.GroupStates.{keys_at}
 use Rattle.span_groups.specs.StateLists.{Group, groups_in, states_from}
 use Rattle.span_groups.proofs.GroupSteps.{group_by_first, count_by_firsts}
@@ -21,7 +21,7 @@ pub returns-in_err-put_row : goal.returns-in_err-put_row
 returns-in_err-put_row c g rows keyed wide are =
     let places : List ℕ = c.args.places.now in
     let firsts : List (Bor Row) = c.args.firsts.now in
-    let states : List State = c.args.states.now in
+    let states : List AggregateState = c.args.states.now in
     let w : ℕ = c.args.width in
     let i : ℕ = c.loop-at.at in
     let all : List Group = groups_in w (keys_at places (lent_rows firsts)) states in
@@ -43,7 +43,7 @@ pub loop-at-preserved : goal.loop-at-preserved
 loop-at-preserved c g rows keyed wide are =
     let places : List ℕ = c.args.places.now in
     let firsts : List (Bor Row) = c.args.firsts.now in
-    let states : List State = c.args.states.now in
+    let states : List AggregateState = c.args.states.now in
     let w : ℕ = c.args.width in
     let i : ℕ = c.loop-at.at in
     let all : List Group = groups_in w (keys_at places (lent_rows firsts)) states in

@@ -5,7 +5,7 @@ use Rattle.span_query.specs.Rows.{Row}
 use Rattle.span_query.specs.Groups.{groups}
 use Rattle.span_rows.specs.Answers.{Gives}
 use Rattle.span_rows.specs.LentRows.{lent_rows}
-use Rattle.span_groups.specs.declared.aggregate.State.{State}
+use Rattle.span_groups.specs.declared.aggregate.AggregateState.{AggregateState}
 use Rattle.span_groups.specs.GroupStates.{AreGroupLists, HaveKeys}
 use Rattle.span_groups.proofs.GroupSteps.{lent_at}
 use Rattle.span_groups.proofs.Passes.{passed_none, pass_room, take_fails, pass_keeps, rows_passed}
@@ -23,7 +23,7 @@ pub loop-at-init : goal.loop-at-init
 loop-at-init c =
     let g = c.args.grouping.now in
     let firsts : List (Bor Row) = c.in_ok-groups.groups.firsts.items in
-    let states : List State = c.in_ok-groups.groups.states.items in
+    let states : List AggregateState = c.in_ok-groups.groups.states.items in
     record {
       passed =
           passed_none None g (lent_rows c.args.rows.now) c.in_ok-index.index.keys states
@@ -59,7 +59,7 @@ pub returns : goal.returns
 returns c =
     let g = c.args.grouping.now in
     let rows : List (Bor Row) = c.args.rows.now in
-    let states : List State = c.loop-at.groups.states.items in
+    let states : List AggregateState = c.loop-at.groups.states.items in
     let past : length (lent_rows rows) ≤ c.loop-at.at = omega (arith, c.loop-at-test.false, length-map rows (λ (r : Bor Row). r.now)) in
     subst (λ (ks : List Row). AreGroupLists g (lent_rows rows) ks states) (sym {A = List Row} c.loop-at.invariant.firsts)
     (rows_passed g (lent_rows rows) c.loop-at.at c.loop-at.index.keys states c.loop-at.invariant.passed past)

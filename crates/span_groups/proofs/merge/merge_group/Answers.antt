@@ -4,7 +4,7 @@ use denote.Ref.{Bor}
 use Rattle.span_query.specs.declared.query.Aggregate.{Aggregate}
 use Rattle.span_query.specs.Rows.{Row}
 use Rattle.span_rows.specs.LentRows.{lent_rows}
-use Rattle.span_groups.specs.declared.aggregate.State.{State}
+use Rattle.span_groups.specs.declared.aggregate.AggregateState.{AggregateState}
 use Rattle.span_groups.specs.StateLists.{states_from, IsChangedAt}
 use Rattle.span_groups.specs.States.{AreStatesOf}
 use Rattle.span_groups.proofs.GroupSteps.{if_ok_both, room_within, step_after, merged_at, lent-push, firsts_by}
@@ -36,9 +36,9 @@ pub returns-clause-merged : goal.returns-clause-merged
 returns-clause-merged c = if_ok_both c.merge_all.result (λ done takes changed is rows next are taken.
     let g = c.args.grouping.now in
     let at : ℕ = c.in_ok-at.at in
-    let mid : List State = c.group_of.new.states.items in
-    let now : List State = c.merge_all.new.states.items in
-    let more : List State = c.args.more.now in
+    let mid : List AggregateState = c.group_of.new.states.items in
+    let now : List AggregateState = c.merge_all.new.states.items in
+    let more : List AggregateState = c.args.more.now in
     let len : c.len.result ≡ length g.aggregates = search rules in
     merged_at g c.args.row.now c.args.index.now.keys c.group_of.new.index.keys c.args.groups.now.states.items mid at c.in_ok-at.ensures.step c.in_ok-at.ensures.within c.in_ok-at.ensures.place
     now more c.requires.wide

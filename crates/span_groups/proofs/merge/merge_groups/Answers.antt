@@ -4,7 +4,7 @@ use Rattle.span_query.specs.Rows.{Row}
 use Rattle.span_query.specs.Groups.{columns_at, group_keys, rows_with}
 use Rattle.span_rows.specs.Keys.{with_new}
 use Rattle.span_rows.specs.RowPlaces.{rows_at}
-use Rattle.span_groups.specs.declared.aggregate.State.{State}
+use Rattle.span_groups.specs.declared.aggregate.AggregateState.{AggregateState}
 use Rattle.span_groups.specs.StateLists.{Group, states_from}
 use Rattle.span_groups.specs.GroupStates.{keys_of, keys_at, groups_by, HasTakenRows}
 use Rattle.span_groups.specs.MergedGroups.{AreWholeGroups, with_keys, rows_by_key}
@@ -44,7 +44,7 @@ loop-at-preserved c =
     let next : List Row = c.args.rows.now in
     let i : ℕ = c.loop-at.at in
     let firsts : List ℕ = c.args.more.now.firsts.items in
-    let states : List State = c.args.more.now.states.items in
+    let states : List AggregateState = c.args.more.now.states.items in
     let more : List Group = groups_by g (keys_at g.keys (rows_at next firsts)) states in
     let row : Row = c.row_or_none-row.result.now in
     let x : Group = record { key = columns_at g.keys row; states = states_from (i * w) w states } in
@@ -59,7 +59,7 @@ loop-at-preserved c =
     let len : c.len-width.result ≡ w = search rules in
     let lent : c.states_at-states.result.now ≡ states_from (i * w) w states =
     c.states_at-states.ensures
-    ∙ ap (λ (l : List State). states_from (i * c.len-width.result) c.len-width.result l) c.as_slice.ensures.value
+    ∙ ap (λ (l : List AggregateState). states_from (i * c.len-width.result) c.len-width.result l) c.as_slice.ensures.value
     ∙ ap (λ (n : ℕ). states_from (i * n) n states) len in
     let now : List Group = groups_by g c.loop-at.index.keys c.loop-at.groups.states.items in
     record {
@@ -73,7 +73,7 @@ loop-at-preserved c =
           let its : AreStatesOf g.aggregates (rows_with g.keys x.key next) x.states = subst (HasTakenRows g next) (sym is) (held.are.each i x inside) in
           let merged : AreWholeGroups g (with_new c.loop-at.index.keys x.key) (rows ++ rows_with g.keys x.key next) new =
           c.in_ok-merge_group.ensures.merged done rows next (subst (λ (ks : List Row). AreWholeGroups g ks rows now) (sym same) before)
-          (subst (λ (l : List State). AreStatesOf g.aggregates (rows_with g.keys x.key next) l) (sym lent) its) in
+          (subst (λ (l : List AggregateState). AreStatesOf g.aggregates (rows_with g.keys x.key next) l) (sym lent) its) in
           merged_more g taken next more i x.key new front
           (subst (λ (ks : List Row). AreWholeGroups g (with_new ks x.key) (rows ++ rows_with g.keys x.key next) new) same merged);
       firsts = λ have. c.in_ok-merge_group.ensures.firsts (c.loop-at.invariant.firsts have);
@@ -84,7 +84,7 @@ returns-clause-merged c done taken are held =
     let g = c.args.grouping.now in
     let next : List Row = c.args.rows.now in
     let firsts : List ℕ = c.args.more.now.firsts.items in
-    let states : List State = c.args.more.now.states.items in
+    let states : List AggregateState = c.args.more.now.states.items in
     let more : List Group = groups_by g (keys_at g.keys (rows_at next firsts)) states in
     let over : length firsts ≤ c.loop-at.at = search rules in
     let past : length more ≤ c.loop-at.at = omega (arith, over, count_by_places g.keys (length g.aggregates) next firsts states) in

@@ -1,7 +1,7 @@
 use Rattle.std.proofs.Common.{rules, ◌≡◌, ◌++◌, ◌<◌, ◌≤◌, [], IsTrue, List, length, get_or, take, sym, subst}
 use Rattle.span_query.specs.Rows.{Row}
 use Rattle.span_rows.specs.LentRows.{lent_rows}
-use Rattle.span_groups.specs.declared.aggregate.State.{State}
+use Rattle.span_groups.specs.declared.aggregate.AggregateState.{AggregateState}
 use Rattle.span_groups.specs.GroupStates.{AreGroupLists, HaveKeys}
 use Rattle.span_groups.specs.Parts.{all_rows}
 use Rattle.span_groups.proofs.GroupSteps.{in_step, held_whole}
@@ -18,7 +18,7 @@ merge_groups-requires-clause-wide c = held_whole c.args.grouping.now c.part-item
 pub loop-part-init : goal.loop-part-init
 loop-part-init c =
     let g = c.args.grouping.now in
-    let states : List State = c.in_ok-groups.groups.states.items in
+    let states : List AggregateState = c.in_ok-groups.groups.states.items in
     record {
       are = subst (λ (ks : List Row). AreGroupLists g [] ks states) (sym {A = List Row} c.in_ok-index.ensures) c.in_ok-groups.ensures.states;
       firsts = subst (λ (ks : List Row). HaveKeys g (lent_rows c.in_ok-groups.groups.firsts.items) ks) (sym {A = List Row} c.in_ok-index.ensures) c.in_ok-groups.ensures.firsts;
@@ -47,6 +47,6 @@ pub returns : goal.returns
 returns c =
     let g = c.args.grouping.now in
     let past : length c.args.parts.now ≤ c.loop-part.part-index = search rules in
-    let states : List State = c.loop-part.groups.states.items in
+    let states : List AggregateState = c.loop-part.groups.states.items in
     subst (λ (ks : List Row). AreGroupLists g (all_rows c.args.parts.now) ks states) (sym {A = List Row} c.loop-part.invariant.firsts)
     (subst (λ (l : List Row). AreGroupLists g l c.loop-part.index.keys states) (rows_all c.args.parts.now c.loop-part.part-index past) c.loop-part.invariant.are)

@@ -1,7 +1,7 @@
 use Rattle.std.proofs.Common.{List, sym, subst}
 use Rattle.span_arena.specs.Content.{is_unused}
 use Rattle.span_keytree.specs.Arenas.{IsArenaOf}
-use Rattle.span_keytree.specs.Entries.{Entry}
+use Rattle.span_keytree.specs.Entries.{KeyEntry}
 use Rattle.span_keytree.specs.Roots.{entries_at}
 use Rattle.span_keyindex.specs.Removals.{all_of}
 use Rattle.span_keyindex.proofs.Unlinking.{sequence_of, sequence_own, run_left, entries_left, index_left}
@@ -12,7 +12,7 @@ unlink-count-requires-clause-own c = sequence_own c.args.arena.now.cells c.args.
 
 pub unlink-count-requires-clause-chains : goal.unlink-count-requires-clause-chains
 unlink-count-requires-clause-chains c =
-    subst (λ (es : List Entry). IsArenaOf es c.args.arena.now) {x = entries_at c.args.arena.now.cells c.args.index.now} {y = all_of c.args.arena.now.cells c.args.nexts.now} (sym (sequence_of c.args.arena.now.cells c.args.nexts.now c.args.index.now c.requires.own)) c.requires.chains
+    subst (λ (es : List KeyEntry). IsArenaOf es c.args.arena.now) {x = entries_at c.args.arena.now.cells c.args.index.now} {y = all_of c.args.arena.now.cells c.args.nexts.now} (sym (sequence_of c.args.arena.now.cells c.args.nexts.now c.args.index.now c.requires.own)) c.requires.chains
 
 pub build-built-requires : goal.build-built-requires
 build-built-requires c =

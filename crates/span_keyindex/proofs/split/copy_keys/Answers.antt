@@ -1,6 +1,6 @@
 use Rattle.std.proofs.Common.{ℕ, List, sym, ap, ◌∙◌, subst}
 use Rattle.span_arena.specs.Content.{Content}
-use Rattle.span_keytree.specs.Entries.{Entry, IsSlotFor, entries_from}
+use Rattle.span_keytree.specs.Entries.{KeyEntry, IsSlotFor, entries_from}
 use Rattle.span_keyindex.specs.Indexes.{entries_of}
 use Rattle.span_keyindex.proofs.Splitting.{IsCopying, no_chain, rising_from, copying_starts, copying_more, copying_ends}
 use Rattle.span_keyindex.proofs.split.copy_keys.Goals as goal
@@ -12,7 +12,7 @@ loop-bytes-init g c = record {
   so_far =
       let part = entries_from c.args.low.now (entries_of c.args.index.now c.args.arena.now) in
       let empty = c.with_most-chains.ensures ∙ ap no_chain c.most.ensures in
-      subst (λ (left : List Entry). IsCopying part left c.args.arena.now.most c.new-part.result c.with_most-chains.result) {x = entries_from c.args.low.now (entries_of c.args.index.now c.args.arena.now)} {y = c.walk_from-left.result} (sym {b = entries_from c.args.low.now (entries_of c.args.index.now c.args.arena.now)} c.walk_from-left.ensures.entries)
+      subst (λ (left : List KeyEntry). IsCopying part left c.args.arena.now.most c.new-part.result c.with_most-chains.result) {x = entries_from c.args.low.now (entries_of c.args.index.now c.args.arena.now)} {y = c.walk_from-left.result} (sym {b = entries_from c.args.low.now (entries_of c.args.index.now c.args.arena.now)} c.walk_from-left.ensures.entries)
       (copying_starts part c.args.arena.now.most c.new-part.result c.with_most-chains.result
       (c.new-part.ensures c.with_most-chains.result (ap (λ (a : Content). a.chains) empty) (ap (λ (a : Content). a.cells) empty)) empty);
 }

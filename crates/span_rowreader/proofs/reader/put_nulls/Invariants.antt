@@ -3,7 +3,7 @@ use Rattle.std.specs.Prelude.{vec_len, vec_capacity}
 use Rattle.span_value.specs.declared.value.Value.TheVariants.{Null}
 use Rattle.span_rowreader.proofs.reader.put_nulls.Given as goal
 
--- the NULLs so far, and room for all
+-- the NULLs so far, and the capacity for all
 abbrev pub invariant-loop : goal.invariant-loop
 invariant-loop l = record {
   nulls : l.row.items ≡ replicate l.counter Null;

@@ -2,7 +2,7 @@ use Rattle.std.proofs.Common.{◌≡◌, List, [], ◌++◌, rules, arith, ap, d
 use Rattle.span_rowreader.specs.declared.steps.KeyStep.{KeyStep}
 use Rattle.span_rowreader.specs.declared.steps.KeyStep.TheVariants.{Table}
 use Rattle.span_rowreader.specs.declared.reads.KeyRead.{KeyRead}
-use Rattle.span_rowreader.specs.Reads.{reads_of}
+use Rattle.span_rowreader.specs.Reads.{key_reads}
 use Rattle.span_rowreader.proofs.KeyReads.{step_added, all_added}
 use Rattle.span_rowreader.proofs.reads.key_reads.Goals as goal
 
@@ -12,7 +12,7 @@ nothing = Table 0
 pub loop-step-init : goal.loop-step-init
 loop-step-init c =
     let none : c.new-reads.result.items ≡ [] = search rules in
-    let so_far = ap (λ (l : List KeyRead). l ++ reads_of c.args.steps.now 0 (drop (length l) c.args.places.now)) none in
+    let so_far = ap (λ (l : List KeyRead). l ++ key_reads c.args.steps.now 0 (drop (length l) c.args.places.now)) none in
     record { within = omega arith; so_far = so_far }
 
 pub loop-step-preserved : goal.loop-step-preserved

@@ -1,6 +1,6 @@
 use Rattle.std.proofs.Common.{◌∙◌, All, List, ap, subst, sym}
 use Rattle.span_arena.specs.Content.{IsChain}
-use Rattle.span_keytree.specs.Entries.{Entry}
+use Rattle.span_keytree.specs.Entries.{KeyEntry}
 use Rattle.span_keyindex.specs.Indexes.{entries_of}
 use Rattle.span_store.specs.Reads.{snapshot}
 use Rattle.span_store.proofs.Seeing.{within_is}
@@ -8,7 +8,7 @@ use Rattle.span_store.proofs.snapshot.snapshot_of.Goals as goal
 
 pub invariant_of-result : goal.invariant_of-result
 invariant_of-result c =
-    subst (λ (es : List Entry). All (λ (e : Entry). IsChain c.store.inside.arena e.chain.number) es) {x = c.walk-walk.result} {y = c.look_at_rows.new.self} (sym c.look_at_rows.ensures) c.walk-walk.ensures.chains
+    subst (λ (es : List KeyEntry). All (λ (e : KeyEntry). IsChain c.store.inside.arena e.chain.number) es) {x = c.walk-walk.result} {y = c.look_at_rows.new.self} (sym c.look_at_rows.ensures) c.walk-walk.ensures.chains
 
 pub returns : goal.returns
 returns c =

@@ -3,7 +3,7 @@ use Rattle.std.specs.Ordering.{is_lt}
 use Rattle.std.proofs.lemmas.List.Elements.{All-filter}
 use Rattle.span_keycode.specs.Order.{byte_order}
 use Rattle.span_arena.specs.Content.{IsChain}
-use Rattle.span_keytree.specs.Entries.{Entry, entries_from}
+use Rattle.span_keytree.specs.Entries.{KeyEntry, entries_from}
 use Rattle.span_keyindex.specs.Indexes.{entries_of}
 use Rattle.span_keyindex.proofs.Owning.{all_chains}
 use Rattle.span_store.proofs.Moving.{moving_starts, source_chain, to_chain, to_none, to_room, moving_step, moving_ends}
@@ -15,7 +15,7 @@ loop-source-init c = record {
   can_next = tt;
   is_finite = tt;
   so_far = moving_starts (entries_from c.args.key.now (entries_of c.args.index.now c.args.arena.now)) (entries_of c.args.part.now c.args.to.now) c.chains_from-sources.result c.chains-chains.result c.args.arena.now c.args.to.now c.chains_from-sources.ensures c.chains-chains.ensures c.requires.keys
-      (All-filter (λ (e : Entry). not (is_lt (byte_order e.key c.args.key.now))) (λ (e : Entry). IsChain c.args.arena.now e.chain.number) (entries_of c.args.index.now c.args.arena.now) (all_chains (entries_of c.args.index.now c.args.arena.now) c.args.arena.now c.requires.own.own))
+      (All-filter (λ (e : KeyEntry). not (is_lt (byte_order e.key c.args.key.now))) (λ (e : KeyEntry). IsChain c.args.arena.now e.chain.number) (entries_of c.args.index.now c.args.arena.now) (all_chains (entries_of c.args.index.now c.args.arena.now) c.args.arena.now c.requires.own.own))
       (all_chains (entries_of c.args.part.now c.args.to.now) c.args.to.now c.requires.part.own) c.requires.none c.requires.room;
 }
 

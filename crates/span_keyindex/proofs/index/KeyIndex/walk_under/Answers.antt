@@ -3,14 +3,14 @@ use Rattle.std.specs.Prelude.{All, nat_eq}
 use Rattle.std.specs.List.{starts_with}
 use Rattle.std.proofs.lemmas.List.Elements.{All-filter}
 use Rattle.span_arena.specs.Content.{IsChain}
-use Rattle.span_keytree.specs.Entries.{Entry}
+use Rattle.span_keytree.specs.Entries.{KeyEntry}
 use Rattle.span_keyindex.specs.Indexes.{entries_of}
 use Rattle.span_keyindex.proofs.Owning.{all_chains}
 use Rattle.span_keytree.proofs.Rising.{pairs_rising}
 use Rattle.span_keyindex.proofs.index.KeyIndex.walk_under.Goals as goal
 
 pub returns-clause-chains : goal.returns-clause-chains
-returns-clause-chains g c = subst (λ (es : List Entry). All (λ (e : Entry). IsChain c.args.arena.now e.chain.number) es) (sym c.walk_under.ensures.entries) (All-filter (λ (e : Entry). starts_with nat_eq e.key c.args.front.now) (λ (e : Entry). IsChain c.args.arena.now e.chain.number) (entries_of c.args.self.now c.args.arena.now) (all_chains (entries_of c.args.self.now c.args.arena.now) c.args.arena.now c.requires.own))
+returns-clause-chains g c = subst (λ (es : List KeyEntry). All (λ (e : KeyEntry). IsChain c.args.arena.now e.chain.number) es) (sym c.walk_under.ensures.entries) (All-filter (λ (e : KeyEntry). starts_with nat_eq e.key c.args.front.now) (λ (e : KeyEntry). IsChain c.args.arena.now e.chain.number) (entries_of c.args.self.now c.args.arena.now) (all_chains (entries_of c.args.self.now c.args.arena.now) c.args.arena.now c.requires.own))
 
 pub returns-clause-rising : goal.returns-clause-rising
 returns-clause-rising g c = pairs_rising (entries_of c.args.self.now c.args.arena.now) c.requires.index.search.rising

@@ -10,7 +10,7 @@ use Rattle.span_mutate.specs.declared.mutation.MutationKind.{MutationKind}
 use Rattle.span_records.specs.Record.{texts}
 use Rattle.span_records.specs.Layouts.{IsKeyCell, IsColumnCell, IsOfRecord}
 use Rattle.span_records.proofs.Rows.{named_values}
-use Rattle.span_records.proofs.layout.Layout.row_of.Goals as goal
+use Rattle.span_records.proofs.layout.RecordLayout.row_of.Goals as goal
 
 pub returns-clause-read : goal.returns-clause-read
 returns-clause-read c =

@@ -1,7 +1,7 @@
 use Rattle.std.proofs.Common.{◌<◌, sym, ap, subst, arith}
 use Rattle.span_board.proofs.Meets.{splits_at}
 use Rattle.span_board.proofs.Opening.{apart_keeper}
-use Rattle.span_session.proofs.open.Opened.into_database.Goals as goal
+use Rattle.span_session.proofs.open.UnnamedDb.into_database.Goals as goal
 
 pub split_seat-requires : goal.split_seat-requires
 split_seat-requires g c =

@@ -3,18 +3,18 @@ use Rattle.std.specs.Ordering.{is_lt}
 use Rattle.std.proofs.lemmas.List.Elements.{All-filter}
 use Rattle.span_keycode.specs.Order.{byte_order}
 use Rattle.span_arena.specs.Content.{IsChain}
-use Rattle.span_keytree.specs.Entries.{Entry, entries_from}
+use Rattle.span_keytree.specs.Entries.{KeyEntry, entries_from}
 use Rattle.span_keyindex.specs.Indexes.{entries_of}
 use Rattle.span_keyindex.proofs.Owning.{all_chains}
 use Rattle.span_store.proofs.Moving.{room_starts, room_chain, room_step, room_ends}
-use Rattle.span_store.proofs.split.add_room.Goals as goal
+use Rattle.span_store.proofs.split.reserve_versions.Goals as goal
 
 pub loop-chain-init : goal.loop-chain-init
 loop-chain-init c = record {
   can_next = tt;
   is_finite = tt;
   so_far = room_starts (entries_from c.args.key.now (entries_of c.args.index.now c.args.arena.now)) c.chains_from-chains.result c.args.arena.now c.args.room.now
-      (All-filter (λ (e : Entry). not (is_lt (byte_order e.key c.args.key.now))) (λ (e : Entry). IsChain c.args.arena.now e.chain.number) (entries_of c.args.index.now c.args.arena.now) (all_chains (entries_of c.args.index.now c.args.arena.now) c.args.arena.now c.requires.own)) c.chains_from-chains.ensures;
+      (All-filter (λ (e : KeyEntry). not (is_lt (byte_order e.key c.args.key.now))) (λ (e : KeyEntry). IsChain c.args.arena.now e.chain.number) (entries_of c.args.index.now c.args.arena.now) (all_chains (entries_of c.args.index.now c.args.arena.now) c.args.arena.now c.requires.own)) c.chains_from-chains.ensures;
 }
 
 pub count-requires : goal.count-requires

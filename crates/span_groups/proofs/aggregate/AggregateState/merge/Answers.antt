@@ -1,8 +1,8 @@
 use Rattle.std.proofs.Common.{rules, true}
-use Rattle.span_groups.specs.declared.aggregate.State.TheVariants as state
+use Rattle.span_groups.specs.declared.aggregate.AggregateState.TheVariants as state
 use Rattle.span_groups.proofs.Merging.{merged_by, counts_merge, sums_merge, least_merge, greatest_merge}
-use Rattle.span_groups.proofs.aggregate.State.merge.Goals.{in-Count-Count, in-Sum-Sum, in-Least-Least+in_ok-keep_lesser-in-Least-Least, in-Greatest-Greatest+in_ok-keep_greater-in-Greatest-Greatest, in_default, in_default-2, in_default-3, in_default-4}
-use Rattle.span_groups.proofs.aggregate.State.merge.Goals as goal
+use Rattle.span_groups.proofs.aggregate.AggregateState.merge.Goals.{in-Count-Count, in-Sum-Sum, in-Least-Least+in_ok-keep_lesser-in-Least-Least, in-Greatest-Greatest+in_ok-keep_greater-in-Greatest-Greatest, in_default, in_default-2, in_default-3, in_default-4}
+use Rattle.span_groups.proofs.aggregate.AggregateState.merge.Goals as goal
 
 pub returns : goal.returns
 returns c = elim c.match-self.branch [

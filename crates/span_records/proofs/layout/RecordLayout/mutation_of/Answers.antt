@@ -7,7 +7,7 @@ use Rattle.span_mutate.specs.declared.mutation.NamedValue.{NamedValue}
 use Rattle.span_mutate.specs.declared.mutation.Mutation.{Mutation}
 use Rattle.span_records.specs.Record.{texts}
 use Rattle.span_records.specs.Layouts.{IsKeyCell, IsColumnCell, IsOfRecord}
-use Rattle.span_records.proofs.layout.Layout.mutation_of.Goals as goal
+use Rattle.span_records.proofs.layout.RecordLayout.mutation_of.Goals as goal
 
 pub returns-in_err-key-clause-refusals : goal.returns-in_err-key-clause-refusals
 returns-in_err-key-clause-refusals c =

@@ -3,7 +3,7 @@ use Rattle.std.specs.Prelude.{IfOk}
 use Rattle.csv.specs.Records.{fields_of}
 use Rattle.span_records.specs.Record.{texts}
 use Rattle.span_records.specs.Layouts.{IsRowOf}
-use Rattle.span_records.proofs.layout.Layout.row.Goals as goal
+use Rattle.span_records.proofs.layout.RecordLayout.row.Goals as goal
 
 pub returns-clause-read : goal.returns-clause-read
 returns-clause-read c =

@@ -4,7 +4,7 @@ use Rattle.span_expr.specs.Meaning.{val}
 use Rattle.span_expr.specs.Outcomes.{is_null}
 use Rattle.span_query.specs.Rows.{value_of}
 use Rattle.span_groups.proofs.Taking.{counts_row, takes_value, passes_null}
-use Rattle.span_groups.proofs.aggregate.State.take.Goals as goal
+use Rattle.span_groups.proofs.aggregate.AggregateState.take.Goals as goal
 
 pub returns-in-CountRows-clause-ok : goal.returns-in-CountRows-clause-ok
 returns-in-CountRows-clause-ok c = counts_row c.args.aggregate.now c.args.row.now c.args.self.now c.count_row.new.self c.in-CountRows.is c.count_row.ensures

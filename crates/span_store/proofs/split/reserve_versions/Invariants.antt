@@ -1,7 +1,7 @@
 use Rattle.span_keytree.specs.Entries.{entries_from}
 use Rattle.span_keyindex.specs.Indexes.{entries_of}
 use Rattle.span_store.proofs.Moving.{IsRoomSoFar}
-use Rattle.span_store.proofs.split.add_room.Given as goal
+use Rattle.span_store.proofs.split.reserve_versions.Given as goal
 
 -- there is capacity for the versions of the keys so far
 abbrev pub invariant-loop-chain : goal.invariant-loop-chain

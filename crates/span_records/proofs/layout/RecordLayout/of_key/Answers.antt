@@ -5,7 +5,7 @@ use Rattle.span_value.specs.declared.refusal.Refusal.TheVariants as refusal
 use Rattle.span_schema.specs.Numbers.{number_named, key_places}
 use Rattle.span_records.specs.Layouts.{LacksKey}
 use Rattle.span_records.proofs.Within.{lacks_nothing}
-use Rattle.span_records.proofs.layout.Layout.of_key.Goals as goal
+use Rattle.span_records.proofs.layout.RecordLayout.of_key.Goals as goal
 
 pub returns-clause-refusals : goal.returns-clause-refusals
 returns-clause-refusals c =

@@ -2,7 +2,7 @@ use Rattle.std.proofs.Common.{rules, ◌≡◌, ◌∙◌, ap, ℤ, ◌+ℤ◌, 
 use Rattle.std.proofs.lemmas.Int.{to_z-of_z}
 use Rattle.span_expr.specs.Cells.{owned_value}
 use Rattle.span_groups.proofs.Taking.{sum_takes}
-use Rattle.span_groups.proofs.aggregate.State.take_value.Goals as goal
+use Rattle.span_groups.proofs.aggregate.AggregateState.take_value.Goals as goal
 
 pub returns-in-Sum : goal.returns-in-Sum
 returns-in-Sum c =

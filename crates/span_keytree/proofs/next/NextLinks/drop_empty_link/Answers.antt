@@ -1,6 +1,6 @@
 use Rattle.std.proofs.Common.{◌∙◌}
 use Rattle.span_keytree.proofs.Stored.{last_dropped}
-use Rattle.span_keytree.proofs.next.NextLinks.drop_room.Goals as goal
+use Rattle.span_keytree.proofs.next.NextLinks.drop_empty_link.Goals as goal
 
 pub returns : goal.returns
 returns c = let i = c.self.inside in last_dropped i.first i.next.items c.truncate.new.self.items c.args.self.now c.len.result c.self.view_is (c.len.ensures ∙ i.next.ok.0) c.truncate.ensures.items
