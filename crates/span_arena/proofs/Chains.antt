@@ -4,7 +4,7 @@ use Rattle.std.specs.Prelude.{is_some}
 use Rattle.std.proofs.lemmas.List.{get_or-set_other, get_or-set_same, get_or_default}
 use Rattle.std.proofs.Math.Seq.{map-set_same}
 use Rattle.std.proofs.lemmas.Bool.{cases_eq}
-use Rattle.span_arena.specs.declared.version.Version.{Version}
+use Rattle.span_arena.specs.declared.version.ArenaVersion.{ArenaVersion}
 use Rattle.span_arena.specs.declared.record.NodeRecord.{NodeRecord}
 use Rattle.span_arena.specs.declared.record.ChainRecord.{ChainRecord}
 use Rattle.span_arena.specs.declared.record.ChainRecord.TheVariants as chain
@@ -22,12 +22,12 @@ versions_are f [] c = refl
 versions_are f (r ∷ rs) zero = of_record f r
 versions_are f (r ∷ rs) (suc c) = versions_are f rs c
 
-some_used : (f : ℕ → NodeRecord) (r : ChainRecord) (vs : List Version) → chain_of f r ≡ Some vs → (l : VersionLinks) × (r ≡ chain.Used l)
+some_used : (f : ℕ → NodeRecord) (r : ChainRecord) (vs : List ArenaVersion) → chain_of f r ≡ Some vs → (l : VersionLinks) × (r ≡ chain.Used l)
 some_used f (chain.Free next k) vs h = absurd (let q : None ≡ Some vs = h in cc)
 some_used f (chain.Used l) vs h = (l, refl)
 
 -- what the content has as a chain is in use
-pub used_of : (f : ℕ → NodeRecord) (rs : List ChainRecord) (c : ℕ) (vs : List Version) → get_or (map (chain_of f) rs) c None ≡ Some vs → (l : VersionLinks) × (record_at rs c ≡ chain.Used l)
+pub used_of : (f : ℕ → NodeRecord) (rs : List ChainRecord) (c : ℕ) (vs : List ArenaVersion) → get_or (map (chain_of f) rs) c None ≡ Some vs → (l : VersionLinks) × (record_at rs c ≡ chain.Used l)
 used_of f [] c vs h = absurd (let q : None ≡ Some vs = h in cc)
 used_of f (r ∷ rs) zero vs h = some_used f r vs h
 used_of f (r ∷ rs) (suc c) vs h = used_of f rs c vs h

@@ -6,7 +6,7 @@ use Rattle.std.proofs.lemmas.List.{get_or-set_same, length-map, map-set, map-app
 use Rattle.std.proofs.lemmas.Bool.{cases_lt}
 use Rattle.std.proofs.lemmas.Bool.Decides.{nat_tests}
 use Rattle.span_arena.specs.declared.cell.Cell.{Cell}
-use Rattle.span_arena.specs.declared.version.Version.{Version}
+use Rattle.span_arena.specs.declared.version.ArenaVersion.{ArenaVersion}
 use Rattle.span_arena.specs.declared.record.NodeRecord.{NodeRecord}
 use Rattle.span_arena.specs.declared.record.ChainRecord.{ChainRecord}
 use Rattle.span_arena.specs.declared.record.ChainRecord.TheVariants as chain
@@ -19,11 +19,11 @@ use Rattle.span_arena.proofs.Counts.{length-walk, versions_counted, one_for-at, 
 use Rattle.span_arena.proofs.Chains.{with_prepared, versions_are, chain_at, used_prepared, read_used, links_were, chains_step}
 use Rattle.span_arena.proofs.Moves.{maps_stay, is_for, is_none-free, is_none-linked}
 
-abbrev pub of_parts : List (Option (List Version)) → List (Option Prepared) → ℕ → ℕ → List Cell → Content
+abbrev pub of_parts : List (Option (List ArenaVersion)) → List (Option Prepared) → ℕ → ℕ → List Cell → Content
 of_parts cs ps free most cells = record { chains = cs; cells = cells; prepared = ps; free = free; most = most }
 
-pub parts_equal : (cs ds : List (Option (List Version))) (ps qs : List (Option Prepared)) (free most : ℕ) (cells : List Cell) → cs ≡ ds → ps ≡ qs → of_parts cs ps free most cells ≡ of_parts ds qs free most cells
-parts_equal cs ds ps qs free most cells e f = ap (λ (x : List (Option (List Version))). of_parts x ps free most cells) e ∙ ap (λ (y : List (Option Prepared)). of_parts ds y free most cells) f
+pub parts_equal : (cs ds : List (Option (List ArenaVersion))) (ps qs : List (Option Prepared)) (free most : ℕ) (cells : List Cell) → cs ≡ ds → ps ≡ qs → of_parts cs ps free most cells ≡ of_parts ds qs free most cells
+parts_equal cs ds ps qs free most cells e f = ap (λ (x : List (Option (List ArenaVersion))). of_parts x ps free most cells) e ∙ ap (λ (y : List (Option Prepared)). of_parts ds y free most cells) f
 
 -- ---- what the code reads
 
@@ -113,16 +113,16 @@ module _ (nodes : List NodeRecord) (rs : List ChainRecord) (free count most : �
     content-link x s is_linked version next =
         let f = node_at nodes in
         let g = node_at (set nodes j x) in
-        let v : Version = record { timestamp = s; image = (version_of cell).image } in
+        let v : ArenaVersion = record { timestamp = s; image = (version_of cell).image } in
         let m : VersionLinks = record { newest = j; count = l.count + 1; prepared = l.prepared - 1 } in
         let stay : map (chain_of g) rs ≡ map (chain_of f) rs = maps_stay nodes rs free count most sound g j (changed-set nodes j x) apart in
         let walk_same : walk g l.count l.newest ≡ walk f l.count l.newest =
         (let a : Some (walk g l.count l.newest) ≡ Some (walk f l.count l.newest)
-        = sym (chain_at g rs c l used) ∙ ap (λ (cs : List (Option (List Version))). get_or cs c None) stay ∙ chain_at f rs c l used in cc) in
+        = sym (chain_at g rs c l used) ∙ ap (λ (cs : List (Option (List ArenaVersion))). get_or cs c None) stay ∙ chain_at f rs c l used in cc) in
         let at_j : g j ≡ x = get_or-set_same nodes j x blank is_held.in_range in
         let walked : chain_of g (chain.Used m) ≡ Some (v ∷ versions (content nodes rs count most cells) c) = rw (chain_versions, add-one, at_j, version, next, walk_same) refl in
         let chains : map (chain_of g) (set rs c (chain.Used m)) ≡ set (map (chain_of f) rs) c (Some (v ∷ versions (content nodes rs count most cells) c)) =
-        map-set (chain_of g) rs c (chain.Used m) ∙ ap (λ (cs : List (Option (List Version))). set cs c (chain_of g (chain.Used m))) stay ∙ ap (set (map (chain_of f) rs) c) walked in
+        map-set (chain_of g) rs c (chain.Used m) ∙ ap (λ (cs : List (Option (List ArenaVersion))). set cs c (chain_of g (chain.Used m))) stay ∙ ap (set (map (chain_of f) rs) c) walked in
         parts_equal _ _ _ _ count most cells chains (map-set prepared_of nodes j x ∙ ap (set (map prepared_of nodes) j) (is_none-linked x c is_linked))
         ∙ sym (ap (linked_as (content nodes rs count most cells) j s) is_held.prepared)
 

@@ -5,7 +5,7 @@ use Rattle.std.proofs.lemmas.List.{get_or-set_same, length-set, map-set, append-
 use Rattle.std.proofs.lemmas.Bool.{cases_eq}
 use Rattle.std.proofs.lemmas.Bool.Decides.{nat_tests}
 use Rattle.std.proofs.Math.Seq.{map-set_same}
-use Rattle.span_arena.specs.declared.version.Version.{Version}
+use Rattle.span_arena.specs.declared.version.ArenaVersion.{ArenaVersion}
 use Rattle.span_arena.specs.declared.record.NodeRecord.{NodeRecord}
 use Rattle.span_arena.specs.declared.record.ChainRecord.{ChainRecord}
 use Rattle.span_arena.specs.declared.record.ChainRecord.TheVariants as chain
@@ -46,10 +46,10 @@ follow-snoc f zero h = refl
 follow-snoc f (suc k) h = follow-snoc f k (f h).next
 
 -- a version with an image is kept at the horizon, and a deletion is not
-kept_some : (v : Version) (has : Bool) (bytes : List ℕ) → has ≡ true → kept_at v (image_of has bytes) ≡ v ∷ []
+kept_some : (v : ArenaVersion) (has : Bool) (bytes : List ℕ) → has ≡ true → kept_at v (image_of has bytes) ≡ v ∷ []
 kept_some v has bytes h = rw h refl
 
-kept_none : (v : Version) (has : Bool) (bytes : List ℕ) → has ≡ false → kept_at v (image_of has bytes) ≡ []
+kept_none : (v : ArenaVersion) (has : Bool) (bytes : List ℕ) → has ≡ false → kept_at v (image_of has bytes) ≡ []
 kept_none v has bytes h = rw h refl
 
 module _ (nodes : List NodeRecord) (h count s : ℕ) (on : IsSomeRun (node_at nodes) count h) (kept at : ℕ) (lt : kept < count) (here : at ≡ follow (node_at nodes) kept h) where
@@ -76,21 +76,21 @@ module _ (nodes : List NodeRecord) (h count s : ℕ) (on : IsSomeRun (node_at no
     cut_more above =
         let t : nat_le (version_of (node_at nodes at)).timestamp s ≡ false = grind (arith, nat_tests) in
         let e : kept_upto s (walk (node_at nodes) (suc (count - (kept + 1))) at) ≡ (version_of (node_at nodes at)) ∷ kept_upto s (walk (node_at nodes) (count - (kept + 1)) (node_at nodes at).next) = rw t refl in
-        same_next ∙ ap (λ (vs : List Version). walk (node_at nodes) kept h ++ vs) e ∙ rw (front_more, append_assoc) refl
+        same_next ∙ ap (λ (vs : List ArenaVersion). walk (node_at nodes) kept h ++ vs) e ∙ rw (front_more, append_assoc) refl
 
     -- an image is kept
     pub cut_after : (version_of (node_at nodes at)).timestamp ≤ s → (node_at nodes at).has_image ≡ true → walk (node_at nodes) (kept + 1) h ≡ kept_upto s (walk (node_at nodes) count h)
     cut_after le some =
         let t : nat_le (version_of (node_at nodes at)).timestamp s ≡ true = grind (arith, nat_tests) in
         let e : kept_upto s (walk (node_at nodes) (suc (count - (kept + 1))) at) ≡ (version_of (node_at nodes at)) ∷ [] = rw t (kept_some (version_of (node_at nodes at)) (node_at nodes at).has_image (node_at nodes at).image some) in
-        front_more ∙ sym (same_next ∙ ap (λ (vs : List Version). walk (node_at nodes) kept h ++ vs) e)
+        front_more ∙ sym (same_next ∙ ap (λ (vs : List ArenaVersion). walk (node_at nodes) kept h ++ vs) e)
 
     -- a deletion is not
     pub cut_before : (version_of (node_at nodes at)).timestamp ≤ s → (node_at nodes at).has_image ≡ false → walk (node_at nodes) kept h ≡ kept_upto s (walk (node_at nodes) count h)
     cut_before le none =
         let t : nat_le (version_of (node_at nodes at)).timestamp s ≡ true = grind (arith, nat_tests) in
         let e : kept_upto s (walk (node_at nodes) (suc (count - (kept + 1))) at) ≡ [] = rw t (kept_none (version_of (node_at nodes at)) (node_at nodes at).has_image (node_at nodes at).image none) in
-        sym (same_next ∙ ap (λ (vs : List Version). walk (node_at nodes) kept h ++ vs) e ∙ append-nil (walk (node_at nodes) kept h))
+        sym (same_next ∙ ap (λ (vs : List ArenaVersion). walk (node_at nodes) kept h ++ vs) e ∙ append-nil (walk (node_at nodes) kept h))
 
 -- a run whose ranks are below that of j stays
 module _ (f g : ℕ → NodeRecord) (rank : ℕ → ℕ) (j : ℕ) (changed : IsChanged f g j) where
@@ -133,7 +133,7 @@ trimming_starts nodes rs free count most cells c l s kept at sound used is_cut =
     let n : (links_at rs c).count ≡ l.count = ap (λ (r : ChainRecord). (links_of r).count) used in
     let t : total (set rs c (chain.Used m)) + (links_at rs c).count ≡ total rs + kept = total-set rs c (chain.Used m) lt in
     let v : versions (content nodes rs count most cells) c ≡ walk f l.count l.newest = ap versions_in (chain_at f rs c l used) in
-    let vs : List Version = kept_by s (versions (content nodes rs count most cells) c) in
+    let vs : List ArenaVersion = kept_by s (versions (content nodes rs count most cells) c) in
     let w : walk f kept l.newest ≡ vs = is_cut.same ∙ ap (kept_by s) (sym v) in
     let long : length (versions (content nodes rs count most cells) c) ≡ l.count = ap length v ∙ length-walk f l.count l.newest in
     let short : length vs ≡ kept = sym (ap length w) ∙ length-walk f kept l.newest in

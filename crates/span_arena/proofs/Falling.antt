@@ -3,7 +3,7 @@ use Rattle.std.proofs.Common.{◌≡◌, ℕ, zero, suc, ◌<◌, ◌≤◌, Lis
 use Rattle.std.specs.Prelude.{map, find, nat_lt}
 use Rattle.std.specs.List.{AllByRecursion}
 use Rattle.std.proofs.lemmas.Bool.Decides.{nat_tests}
-use Rattle.span_arena.specs.declared.version.Version.{Version}
+use Rattle.span_arena.specs.declared.version.ArenaVersion.{ArenaVersion}
 use Rattle.span_arena.specs.Content.{Content, Prepared, versions, versions_in, prepared_at, newest_upto, kept_at, kept_upto, kept_by, with_kept, with_versions, IsNewChain, IsReserved, linked, linked_as, without_chain, IsSomePrepared}
 use Rattle.span_arena.specs.Order.{IsLater, AreFalling, timestamps, IsLast, IsLastUpto, IsNewestUpto, AreInTimeOrder, IsLaterFor}
 
@@ -45,12 +45,12 @@ module _ (V : Type 0) (stamp : V → ℕ) where
         | false ↦ (λ e. last_after s v vs (find (λ (w : V). nat_le (stamp w) s) vs) (grind (arith, nat_tests)) (first_is_last s vs falling.1))
       ] refl
 
-pub found_last : (s : ℕ) (vs : List Version) (found : Option Version) → found ≡ newest_upto s vs → AreFalling (timestamps vs) → IsNewestUpto s vs found
-found_last s vs found is falling = subst (IsNewestUpto s vs) (sym is) (first_is_last Version (λ (v : Version). v.timestamp) s vs falling)
+pub found_last : (s : ℕ) (vs : List ArenaVersion) (found : Option ArenaVersion) → found ≡ newest_upto s vs → AreFalling (timestamps vs) → IsNewestUpto s vs found
+found_last s vs found is falling = subst (IsNewestUpto s vs) (sym is) (first_is_last ArenaVersion (λ (v : ArenaVersion). v.timestamp) s vs falling)
 
 -- ---- what stays in order
 
-falling_set : (cs : List (Option (List Version))) (c : ℕ) (o : Option (List Version)) → ((d : ℕ) → AreFalling (timestamps (versions_in (get_or cs d None)))) → AreFalling (timestamps (versions_in o))
+falling_set : (cs : List (Option (List ArenaVersion))) (c : ℕ) (o : Option (List ArenaVersion)) → ((d : ℕ) → AreFalling (timestamps (versions_in (get_or cs d None)))) → AreFalling (timestamps (versions_in o))
     → (d : ℕ) → AreFalling (timestamps (versions_in (get_or (set cs c o) d None)))
 falling_set [] c o all here d = all d
 falling_set (p ∷ cs) zero o all here zero = here
@@ -58,7 +58,7 @@ falling_set (p ∷ cs) zero o all here (suc d) = all (suc d)
 falling_set (p ∷ cs) (suc c) o all here zero = all 0
 falling_set (p ∷ cs) (suc c) o all here (suc d) = falling_set cs c o (λ e. all (suc e)) here d
 
-falling_push : (cs : List (Option (List Version))) (o : Option (List Version)) → ((d : ℕ) → AreFalling (timestamps (versions_in (get_or cs d None)))) → AreFalling (timestamps (versions_in o))
+falling_push : (cs : List (Option (List ArenaVersion))) (o : Option (List ArenaVersion)) → ((d : ℕ) → AreFalling (timestamps (versions_in (get_or cs d None)))) → AreFalling (timestamps (versions_in o))
     → (d : ℕ) → AreFalling (timestamps (versions_in (get_or (cs ++ o ∷ []) d None)))
 falling_push [] o all here zero = here
 falling_push [] o all here (suc d) = tt
@@ -87,29 +87,29 @@ falling-link a n s all later = by_node (prepared_at a n) later
     by_node None later = absurd later
     by_node (Some p) later = falling_set a.chains p.chain (Some (record { timestamp = s; image = p.image } ∷ versions a p.chain)) all (later, all p.chain)
 
-later_kept_at : (s : ℕ) (v : Version) (image : Option (List ℕ)) → v.timestamp < s → IsLater s (timestamps (kept_at v image))
+later_kept_at : (s : ℕ) (v : ArenaVersion) (image : Option (List ℕ)) → v.timestamp < s → IsLater s (timestamps (kept_at v image))
 later_kept_at s v None lt = tt
 later_kept_at s v (Some image) lt = lt
 
-later_kept : (s h : ℕ) (vs : List Version) → IsLater s (timestamps vs) → IsLater s (timestamps (kept_upto h vs))
+later_kept : (s h : ℕ) (vs : List ArenaVersion) → IsLater s (timestamps vs) → IsLater s (timestamps (kept_upto h vs))
 later_kept s h [] later = tt
 later_kept s h (v ∷ vs) later = elim (nat_le v.timestamp h) as (λ b. IsLater s (timestamps (cond b (kept_at v v.image) (v ∷ kept_upto h vs)))) [
   | true ↦ later_kept_at s v v.image later
   | false ↦ later
 ]
 
-falling_kept_at : (v : Version) (image : Option (List ℕ)) → AreFalling (timestamps (kept_at v image))
+falling_kept_at : (v : ArenaVersion) (image : Option (List ℕ)) → AreFalling (timestamps (kept_at v image))
 falling_kept_at v None = tt
 falling_kept_at v (Some image) = (tt, tt)
 
-falling_kept : (h : ℕ) (vs : List Version) → AreFalling (timestamps vs) → AreFalling (timestamps (kept_upto h vs))
+falling_kept : (h : ℕ) (vs : List ArenaVersion) → AreFalling (timestamps vs) → AreFalling (timestamps (kept_upto h vs))
 falling_kept h [] falling = tt
 falling_kept h (v ∷ vs) falling = elim (nat_le v.timestamp h) as (λ b. AreFalling (timestamps (cond b (kept_at v v.image) (v ∷ kept_upto h vs)))) [
   | true ↦ falling_kept_at v v.image
   | false ↦ (later_kept v.timestamp h vs falling.0, falling_kept h vs falling.1)
 ]
 
-falling_by : (horizon : Option ℕ) (vs : List Version) → AreFalling (timestamps vs) → AreFalling (timestamps (kept_by horizon vs))
+falling_by : (horizon : Option ℕ) (vs : List ArenaVersion) → AreFalling (timestamps vs) → AreFalling (timestamps (kept_by horizon vs))
 falling_by None vs falling = tt
 falling_by (Some h) vs falling = falling_kept h vs falling
 
@@ -118,11 +118,11 @@ pub falling-keep : (a : Content) (c : ℕ) (horizon : Option ℕ) → AreInTimeO
 falling-keep a c horizon all = falling_set a.chains c (Some (kept_by horizon (versions a c))) all (falling_by horizon (versions a c) (all c))
 
 -- the newest version is taken out
-pub falling-rest : (a : Content) (c : ℕ) (v : Version) (rest : List Version) → AreInTimeOrder a → versions a c ≡ v ∷ rest → AreInTimeOrder (with_kept a c rest)
+pub falling-rest : (a : Content) (c : ℕ) (v : ArenaVersion) (rest : List ArenaVersion) → AreInTimeOrder a → versions a c ≡ v ∷ rest → AreInTimeOrder (with_kept a c rest)
 falling-rest a c v rest all is =
-    let falling : AreFalling (timestamps (v ∷ rest)) = subst (λ (vs : List Version). AreFalling (timestamps vs)) is (all c) in
+    let falling : AreFalling (timestamps (v ∷ rest)) = subst (λ (vs : List ArenaVersion). AreFalling (timestamps vs)) is (all c) in
     falling_set a.chains c (Some rest) all falling.1
 
 -- a chain has these versions now
-pub falling-versions : (a : Content) (c : ℕ) (vs : List Version) → AreInTimeOrder a → AreFalling (timestamps vs) → AreInTimeOrder (with_versions a c vs)
+pub falling-versions : (a : Content) (c : ℕ) (vs : List ArenaVersion) → AreInTimeOrder a → AreFalling (timestamps vs) → AreInTimeOrder (with_versions a c vs)
 falling-versions a c vs all falling = falling_set a.chains c (Some vs) all falling

@@ -5,7 +5,7 @@ use Rattle.std.proofs.lemmas.Bool.{cases_lt}
 use Rattle.std.proofs.lemmas.Bool.Decides.{nat_tests}
 use Rattle.std.proofs.Math.ListN.{get_or-eq_default}
 use Rattle.std.proofs.Math.Seq.{map-set_same, get_or-append_seam}
-use Rattle.span_arena.specs.declared.version.Version.{Version}
+use Rattle.span_arena.specs.declared.version.ArenaVersion.{ArenaVersion}
 use Rattle.span_arena.specs.declared.record.NodeRecord.{NodeRecord}
 use Rattle.span_arena.specs.declared.record.ChainRecord.{ChainRecord}
 use Rattle.span_arena.specs.declared.record.ChainRecord.TheVariants as chain
@@ -150,13 +150,13 @@ module _ (nodes : List NodeRecord) (rs : List ChainRecord) (free count most c n 
           }
 
 -- the end: they are the chain
-pub filling_ends : (nodes : List NodeRecord) (rs : List ChainRecord) (free count most c n newest : ℕ) (cells : List Cell) (l : VersionLinks) (old : Content) (vs : List Version) → record_at rs c ≡ chain.Used l
+pub filling_ends : (nodes : List NodeRecord) (rs : List ChainRecord) (free count most c n newest : ℕ) (cells : List Cell) (l : VersionLinks) (old : Content) (vs : List ArenaVersion) → record_at rs c ≡ chain.Used l
     → content nodes rs (count + n) most cells ≡ old → walk (node_at nodes) n newest ≡ vs
     → content nodes (set rs c (chain.Used (record { newest = newest; count = n; prepared = l.prepared }))) count most cells ≡ with_versions old c vs
 filling_ends nodes rs free count most c n newest cells l old vs used same walked =
     let f = node_at nodes in
     let m : VersionLinks = record { newest = newest; count = n; prepared = l.prepared } in
-    let chains : map (chain_of f) (set rs c (chain.Used m)) ≡ set (map (chain_of f) rs) c (Some vs) = map-set (chain_of f) rs c (chain.Used m) ∙ ap (λ (ws : List Version). set (map (chain_of f) rs) c (Some ws)) walked in
+    let chains : map (chain_of f) (set rs c (chain.Used m)) ≡ set (map (chain_of f) rs) c (Some vs) = map-set (chain_of f) rs c (chain.Used m) ∙ ap (λ (ws : List ArenaVersion). set (map (chain_of f) rs) c (Some ws)) walked in
     let long : length vs ≡ n = sym (ap length walked) ∙ length-walk f n newest in
     let less : count ≡ count + n - length vs = rw long (omega arith) in
     parts_equal _ (set (map (chain_of f) rs) c (Some vs)) _ (map prepared_of nodes) count most cells chains refl

@@ -6,7 +6,7 @@ use Rattle.std.proofs.Math.Seq.{get_or-append_seam}
 use Rattle.std.proofs.lemmas.List.{get_or-set_same, get_or-set_other, get_or_append_left}
 use Rattle.std.proofs.lemmas.Bool.{cases_lt}
 use Rattle.std.proofs.lemmas.Bool.Decides.{nat_tests}
-use Rattle.span_arena.specs.declared.version.Version.{Version}
+use Rattle.span_arena.specs.declared.version.ArenaVersion.{ArenaVersion}
 use Rattle.span_arena.specs.Content.{Content, prepared_at, IsChain, with_at, IsNewChain, IsReserved, with_kept}
 
 pub with_at-same : {A : Type 0} → (xs : List A) (i : ℕ) (x d : A) → i ≤ length xs → get_or (with_at xs i x) i d ≡ x
@@ -43,5 +43,5 @@ chain_in_range a c chain = elim (cases_lt c (length a.chains)) [
 ]
 
 -- a chain that is trimmed or cleared is one
-pub kept_chain : (a b : Content) (c : ℕ) (vs : List Version) → IsChain a c → b ≡ with_kept a c vs → IsChain b c
+pub kept_chain : (a b : Content) (c : ℕ) (vs : List ArenaVersion) → IsChain a c → b ≡ with_kept a c vs → IsChain b c
 kept_chain a b c vs chain is = rw is (vs, get_or-set_same a.chains c (Some vs) None (chain_in_range a c chain))

@@ -2,7 +2,7 @@
 use Rattle.std.proofs.Common.{◌≡◌, ℕ, zero, suc, ◌+◌, ◌-◌, ◌<◌, ◌≤◌, List, ◌∷◌, refl, sym, ◌∙◌, ap, arith, length, map, Option, Some, None, set, sub-one, subst, inl, inr}
 use Rattle.std.proofs.lemmas.List.{get_or-set_same, map-set, set-set}
 use Rattle.std.proofs.lemmas.Bool.{cases_eq}
-use Rattle.span_arena.specs.declared.version.Version.{Version}
+use Rattle.span_arena.specs.declared.version.ArenaVersion.{ArenaVersion}
 use Rattle.span_arena.specs.declared.record.NodeRecord.{NodeRecord}
 use Rattle.span_arena.specs.declared.record.ChainRecord.{ChainRecord}
 use Rattle.span_arena.specs.declared.record.ChainRecord.TheVariants as chain
@@ -91,16 +91,16 @@ module _ (nodes : List NodeRecord) (rs : List ChainRecord) (free count most : �
           let none : VersionLinks = record { newest = l.newest; count = 0; prepared = l.prepared } in
           let cut : List ChainRecord = set rs c (chain.Used none) in
           let rest : VersionLinks = record { newest = (node_at nodes l.newest).next; count = l.count - 1; prepared = l.prepared } in
-          let vs : List Version = walk f (l.count - 1) (f l.newest).next in
+          let vs : List ArenaVersion = walk f (l.count - 1) (f l.newest).next in
           let stay : content (set nodes l.newest x) cut count most cells ≡ content nodes cut count most cells = trim_content nodes cut free count most c l.count l.newest loose some x cells (count + 1) is_free count in
           let walked : walk g (l.count - 1) (f l.newest).next ≡ vs =
           below_walks f g loose.rank l.newest (changed-set nodes l.newest x) c (loose.rank l.newest) (l.count - 1) (f l.newest).next (omega arith) (run_rest f loose.rank c loose.low l.count l.newest some loose.loose) in
           let chains : map (chain_of g) (set rs c (chain.Used rest)) ≡ set (map (chain_of f) rs) c (Some vs) =
           ap (map (chain_of g)) (sym (set-set rs c (chain.Used none) (chain.Used rest)))
           ∙ map-set (chain_of g) cut c (chain.Used rest)
-          ∙ ap (λ (cs : List (Option (List Version))). set cs c (chain_of g (chain.Used rest))) (ap (λ (a : Content). a.chains) stay ∙ map-set (chain_of f) rs c (chain.Used none))
+          ∙ ap (λ (cs : List (Option (List ArenaVersion))). set cs c (chain_of g (chain.Used rest))) (ap (λ (a : Content). a.chains) stay ∙ map-set (chain_of f) rs c (chain.Used none))
           ∙ set-set (map (chain_of f) rs) c (chain_of f (chain.Used none)) (chain_of g (chain.Used rest))
-          ∙ ap (λ (ws : List Version). set (map (chain_of f) rs) c (Some ws)) walked in
+          ∙ ap (λ (ws : List ArenaVersion). set (map (chain_of f) rs) c (Some ws)) walked in
           let long : length (versions (content nodes rs count most cells) c) ≡ l.count = ap length versions_here ∙ length-walk f l.count l.newest in
           let short : length vs ≡ l.count - 1 = length-walk f (l.count - 1) (f l.newest).next in
           let freed : count + 1 ≡ count + (length (versions (content nodes rs count most cells) c) - length vs) = rw (long, short) (omega (arith, some)) in

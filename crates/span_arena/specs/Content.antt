@@ -2,7 +2,7 @@
 use Rattle.std.specs.Prelude.{◌≡◌, ◌⊎◌, ℕ, ◌+◌, ◌-◌, ◌<◌, ◌≤◌, List, [], ◌∷◌, ◌++◌, ◌&&◌, length, Option, Some, None, slice_index_or, slice_set, Bool, nat_le, nat_lt, nat_eq, find, if◌then◌else◌}
 use Rattle.span_arena.specs.Cells.{blank}
 use Rattle.span_arena.specs.declared.cell.Cell.{Cell}
-use Rattle.span_arena.specs.declared.version.Version.{Version}
+use Rattle.span_arena.specs.declared.version.ArenaVersion.{ArenaVersion}
 use Rattle.span_value.specs.declared.refusal.Refusal.{Refusal}
 use Rattle.span_value.specs.declared.refusal.Refusal.TheVariants.{ShardFull, OutOfMemory}
 
@@ -15,25 +15,25 @@ pub record Prepared : Type 0 where
 -- are blank where it is none; under a node's number what is prepared in it, or None where it is in a chain or free; how
 -- many nodes are free; and how many may be in use.
 pub record Content : Type 0 where
-  pub chains : List (Option (List Version))
+  pub chains : List (Option (List ArenaVersion))
   pub cells : List Cell
   pub prepared : List (Option Prepared)
   pub free : ℕ
   pub most : ℕ
 
-abbrev pub versions_in : Option (List Version) → List Version
+abbrev pub versions_in : Option (List ArenaVersion) → List ArenaVersion
 versions_in None = []
 versions_in (Some vs) = vs
 
 -- the versions of a chain, newest first
-abbrev pub versions : Content → ℕ → List Version
+abbrev pub versions : Content → ℕ → List ArenaVersion
 versions c chain = versions_in (slice_index_or c.chains chain None)
 
 abbrev pub prepared_at : Content → ℕ → Option Prepared
 prepared_at c node = slice_index_or c.prepared node None
 
 abbrev pub IsChain : Content → ℕ → Type 0
-IsChain c chain = (vs : List Version) × (slice_index_or c.chains chain None ≡ Some vs)
+IsChain c chain = (vs : List ArenaVersion) × (slice_index_or c.chains chain None ≡ Some vs)
 
 abbrev pub IsSomePrepared : Option Prepared → (Prepared → Type 0) → Type 0
 IsSomePrepared None P = ⊥
@@ -65,7 +65,7 @@ prepared_for chain ps = sum_for (one_for chain) ps
 abbrev pub count_prepared : List (Option Prepared) → ℕ
 count_prepared ps = sum_for one_if ps
 
-abbrev pub count_versions : List (Option (List Version)) → ℕ
+abbrev pub count_versions : List (Option (List ArenaVersion)) → ℕ
 count_versions [] = 0
 count_versions (c ∷ cs) = length (versions_in c) + count_versions cs
 
@@ -88,7 +88,7 @@ pub record IsInOrder (c : Content) : Type 0 where
 -- ---- what the calls do
 
 -- the newest version at or below s
-abbrev pub newest_upto : ℕ → List Version → Option Version
+abbrev pub newest_upto : ℕ → List ArenaVersion → Option ArenaVersion
 newest_upto s vs = find (λ v. nat_le v.timestamp s) vs
 
 -- with a value at a place: in the place of what was there, or one more at the end
@@ -146,22 +146,22 @@ abbrev pub given_back : Content → ℕ → Content
 given_back c node = record c { prepared = slice_set c.prepared node None; free = c.free + 1 }
 
 -- the newest version at or below the horizon, unless it is a deletion
-abbrev pub kept_at : Version → Option (List ℕ) → List Version
+abbrev pub kept_at : ArenaVersion → Option (List ℕ) → List ArenaVersion
 kept_at v None = []
 kept_at v (Some image) = v ∷ []
 
 -- what is kept at a horizon: the newest version at or below it, unless it is a deletion, and all later ones
-abbrev pub kept_upto : ℕ → List Version → List Version
+abbrev pub kept_upto : ℕ → List ArenaVersion → List ArenaVersion
 kept_upto h [] = []
 kept_upto h (v ∷ vs) = (if nat_le v.timestamp h then kept_at v v.image else (v ∷ kept_upto h vs))
 
 -- with no horizon nothing is kept
-abbrev pub kept_by : Option ℕ → List Version → List Version
+abbrev pub kept_by : Option ℕ → List ArenaVersion → List ArenaVersion
 kept_by None vs = []
 kept_by (Some h) vs = kept_upto h vs
 
 -- only these versions of a chain are kept, and the nodes of the others are free
-abbrev pub with_kept : Content → ℕ → List Version → Content
+abbrev pub with_kept : Content → ℕ → List ArenaVersion → Content
 with_kept c chain vs =
     record c { chains = slice_set c.chains chain (Some vs); free = c.free + (length (versions c chain) - length vs) }
 
@@ -181,11 +181,11 @@ IsRefusedRoom c why =
     ((why ≡ ShardFull) × (length c.prepared ≡ c.most)) ⊎ ((why ≡ OutOfMemory) × (length c.prepared < c.most))
 
 -- the version was the newest of its chain, which has the others now; its node is free
-pub record IsTakenFrom (old new : Content) (chain : ℕ) (v : Version) : Type 0 where
-  pub rest : List Version
+pub record IsTakenFrom (old new : Content) (chain : ℕ) (v : ArenaVersion) : Type 0 where
+  pub rest : List ArenaVersion
   pub was : versions old chain ≡ v ∷ rest
   pub now : new ≡ with_kept old chain rest
 
 -- a chain that had no version has these, in nodes that were free
-abbrev pub with_versions : Content → ℕ → List Version → Content
+abbrev pub with_versions : Content → ℕ → List ArenaVersion → Content
 with_versions c chain vs = record c { chains = slice_set c.chains chain (Some vs); free = c.free - length vs }

@@ -1,7 +1,7 @@
 -- The order of versions: by their timestamps, the latest first.
 use Rattle.std.specs.Prelude.{◌≡◌, ◌⊎◌, ℕ, ◌<◌, ◌≤◌, List, [], ◌∷◌, map, Contains, Option, MatchOption}
 use Rattle.std.specs.List.{AllByRecursion}
-use Rattle.span_arena.specs.declared.version.Version.{Version}
+use Rattle.span_arena.specs.declared.version.ArenaVersion.{ArenaVersion}
 use Rattle.span_arena.specs.Content.{Content, IsSomePrepared, versions, prepared_at}
 
 -- the timestamp is later than the first of these
@@ -14,8 +14,8 @@ abbrev pub AreFalling : List ℕ → Type 0
 AreFalling [] = Unit {0}
 AreFalling (t ∷ ts) = IsLater t ts × AreFalling ts
 
-abbrev pub timestamps : List Version → List ℕ
-timestamps vs = map (λ (v : Version). v.timestamp) vs
+abbrev pub timestamps : List ArenaVersion → List ℕ
+timestamps vs = map (λ (v : ArenaVersion). v.timestamp) vs
 
 -- of versions with these timestamps it is one at or below s, and every other one at or below s is older
 pub record IsLast (V : Type 0) (timestamp : V → ℕ) (s : ℕ) (vs : List V) (v : V) : Type 0 where
@@ -29,8 +29,8 @@ IsLastUpto V timestamp s vs found =
     MatchOption found (AllByRecursion (λ (w : V). s < timestamp w) vs) (IsLast V timestamp s vs)
 
 -- the last version at or below s, where there is one
-abbrev pub IsNewestUpto : ℕ → List Version → Option Version → Type 0
-IsNewestUpto s vs found = IsLastUpto Version (λ (v : Version). v.timestamp) s vs found
+abbrev pub IsNewestUpto : ℕ → List ArenaVersion → Option ArenaVersion → Type 0
+IsNewestUpto s vs found = IsLastUpto ArenaVersion (λ (v : ArenaVersion). v.timestamp) s vs found
 
 -- the versions of each chain fall
 abbrev pub AreInTimeOrder : Content → Type 0

@@ -1,7 +1,7 @@
 -- How an arena lays out its nodes and chains. No public clause cites this module.
 use Rattle.std.specs.Prelude.{◌≡◌, ℕ, zero, suc, ◌+◌, ◌<◌, ◌≤◌, List, [], ◌∷◌, length, map, Option, Some, None, Bool, true, false, slice_index_or}
 use Rattle.span_arena.specs.declared.cell.Cell.{Cell}
-use Rattle.span_arena.specs.declared.version.Version.{Version}
+use Rattle.span_arena.specs.declared.version.ArenaVersion.{ArenaVersion}
 use Rattle.span_arena.specs.declared.record.NodeRecord.{NodeRecord}
 use Rattle.span_arena.specs.declared.record.ChainRecord.{ChainRecord}
 use Rattle.span_arena.specs.declared.record.ChainRecord.TheVariants as chain
@@ -24,14 +24,14 @@ prepared_of_use (Reserved c) image = Some (record { chain = c; image = image })
 prepared_of_use (Linked c) image = None
 
 -- the version of a node; where it has no image, nothing is kept of one
-abbrev pub version_of : NodeRecord → Version
+abbrev pub version_of : NodeRecord → ArenaVersion
 version_of n = record { timestamp = n.timestamp; image = image_of n.has_image n.image }
 
 abbrev pub prepared_of : NodeRecord → Option Prepared
 prepared_of n = prepared_of_use n.used (version_of n).image
 
 -- k versions, from node h on
-abbrev pub walk : (ℕ → NodeRecord) → ℕ → ℕ → List Version
+abbrev pub walk : (ℕ → NodeRecord) → ℕ → ℕ → List ArenaVersion
 walk f zero h = []
 walk f (suc k) h = version_of (f h) ∷ walk f k (f h).next
 
@@ -60,7 +60,7 @@ abbrev pub links_of : ChainRecord → VersionLinks
 links_of (chain.Free next k) = no_links
 links_of (chain.Used l) = l
 
-abbrev pub chain_of : (ℕ → NodeRecord) → ChainRecord → Option (List Version)
+abbrev pub chain_of : (ℕ → NodeRecord) → ChainRecord → Option (List ArenaVersion)
 chain_of f (chain.Free next k) = None
 chain_of f (chain.Used l) = Some (walk f l.count l.newest)
 

@@ -14,7 +14,7 @@ use crate::cut::cut;
 use crate::record::{ChainRecord, NodeRecord, NodeUse, VersionLinks, join_image, split_image};
 use crate::steps::Steps;
 use crate::token::{Chain, Node};
-use crate::version::{LentVersion, Version};
+use crate::version::{ArenaVersion, LentVersion};
 use span_keycode::compare::order_of_bytes;
 use span_keycode::key::Key;
 use span_value::refusal::Refusal;
@@ -510,7 +510,7 @@ impl Arena {
 
     /// Takes the newest version out of its chain and frees its node. Its image is moved. None where the chain has no version. It takes
     /// no memory.
-    pub fn take_newest(&mut self, chain: Chain) -> Option<Version>
+    pub fn take_newest(&mut self, chain: Chain) -> Option<ArenaVersion>
         requires { IsChain self.old chain.number }
         ensures { MatchOption result
             ((versions self.old chain.number ≡ []) × (self.new ≡ self.old))
@@ -525,7 +525,7 @@ impl Arena {
         let alloc = *self.nodes.allocator();
         let cell = &mut self.nodes[links.newest as usize];
         let image = mem::replace(&mut cell.image, Seq::new(alloc));
-        let version = Version {
+        let version = ArenaVersion {
             timestamp: cell.timestamp,
             image: join_image(cell.has_image, image),
         };

@@ -8,7 +8,7 @@ use std::marker::Model;
 
 /// What a commit left of a row.
 #[derive(Debug, Drop, PartialEq, Eq)]
-pub struct Version {
+pub struct ArenaVersion {
     /// The commit timestamp.
     pub timestamp: u64,
     /// The packed row; none is a deletion.
@@ -24,9 +24,9 @@ pub struct LentVersion<'a> {
 
 impl<'a> Model for LentVersion<'a> {
     ghost use Rattle.std.specs.Option.{option_copied};
-    ghost use Rattle.span_arena.specs.declared.version.Version.{Version};
+    ghost use Rattle.span_arena.specs.declared.version.ArenaVersion.{ArenaVersion};
 
-    ghost Value = { Version };
+    ghost Value = { ArenaVersion };
 
     ghost view = { λ v. record { timestamp = v.timestamp; image = option_copied v.image } };
 }

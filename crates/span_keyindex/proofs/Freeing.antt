@@ -6,7 +6,7 @@ use Rattle.std.proofs.Math.ListN.{get_or-eq_default}
 use Rattle.std.proofs.lemmas.List.{get_or-set_same, get_or-set_other, length-set}
 use Rattle.std.proofs.lemmas.Bool.{cases_lt, cases_eq}
 use Rattle.std.proofs.lemmas.Bool.Decides.{nat_tests}
-use Rattle.span_arena.specs.declared.version.Version.{Version}
+use Rattle.span_arena.specs.declared.version.ArenaVersion.{ArenaVersion}
 use Rattle.span_arena.specs.Cells.{blank}
 use Rattle.span_arena.specs.Content.{Content, IsChain, is_unused, without_chain}
 use Rattle.span_keytree.specs.Entries.{KeyEntry}
@@ -31,7 +31,7 @@ pub record IsFreed (old new : Content) (done : List KeyEntry) : Type 0 where
   pub others : new ≡ record old { chains = new.chains; cells = new.cells }
 
 -- a chain that is freed is none
-none_there : (xs : List (Option (List Version))) (c : ℕ) → get_or (set xs c None) c None ≡ None
+none_there : (xs : List (Option (List ArenaVersion))) (c : ℕ) → get_or (set xs c None) c None ≡ None
 none_there xs c = elim (cases_lt c (length xs)) [
   | inl below ↦ get_or-set_same xs c None None below
   | inr past ↦ (let long : length (set xs c None) ≤ c = omega (arith, length-set xs c None) in get_or-eq_default (set xs c None) None long)
@@ -116,7 +116,7 @@ without_unused es a b own freed = record {
 }
   where
     -- what is no chain is none as it was
-    whole : (b : Bool) (n : ℕ) (o : Option (List Version)) → n ≡ one_if_chain o → unless (b && nat_lt 0 n) o ≡ cond b None o
+    whole : (b : Bool) (n : ℕ) (o : Option (List ArenaVersion)) → n ≡ one_if_chain o → unless (b && nat_lt 0 n) o ≡ cond b None o
     whole false n o is = refl
     whole true n None is = rw is refl
     whole true n (Some vs) is = rw is refl
@@ -124,6 +124,6 @@ without_unused es a b own freed = record {
 pub arena_of_used : (es : List KeyEntry) (a b : Content) → IsArenaOf es a → IsWithoutUnused a b → IsArenaOf (in_use a es) b
 arena_of_used es a b own without = record { each = λ c. holders-filter (λ n. not (is_unused a n)) c es ∙ left (is_unused a c) (holders c es) (get_or a.chains c None) (own.each c) ∙ ap one_if_chain (sym (without.chains c)) }
   where
-    left : (b : Bool) (n : ℕ) (o : Option (List Version)) → n ≡ one_if_chain o → cond (not b) n 0 ≡ one_if_chain (cond b None o)
+    left : (b : Bool) (n : ℕ) (o : Option (List ArenaVersion)) → n ≡ one_if_chain o → cond (not b) n 0 ≡ one_if_chain (cond b None o)
     left false n o is = is
     left true n o is = refl

@@ -3,7 +3,7 @@ use Rattle.std.proofs.Common.{◌≡◌, ◌≢◌, ℕ, ◌+◌, ◌≤◌, Lis
 use Rattle.std.specs.Prelude.{filter, Bool, nat_eq}
 use Rattle.std.proofs.lemmas.Bool.{cases_eq}
 use Rattle.std.proofs.lemmas.Bool.Decides.{nat_tests}
-use Rattle.span_arena.specs.declared.version.Version.{Version}
+use Rattle.span_arena.specs.declared.version.ArenaVersion.{ArenaVersion}
 use Rattle.span_arena.specs.Content.{Content, IsNewChain}
 use Rattle.span_keytree.specs.Entries.{KeyEntry}
 use Rattle.span_keytree.specs.Items.{holders}
@@ -27,7 +27,7 @@ none_held : (c : ℕ) (b : Bool) → holders c [] ≡ cond b (holders c []) 0
 none_held c true = refl
 none_held c false = refl
 
-pub at_most_one : (o : Option (List Version)) → one_if_chain o ≤ 1
+pub at_most_one : (o : Option (List ArenaVersion)) → one_if_chain o ≤ 1
 at_most_one None = omega arith
 at_most_one (Some vs) = omega arith
 

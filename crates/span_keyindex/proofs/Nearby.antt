@@ -7,7 +7,7 @@ use Rattle.std.proofs.lemmas.Bool.{cases_eq}
 use Rattle.std.proofs.lemmas.List.Elements.{All-from_recursion, Contains-append_right}
 use Rattle.span_keycode.specs.Order.{byte_order}
 use Rattle.span_arena.specs.declared.cell.Cell.{Cell}
-use Rattle.span_arena.specs.declared.version.Version.{Version}
+use Rattle.span_arena.specs.declared.version.ArenaVersion.{ArenaVersion}
 use Rattle.span_arena.specs.Cells.{cell_at}
 use Rattle.span_arena.specs.Content.{Content}
 use Rattle.span_keyindex.specs.declared.index.KeyIndex.{KeyIndex}
@@ -40,7 +40,7 @@ holder b (e ∷ es) some = elim (cases_eq e.chain.number b) [
       record { front = e ∷ rest.front; here = rest.here; back = rest.back; is = ap (λ (l : List KeyEntry). e ∷ l) rest.is; number = rest.number })
 ]
 
-some_chain : (o : Option (List Version)) → is_some o ≡ true → one_if_chain o ≡ 1
+some_chain : (o : Option (List ArenaVersion)) → is_some o ≡ true → one_if_chain o ≡ 1
 some_chain None is = absurd (let e : false ≡ true = is in cc)
 some_chain (Some vs) is = refl
 

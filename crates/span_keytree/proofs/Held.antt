@@ -1,6 +1,6 @@
 -- The cells of a tree are those of chains.
 use Rattle.std.proofs.Common.{◌≡◌, ℕ, ◌<◌, ◌≤◌, List, refl, arith, get_or, Option, Some, None}
-use Rattle.span_arena.specs.declared.version.Version.{Version}
+use Rattle.span_arena.specs.declared.version.ArenaVersion.{ArenaVersion}
 use Rattle.span_arena.specs.Content.{Content, IsChain}
 use Rattle.span_keytree.specs.declared.tree.TreeRoot.{TreeRoot}
 use Rattle.span_keytree.specs.Arenas.{one_if_chain, IsArenaOf}
@@ -10,7 +10,7 @@ use Rattle.span_keytree.specs.Puts.{AreChains}
 use Rattle.span_keytree.specs.Roots.{tree_of, entries_at}
 use Rattle.span_keytree.proofs.Linking.{held_items}
 
-pub is_some_chain : (o : Option (List Version)) → 1 ≤ one_if_chain o → (vs : List Version) × (o ≡ Some vs)
+pub is_some_chain : (o : Option (List ArenaVersion)) → 1 ≤ one_if_chain o → (vs : List ArenaVersion) × (o ≡ Some vs)
 is_some_chain None h = absurd (omega arith)
 is_some_chain (Some vs) h = (vs, refl)
 

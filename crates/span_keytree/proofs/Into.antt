@@ -6,7 +6,7 @@ use Rattle.span_keycode.specs.Order.{byte_order}
 use Rattle.span_arena.specs.declared.cell.Cell.{Cell}
 use Rattle.span_arena.specs.declared.cell.Links.{Links}
 use Rattle.span_arena.specs.declared.cell.Balance.{Balance}
-use Rattle.span_arena.specs.declared.version.Version.{Version}
+use Rattle.span_arena.specs.declared.version.ArenaVersion.{ArenaVersion}
 use Rattle.span_arena.specs.Cells.{cell_at}
 use Rattle.span_arena.specs.Content.{Content, IsNewChain}
 use Rattle.span_arena.specs.Counts.{Count}
@@ -47,7 +47,7 @@ module _ (cs : List Cell) (levels : ℕ) (at : Option ℕ) (i : ℕ) (ls : Links
 
 -- ---- a chain is a cell of the tree
 
-chain_one : (o : Option (List Version)) → is_some o ≡ true → one_if_chain o ≡ 1
+chain_one : (o : Option (List ArenaVersion)) → is_some o ≡ true → one_if_chain o ≡ 1
 chain_one None is = absurd (let q : false ≡ true = is in cc)
 chain_one (Some vs) is = refl
 

@@ -1,11 +1,11 @@
 -- The arena of an index: its chains are those of the keys.
 use Rattle.std.specs.Prelude.{◌≡◌, ℕ, List, not, filter, length, Option, Some, None, slice_index_or, if◌then◌else◌}
 use Rattle.span_arena.specs.Content.{Content, is_unused}
-use Rattle.span_arena.specs.declared.version.Version.{Version}
+use Rattle.span_arena.specs.declared.version.ArenaVersion.{ArenaVersion}
 use Rattle.span_keytree.specs.Entries.{KeyEntry}
 use Rattle.span_keytree.specs.Items.{holders}
 
-abbrev pub one_if_chain : Option (List Version) → ℕ
+abbrev pub one_if_chain : Option (List ArenaVersion) → ℕ
 one_if_chain None = 0
 one_if_chain (Some vs) = 1
 

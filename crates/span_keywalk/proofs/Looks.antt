@@ -1,10 +1,10 @@
 -- A number that is looked at is that of a chain.
 use Rattle.std.proofs.Common.{◌≡◌, ℕ, List, refl, Option, Some, None, get_or, true, false}
 use Rattle.std.specs.Prelude.{is_some}
-use Rattle.span_arena.specs.declared.version.Version.{Version}
+use Rattle.span_arena.specs.declared.version.ArenaVersion.{ArenaVersion}
 use Rattle.span_arena.specs.Content.{Content, IsChain}
 
-has_versions : (o : Option (List Version)) → is_some o ≡ true → (vs : List Version) × (o ≡ Some vs)
+has_versions : (o : Option (List ArenaVersion)) → is_some o ≡ true → (vs : List ArenaVersion) × (o ≡ Some vs)
 has_versions None is = absurd (let e : false ≡ true = is in cc)
 has_versions (Some vs) is = (vs, refl)
 

@@ -7,7 +7,7 @@ use Rattle.std.proofs.lemmas.Bool.{cases_lt, cases_eq}
 use Rattle.std.proofs.lemmas.Bool.Decides.{nat_tests}
 use Rattle.std.proofs.lemmas.List.{length-map}
 use Rattle.std.proofs.lemmas.List.Sums.{sum_by-cons}
-use Rattle.span_arena.specs.declared.version.Version as arena
+use Rattle.span_arena.specs.declared.version.ArenaVersion.{ArenaVersion}
 use Rattle.span_arena.specs.Content.{Content, Prepared, versions_in, prepared_for, one_for, one_if, count_versions, count_prepared, IsInOrder}
 use Rattle.span_arena.specs.Content as content
 use Rattle.span_arena.proofs.Keeping.{chain_in_range}
@@ -120,13 +120,13 @@ entries_sum es a g own none =
     entries_picked g (length a.chains) (λ c ge. none c (get_or-eq_default a.chains None ge)) es
     ∙ sum-same (picked g es) g (λ c. each c (get_or a.chains c None) refl (own.each c)) (length a.chains)
   where
-    each : (c : ℕ) (o : Option (List arena.Version)) → get_or a.chains c None ≡ o → holders c es ≡ one_if_chain (get_or a.chains c None) → picked g es c ≡ g c
+    each : (c : ℕ) (o : Option (List ArenaVersion)) → get_or a.chains c None ≡ o → holders c es ≡ one_if_chain (get_or a.chains c None) → picked g es c ≡ g c
     each c None is held = picked_none g c es (held ∙ ap one_if_chain is) ∙ sym (none c is)
     each c (Some vs) is held = picked_once g c es (held ∙ ap one_if_chain is)
 
 -- ---- versions
 
-versions_sum : (cs : List (Option (List arena.Version))) → sum_below (λ c. length (versions_in (get_or cs c None))) (length cs) ≡ count_versions cs
+versions_sum : (cs : List (Option (List ArenaVersion))) → sum_below (λ c. length (versions_in (get_or cs c None))) (length cs) ≡ count_versions cs
 unfolding sum_below
 versions_sum [] = refl
 versions_sum (x ∷ xs) = sum-first (λ c. length (versions_in (get_or (x ∷ xs) c None))) (length xs) ∙ ap (λ n. length (versions_in x) + n) (versions_sum xs)
@@ -187,7 +187,7 @@ module _ (es : List KeyEntry) (a : Content) (ps : List PreparedNode) (stored : I
   nothing : (c : ℕ) → get_or a.chains c None ≡ None → weight c ≡ 0
   unfolding weight
   nothing c none =
-      let v : length (versions_in (get_or a.chains c None)) ≡ 0 = ap (λ (o : Option (List arena.Version)). length (versions_in o)) none in
+      let v : length (versions_in (get_or a.chains c None)) ≡ 0 = ap (λ (o : Option (List ArenaVersion)). length (versions_in o)) none in
       omega (arith, v, stored.owned.counted c, no_chain a c ps none stored.owned.nodes)
 
   weights : sum_below weight (length a.chains) ≡ content.live a

@@ -5,7 +5,7 @@ use Rattle.std.specs.List.{AllByRecursion}
 use Rattle.std.proofs.lemmas.Bool.{cases_eq}
 use Rattle.std.proofs.lemmas.List.{get_or-set_same, get_or-set_other, append-nil}
 use Rattle.span_arena.specs.declared.token.Chain.{Chain}
-use Rattle.span_arena.specs.declared.version.Version as arena
+use Rattle.span_arena.specs.declared.version.ArenaVersion.{ArenaVersion}
 use Rattle.span_arena.specs.Content.{Content, Prepared, versions, versions_in, prepared_at, prepared_for, IsChain, kept_at, kept_upto, trimmed}
 use Rattle.span_arena.proofs.Keeping.{chain_in_range}
 use Rattle.span_keytree.specs.Arenas.{HasSameChains}
@@ -24,7 +24,7 @@ use Rattle.span_store.proofs.Owned.{write-same, kept_equal}
 use Rattle.span_store.proofs.Seeing.{chains_left, first_chain}
 
 -- what was kept is kept
-kept_again : (h : ℕ) (vs : List arena.Version) → kept_upto h (kept_upto h vs) ≡ kept_upto h vs
+kept_again : (h : ℕ) (vs : List ArenaVersion) → kept_upto h (kept_upto h vs) ≡ kept_upto h vs
 kept_again h [] = refl
 kept_again h (v ∷ vs) = cases (nat_le v.timestamp h) refl (kept_again h vs)
   where
@@ -34,10 +34,10 @@ kept_again h (v ∷ vs) = cases (nat_le v.timestamp h) refl (kept_again h vs)
 
     cases : (b : Bool) → nat_le v.timestamp h ≡ b → kept_upto h (kept_upto h vs) ≡ kept_upto h vs → kept_upto h (cond b (kept_at v v.image) (v ∷ kept_upto h vs)) ≡ cond b (kept_at v v.image) (v ∷ kept_upto h vs)
     cases true is again = one v.image refl is
-    cases false is again = ap (λ b. cond b (kept_at v v.image) (v ∷ kept_upto h (kept_upto h vs))) is ∙ ap (λ (l : List arena.Version). v ∷ l) again
+    cases false is again = ap (λ b. cond b (kept_at v v.image) (v ∷ kept_upto h (kept_upto h vs))) is ∙ ap (λ (l : List ArenaVersion). v ∷ l) again
 
 -- what is kept of the arena's versions, as the shard has them
-kept_mapped : (h : ℕ) (vs : List arena.Version) → map version_of (kept_upto h vs) ≡ seen.kept_upto h (map version_of vs)
+kept_mapped : (h : ℕ) (vs : List ArenaVersion) → map version_of (kept_upto h vs) ≡ seen.kept_upto h (map version_of vs)
 kept_mapped h [] = refl
 kept_mapped h (v ∷ vs) = cases (nat_le v.timestamp h) (kept_mapped h vs)
   where

@@ -6,7 +6,7 @@ use Rattle.std.proofs.lemmas.Bool.{cases_eq}
 use Rattle.std.proofs.lemmas.Bool.Decides.{nat_tests}
 use Rattle.std.proofs.lemmas.List.{get_or-set_same, get_or-set_other, take_more, append-nil, take_all, drop_all}
 use Rattle.std.proofs.lemmas.List.Elements.{filter-append}
-use Rattle.span_arena.specs.declared.version.Version as arena
+use Rattle.span_arena.specs.declared.version.ArenaVersion.{ArenaVersion}
 use Rattle.span_arena.specs.Content.{Content, Prepared, versions, versions_in, prepared_at, IsSomePrepared, IsChain, given_back, linked, linked_as}
 use Rattle.span_arena.specs.Order.{IsLater}
 use Rattle.span_arena.specs.Order as order
@@ -53,13 +53,13 @@ ended-here : (a : Content) (c n : ℕ) (image : Option (List ℕ)) (committed : 
 ended-here a c n image None chain e = refl
 ended-here a c n image (Some ts) chain e =
     ap (λ (o : Option Prepared). chain_versions (linked_as a n ts o) c) e
-    ∙ ap (λ (o : Option (List arena.Version)). map version_of (versions_in o)) (get_or-set_same a.chains c (Some ((record { timestamp = ts; image = image }) ∷ versions a c)) None (chain_in_range a c chain))
+    ∙ ap (λ (o : Option (List ArenaVersion)). map version_of (versions_in o)) (get_or-set_same a.chains c (Some ((record { timestamp = ts; image = image }) ∷ versions a c)) None (chain_in_range a c chain))
 
 ended-elsewhere : (a : Content) (c n d : ℕ) (image : Option (List ℕ)) (committed : Option ℕ) → c ≢ d → prepared_at a n ≡ Some (record { chain = c; image = image }) → chain_versions (ended a n committed) d ≡ chain_versions a d
 ended-elsewhere a c n d image None differs e = refl
 ended-elsewhere a c n d image (Some ts) differs e =
     ap (λ (o : Option Prepared). chain_versions (linked_as a n ts o) d) e
-    ∙ ap (λ (o : Option (List arena.Version)). map version_of (versions_in o)) (get_or-set_other a.chains c d (Some ((record { timestamp = ts; image = image }) ∷ versions a c)) None (λ f. differs (sym f)))
+    ∙ ap (λ (o : Option (List ArenaVersion)). map version_of (versions_in o)) (get_or-set_other a.chains c d (Some ((record { timestamp = ts; image = image }) ∷ versions a c)) None (λ f. differs (sym f)))
 
 -- the write of the transaction is ended, once
 applied_own : (txn : ℕ) (committed : Option ℕ) (w : PreparedWrite) (key : List ℕ) (vs : List Version) → w.txn ≡ txn
@@ -70,7 +70,7 @@ applied_own txn committed w key vs e =
 
 -- ---- the commit timestamp is later
 
-pub same_timestamps : (vs : List arena.Version) → timestamps (map version_of vs) ≡ order.timestamps vs
+pub same_timestamps : (vs : List ArenaVersion) → timestamps (map version_of vs) ≡ order.timestamps vs
 same_timestamps [] = refl
 same_timestamps (v ∷ vs) = ap (λ (ts : List ℕ). v.timestamp ∷ ts) (same_timestamps vs)
 

@@ -3,7 +3,7 @@ use Rattle.std.proofs.Common.{◌≡◌, ℕ, ◌+◌, ◌<◌, List, [], ◌∷
 use Rattle.std.specs.List.{AllByRecursion}
 use Rattle.std.proofs.lemmas.Bool.{cases_eq}
 use Rattle.std.proofs.lemmas.Bool.Decides.{nat_tests}
-use Rattle.span_arena.specs.declared.version.Version as arena
+use Rattle.span_arena.specs.declared.version.ArenaVersion.{ArenaVersion}
 use Rattle.span_arena.specs.Content.{Content, versions, versions_in}
 use Rattle.span_arena.specs.Order.{AreFalling, AreInTimeOrder}
 use Rattle.span_arena.proofs.Falling.{first_is_last}
@@ -37,9 +37,9 @@ pub later_ends : (txn : ℕ) (committed : Option ℕ) (es : List KeyEntry) (a : 
 later_ends txn None es a ps own later c = tt
 later_ends txn (Some ts) es a ps own later c = by_chain (get_or a.chains c None) refl
   where
-    by_chain : (o : Option (List arena.Version)) → get_or a.chains c None ≡ o → IsLaterWrite txn ts (chain_versions a c) (write_for a ps c)
-    by_chain None e = subst (λ (o : Option (List arena.Version)). IsLaterWrite txn ts (map version_of (versions_in o)) (write_for a ps c)) (sym e) (of_none txn ts (write_for a ps c))
-    by_chain (Some vs) e = of_holder txn ts a ps es c later (let n : holders c es ≡ 1 = subst (λ (o : Option (List arena.Version)). holders c es ≡ one_if_chain o) e (own.each c) in omega arith)
+    by_chain : (o : Option (List ArenaVersion)) → get_or a.chains c None ≡ o → IsLaterWrite txn ts (chain_versions a c) (write_for a ps c)
+    by_chain None e = subst (λ (o : Option (List ArenaVersion)). IsLaterWrite txn ts (map version_of (versions_in o)) (write_for a ps c)) (sym e) (of_none txn ts (write_for a ps c))
+    by_chain (Some vs) e = of_holder txn ts a ps es c later (let n : holders c es ≡ 1 = subst (λ (o : Option (List ArenaVersion)). holders c es ≡ one_if_chain o) e (own.each c) in omega arith)
 
 -- the versions of each key fall as those of its chain do
 pub keys_fall : (a : Content) (ps : List PreparedNode) (es : List KeyEntry) → AreInTimeOrder a → HaveFallingVersions (all_kept a ps es)

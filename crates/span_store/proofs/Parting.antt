@@ -5,7 +5,7 @@ use Rattle.std.specs.List.{AllByRecursion}
 use Rattle.std.specs.Ordering.{is_lt}
 use Rattle.std.proofs.lemmas.Bool.{not-true}
 use Rattle.span_keycode.specs.Order.{byte_order}
-use Rattle.span_arena.specs.declared.version.Version as arena
+use Rattle.span_arena.specs.declared.version.ArenaVersion.{ArenaVersion}
 use Rattle.span_arena.specs.Limits.{most_nodes}
 use Rattle.span_arena.specs.Content.{Content, Prepared, versions, versions_in, prepared_at, prepared_for}
 use Rattle.span_keyindex.specs.declared.index.KeyIndex.{KeyIndex}
@@ -82,7 +82,7 @@ part_keys key a b c d ps es fs keys moved idle =
     ∙ sym (filter-map (λ (k : KeyVersions). not (is_lt (byte_order k.key key))) (kept_entry a ps) es)
 
 pub none_still : (a b : Content) → b.chains ≡ a.chains → ((x : ℕ) → versions a x ≡ []) → (x : ℕ) → versions b x ≡ []
-none_still a b same none x = ap (λ (cs : List (Option (List arena.Version))). versions_in (get_or cs x None)) same ∙ none x
+none_still a b same none x = ap (λ (cs : List (Option (List ArenaVersion))). versions_in (get_or cs x None)) same ∙ none x
 
 pub part_kept : (key : List ℕ) (es : List KeyEntry) (fs : List KeyEntry) (n : ℕ) (part : KeyIndex) (a b before c d : Content) → IsPartFrom key es a.most part before → AreReserved n before c → AreMoved (entries_from key es) fs a b c d → a.most ≡ most_nodes
     → IsKept part d []

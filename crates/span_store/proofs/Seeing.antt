@@ -3,7 +3,7 @@ use Rattle.std.proofs.Common.{◌≡◌, ◌<◌, ℕ, zero, suc, arith, Bool, t
 use Rattle.std.specs.Prelude.{filter, length, nat_le, option_and_then, option_map, All}
 use Rattle.std.specs.List.{filter_map, cons_option}
 use Rattle.span_keycode.specs.declared.range.KeyRange.{KeyRange}
-use Rattle.span_arena.specs.declared.version.Version as arena
+use Rattle.span_arena.specs.declared.version.ArenaVersion.{ArenaVersion}
 use Rattle.span_arena.specs.Content.{Content, newest_upto, IsChain}
 use Rattle.span_keytree.specs.Entries.{entries_in, entries_under, KeyEntry}
 use Rattle.span_keywalk.specs.Walks.{short_entries}
@@ -16,15 +16,15 @@ use Rattle.span_store.specs.Versions.{newest_at, row_at}
 use Rattle.span_store.specs.Reads.{KeyRow, is_within, seen_at, snapshot, versions_alone, versions_alone_at, seen_entry, has_short_key}
 use Rattle.span_store.specs.Stored.{version_of, chain_versions, kept_entry, all_kept}
 
-pub row_found : (vs : List arena.Version) (s : ℕ) (v : arena.Version) → newest_upto s vs ≡ Some v → row_at (map version_of vs) s ≡ v.image
+pub row_found : (vs : List ArenaVersion) (s : ℕ) (v : ArenaVersion) → newest_upto s vs ≡ Some v → row_at (map version_of vs) s ≡ v.image
 row_found [] s v e = absurd (let f : None ≡ Some v = e in cc)
 row_found (x ∷ xs) s v e = cases (nat_le x.timestamp s) (row_found xs s v) e
   where
     cases : (b : Bool) → (newest_upto s xs ≡ Some v → row_at (map version_of xs) s ≡ v.image) → cond b (Some x) (newest_upto s xs) ≡ Some v → option_and_then (λ (y : Version). y.row) (cond b (Some (version_of x)) (newest_at (map version_of xs) s)) ≡ v.image
-    cases true again f = let same : x ≡ v = cc in ap (λ (y : arena.Version). y.image) same
+    cases true again f = let same : x ≡ v = cc in ap (λ (y : ArenaVersion). y.image) same
     cases false again f = again f
 
-pub row_missing : (vs : List arena.Version) (s : ℕ) → newest_upto s vs ≡ None → row_at (map version_of vs) s ≡ None
+pub row_missing : (vs : List ArenaVersion) (s : ℕ) → newest_upto s vs ≡ None → row_at (map version_of vs) s ≡ None
 row_missing [] s e = refl
 row_missing (x ∷ xs) s e = cases (nat_le x.timestamp s) (row_missing xs s) e
   where

@@ -12,7 +12,7 @@ use Rattle.std.proofs.lemmas.List.{map-append}
 use Rattle.std.proofs.lemmas.List.Elements.{filter-append}
 use Rattle.std.proofs.lemmas.Map.Lookups.{exact_bytes}
 use Rattle.span_keycode.specs.Order.{byte_order}
-use Rattle.span_arena.specs.declared.version.Version as arena
+use Rattle.span_arena.specs.declared.version.ArenaVersion.{ArenaVersion}
 use Rattle.span_arena.specs.declared.token.Chain.{Chain}
 use Rattle.span_arena.specs.Content as content
 use Rattle.span_arena.specs.Content.{Content, Prepared, versions, versions_in, prepared_for, IsNewChain}
@@ -222,7 +222,7 @@ module _ (es : List KeyEntry) (a b : Content) (ps : List PreparedNode) (key : Li
 
   nothing : kept_entry b ps (entry key chain) ≡ record { key = key; versions = []; prepared = None }
   nothing = kept_equal key (chain_versions b chain.number) [] (write_for b ps chain.number) None
-      (ap (λ (o : Option (List arena.Version)). map version_of (versions_in o)) (is_new_chain a b chain.number new))
+      (ap (λ (o : Option (List ArenaVersion)). map version_of (versions_in o)) (is_new_chain a b chain.number new))
       (write-none b chain.number ps (sym (owned.counted chain.number) ∙ new.none_prepared))
 
   mapped_parts : all_kept a ps es ≡ map (kept_entry a ps) (filter (before key) es) ++ map (kept_entry a ps) (filter (later key) es)
@@ -294,7 +294,7 @@ module _ (es fs gs : List KeyEntry) (a b c d : Content) (ps qs : List PreparedNo
 
 -- ---- the write is prepared there
 
-at_most_one : (o : Option (List arena.Version)) → one_if_chain o ≤ 1
+at_most_one : (o : Option (List ArenaVersion)) → one_if_chain o ≤ 1
 at_most_one None = omega arith
 at_most_one (Some vs) = omega arith
 
@@ -311,7 +311,7 @@ module _ (es fs : List KeyEntry) (a b d : Content) (ps qs : List PreparedNode) (
       (omega (arith, holders-append chain.number slot.front (entry key chain ∷ slot.back), own.each chain.number), omega (arith, holders-append chain.number slot.front (entry key chain ∷ slot.back), own.each chain.number))
 
   chains_are : (c : ℕ) → chain_versions d c ≡ chain_versions b c
-  chains_are c = ap (λ (cs : List (Option (List arena.Version))). map version_of (versions_in (get_or cs c None))) put.chains
+  chains_are c = ap (λ (cs : List (Option (List ArenaVersion))). map version_of (versions_in (get_or cs c None))) put.chains
 
   other : (e : KeyEntry) → nat_eq e.chain.number chain.number ≡ false → kept_entry d qs e ≡ kept_entry a ps e
   other e apart_from =

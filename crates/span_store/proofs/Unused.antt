@@ -3,7 +3,7 @@ use Rattle.std.proofs.Common.{◌≡◌, ℕ, suc, ◌+◌, ◌≤◌, nat_eq, B
 use Rattle.std.specs.Prelude.{filter, is_some}
 use Rattle.std.specs.List.{AllByRecursion}
 use Rattle.std.proofs.lemmas.Bool.Decides.{nat_tests}
-use Rattle.span_arena.specs.declared.version.Version as arena
+use Rattle.span_arena.specs.declared.version.ArenaVersion.{ArenaVersion}
 use Rattle.span_arena.specs.Content.{Content, Prepared, versions, versions_in, prepared_at, prepared_for, one_for, is_unused}
 use Rattle.span_arena.proofs.Counts.{one_for-at, one_for-same}
 use Rattle.span_keytree.specs.Arenas.{in_use, IsWithoutUnused}
@@ -39,7 +39,7 @@ nothing_for a c (p ∷ ps) = cases (is_for c p) (nothing_for a c ps)
         zero_more : (n : ℕ) → nat_eq (0 + n) 0 ≡ nat_eq n 0
         zero_more n = ap (λ m. nat_eq m 0) (let e : 0 + n ≡ n = omega arith in e)
 
-empty_is : (vs : List arena.Version) → nat_eq (length vs) 0 ≡ is_empty (map version_of vs)
+empty_is : (vs : List ArenaVersion) → nat_eq (length vs) 0 ≡ is_empty (map version_of vs)
 empty_is [] = refl
 empty_is (v ∷ vs) = some (length vs)
   where
@@ -81,7 +81,7 @@ module _ (es : List KeyEntry) (a b : Content) (ps : List PreparedNode) (owned : 
   key_is e used =
       let f : is_unused a e.chain.number ≡ false = not_true (is_unused a e.chain.number) used in
       kept_equal e.key (chain_versions b e.chain.number) (chain_versions a e.chain.number) (write_for b ps e.chain.number) (write_for a ps e.chain.number)
-      (ap (λ (o : Option (List arena.Version)). map version_of (versions_in o)) (chain_is e.chain.number f))
+      (ap (λ (o : Option (List ArenaVersion)). map version_of (versions_in o)) (chain_is e.chain.number f))
       (write-same a b e.chain.number ps stay)
     where
       not_true : (t : Bool) → not t ≡ true → t ≡ false

@@ -7,7 +7,7 @@ use Rattle.span_value.specs.declared.refusal.Refusal.TheVariants.{OutOfMemory, S
 use Rattle.span_arena.specs.Content.{Content, Prepared, versions, prepared_at, prepared_for, IsChain, IsPrepared, IsInOrder, live, linked, given_back, kept_upto}
 use Rattle.span_arena.specs.Order.{IsLaterFor}
 use Rattle.span_arena.specs.Limits.{most_nodes}
-use Rattle.span_arena.specs.declared.version.Version as arena
+use Rattle.span_arena.specs.declared.version.ArenaVersion.{ArenaVersion}
 use Rattle.span_keytree.specs.Arenas.{IsArenaOf, HasSameChains}
 use Rattle.span_keyindex.specs.Indexes.{IsIndexOf}
 use Rattle.span_keyindex.specs.declared.index.KeyIndex.{KeyIndex}
@@ -20,7 +20,7 @@ use Rattle.span_store.specs.KeyVersions.{KeyVersions}
 use Rattle.span_store.specs.Versions.{applied_to_key, IsLaterWrite}
 
 -- a version of the arena
-abbrev pub version_of : arena.Version → Version
+abbrev pub version_of : ArenaVersion → Version
 version_of v = record { timestamp = v.timestamp; row = v.image }
 
 -- the versions of a chain

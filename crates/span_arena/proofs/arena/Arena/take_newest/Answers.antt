@@ -1,6 +1,6 @@
 use Rattle.std.proofs.Common.{◌≡◌, ◌<◌, ◌-◌, ◌∷◌, ℕ, List, Option, arith, refl, sym, ◌∙◌, ap, subst, length-set}
 use Rattle.std.proofs.lemmas.List.{get_or_default}
-use Rattle.span_arena.specs.declared.version.Version.{Version}
+use Rattle.span_arena.specs.declared.version.ArenaVersion.{ArenaVersion}
 use Rattle.span_arena.specs.Content.{Content, versions}
 use Rattle.span_arena.specs.Order.{AreInTimeOrder}
 use Rattle.span_arena.specs.Images.{image_of}
@@ -12,7 +12,7 @@ use Rattle.span_arena.proofs.Spares.{are_spare-used}
 use Rattle.span_arena.proofs.Taking.{take_in_range, take_sound, take_content, front_is}
 use Rattle.span_arena.proofs.arena.Arena.take_newest.Goals as goal
 
-abbrev made : ℕ → Option (List ℕ) → Version
+abbrev made : ℕ → Option (List ℕ) → ArenaVersion
 made timestamp image = record { timestamp = timestamp; image = image }
 
 pub index_mut-cell-requires : goal.index_mut-cell-requires
@@ -72,6 +72,6 @@ returns c =
     let version : version_of (f newest) ≡ made c.index_mut-cell.result.now.timestamp c.join_image.result = ap version_of (sym e) ∙ ap (made c.index_mut-cell.result.now.timestamp) (sym image) in
     record {
       rest = walk f (c.in-Used.links.count - 1) (f newest).next;
-      was = ap (λ (a : Content). versions a c.args.chain.number) (sym c.self.view_is) ∙ front_is i.nodes.items i.chains.items i.free i.free_count i.most i.cells c.self.invariant.sound c.args.chain.number c.in-Used.links used some ∙ ap (λ (v : Version). v ∷ walk f (c.in-Used.links.count - 1) (f newest).next) version;
+      was = ap (λ (a : Content). versions a c.args.chain.number) (sym c.self.view_is) ∙ front_is i.nodes.items i.chains.items i.free i.free_count i.most i.cells c.self.invariant.sound c.args.chain.number c.in-Used.links used some ∙ ap (λ (v : ArenaVersion). v ∷ walk f (c.in-Used.links.count - 1) (f newest).next) version;
       now = rw (← c.self.view_is, e) (take_content i.nodes.items i.chains.items i.free i.free_count i.most i.cells c.self.invariant.sound c.args.chain.number c.in-Used.links used some _ refl refl);
     }

@@ -1,6 +1,6 @@
 use Rattle.std.proofs.Common.{◌≡◌, ◌<◌, ◌+◌, ◌-◌, ◌++◌, ◌∷◌, [], ℕ, List, Option, arith, length, refl, sym, ◌∙◌, ap, subst, length-set}
 use Rattle.std.proofs.lemmas.List.{get_or_default}
-use Rattle.span_arena.specs.declared.version.Version.{Version}
+use Rattle.span_arena.specs.declared.version.ArenaVersion.{ArenaVersion}
 use Rattle.span_arena.specs.declared.record.NodeRecord.{NodeRecord}
 use Rattle.span_arena.specs.declared.record.ChainRecord.{ChainRecord}
 use Rattle.span_arena.specs.declared.record.NodeUse.TheVariants.{Linked}
@@ -16,7 +16,7 @@ use Rattle.span_arena.proofs.Spares.{are_spare-used}
 use Rattle.span_arena.proofs.Taking.{loose_linked, versions_here}
 use Rattle.span_arena.proofs.arena.Arena.take_versions.Goals as goal
 
-abbrev made : ℕ → Option (List ℕ) → Version
+abbrev made : ℕ → Option (List ℕ) → ArenaVersion
 made timestamp image = record { timestamp = timestamp; image = image }
 
 pub loop-version-init : goal.loop-version-init
@@ -74,7 +74,7 @@ loop-version-preserved c =
       cells = inv.cells;
       few = inv.few;
       same = rw k (fill_content j.nodes.items j.chains.items j.free j.free_count j.most c.args.chain.number c.loop-version.count i.free inv.filling some x refl j.cells (j.free_count + c.loop-version.count) ∙ inv.same);
-      emptied = subst (λ (l : List Version). IsEmptied c.args.from.now c.take_newest.new.self c.args.source.number l) (sym (fill_walk j.nodes.items j.chains.items j.free j.free_count j.most c.args.chain.number c.loop-version.count i.free inv.filling some x refl inv.end ∙ ap (λ (v : Version). walk (node_at j.nodes.items) c.loop-version.count i.free ++ v ∷ []) version))
+      emptied = subst (λ (l : List ArenaVersion). IsEmptied c.args.from.now c.take_newest.new.self c.args.source.number l) (sym (fill_walk j.nodes.items j.chains.items j.free j.free_count j.most c.args.chain.number c.loop-version.count i.free inv.filling some x refl inv.end ∙ ap (λ (v : ArenaVersion). walk (node_at j.nodes.items) c.loop-version.count i.free ++ v ∷ []) version))
           (emptying_more c.args.from.now c.loop-version.from c.take_newest.new.self c.args.source.number _ c.in-Some.version inv.emptied c.in-Some.ensures);
       room = omega (arith, less, inv.room, some);
     }
