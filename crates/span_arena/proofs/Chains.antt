@@ -1,6 +1,5 @@
 -- Chains and their records.
-use Rattle.std.proofs.Common.{◌≡◌, ◌≢◌, ℕ, zero, suc, ◌+◌, ◌<◌, ◌≤◌, List, [], ◌∷◌, refl, sym, ◌∙◌, ap, arith, length, map, Option, Some, None, get_or, set, inl, inr, false}
-use Rattle.std.specs.Prelude.{is_some}
+use Rattle.std.proofs.Common.{◌≡◌, ◌≢◌, ℕ, zero, suc, ◌+◌, ◌<◌, List, [], ◌∷◌, refl, sym, ◌∙◌, ap, arith, length, map, Option, Some, None, get_or, set, inl, inr}
 use Rattle.std.proofs.lemmas.List.{get_or-set_other, get_or-set_same, get_or_default}
 use Rattle.std.proofs.Math.Seq.{map-set_same}
 use Rattle.std.proofs.lemmas.Bool.{cases_eq}
@@ -10,7 +9,7 @@ use Rattle.span_arena.specs.declared.record.ChainRecord.{ChainRecord}
 use Rattle.span_arena.specs.declared.record.ChainRecord.TheVariants as chain
 use Rattle.span_arena.specs.declared.record.VersionLinks.{VersionLinks}
 use Rattle.span_arena.specs.Content.{Prepared, versions_in, one_for, prepared_for}
-use Rattle.span_arena.specs.Runs.{walk, IsRun, chain_of, record_at, links_at, links_of, is_used, no_record}
+use Rattle.span_arena.specs.Runs.{walk, IsRun, chain_of, record_at, links_at, links_of, no_record}
 
 of_record : (f : ℕ → NodeRecord) (r : ChainRecord) → versions_in (chain_of f r) ≡ walk f (links_of r).count (links_of r).newest
 of_record f (chain.Free next k) = refl
@@ -37,21 +36,6 @@ pub chain_at : (f : ℕ → NodeRecord) (rs : List ChainRecord) (c : ℕ) (l : V
 chain_at f [] c l h = absurd (let q : chain.Free 0 0 ≡ chain.Used l = h in cc)
 chain_at f (r ∷ rs) zero l h = ap (chain_of f) h
 chain_at f (r ∷ rs) (suc c) l h = chain_at f rs c l h
-
-used_is_some : (f : ℕ → NodeRecord) (r : ChainRecord) → is_some (chain_of f r) ≡ is_used r
-used_is_some f (chain.Free next k) = refl
-used_is_some f (chain.Used l) = refl
-
--- whether a number is that of a chain: of one that was read, and of one past the end
-pub used_here : (f : ℕ → NodeRecord) (rs : List ChainRecord) (c : ℕ) (r : ChainRecord) → c < length rs → r ≡ get_or rs c r → is_used r ≡ is_some (get_or (map (chain_of f) rs) c None)
-used_here f [] c r lt read = absurd (omega arith)
-used_here f (x ∷ xs) zero r lt read = ap is_used read ∙ sym (used_is_some f x)
-used_here f (x ∷ xs) (suc c) r lt read = used_here f xs c r (omega arith) read
-
-pub used_past : (f : ℕ → NodeRecord) (rs : List ChainRecord) (c : ℕ) → length rs ≤ c → false ≡ is_some (get_or (map (chain_of f) rs) c None)
-used_past f [] c ge = refl
-used_past f (x ∷ xs) zero ge = absurd (omega arith)
-used_past f (x ∷ xs) (suc c) ge = used_past f xs c (omega arith)
 
 pub used_in_range : (rs : List ChainRecord) (c : ℕ) (l : VersionLinks) → record_at rs c ≡ chain.Used l → c < length rs
 used_in_range [] c l h = absurd (let q : chain.Free 0 0 ≡ chain.Used l = h in cc)

@@ -152,9 +152,6 @@ are_spare-push rs m h k none spare = record {
 pub cells_set : (cs : List Cell) (i : ℕ) (x y : Cell) → i < length cs → x ≡ y → set cs i x ≡ with_at cs i y
 cells_set cs i x y lt same = let t : nat_lt i (length cs) ≡ true = grind (arith, nat_tests) in rw (t, same) refl
 
-pub cells_push : (cs : List Cell) (i : ℕ) (x y : Cell) → i ≡ length cs → x ≡ y → cs ++ x ∷ [] ≡ with_at cs i y
-cells_push cs i x y is same = let t : nat_lt i (length cs) ≡ false = grind (arith, nat_tests) in rw (t, same) refl
-
 -- the cells are few enough still: where one was written, and where one was added to few enough
 pub few-set : (cs : List Cell) (i : ℕ) (x : Cell) → length cs ≤ most_chains → length (set cs i x) ≤ most_chains
 few-set cs i x few = rw (length-set cs i x) few

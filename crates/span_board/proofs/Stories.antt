@@ -12,7 +12,7 @@ use Rattle.span_board.specs.declared.begun.Begun.{Begun}
 use Rattle.span_board.specs.declared.board.Role.{Role}
 use Rattle.span_board.specs.declared.board.Role.TheVariants.{Client}
 use Rattle.span_board.specs.Known.{owned}
-use Rattle.span_board.specs.Rule.{SessionHistory, Extends, Sees, IsBegunAt, HasNotBegun, Decides, seen_of, mine_of}
+use Rattle.span_board.specs.Rule.{SessionHistory, Extends, IsBegunAt, HasNotBegun, Decides, seen_of, mine_of}
 use Rattle.span_board.proofs.Owners.{owned_between}
 
 pub extended : (o : ℕ) (seen mine log : List Commit) (d c : Commit) (v : List Role) (begun left : List Begun)
@@ -37,11 +37,6 @@ extended_begun o seen mine log d ts r v begun left place s is e made p own all t
     let before : SessionHistory = record { owner = o; seen = seen; mine = mine; begun = begun } in
     let is_extended : IsExtended before r = (extended o seen mine log d (record { timestamp = ts; number = r.number; owner = o; mutations = r.mutations }) v begun left e made p own all, gone) in
     subst (λ (x : SessionHistory). IfSome (slice_get x.begun place) (IsExtended x)) is (subst (λ (b : Option Begun). IfSome b (IsExtended before)) (sym there) is_extended)
-
--- a session that has seen the whole log
-pub caught : (o : ℕ) (seen mine log : List Commit) (v : List Role) (begun : List Begun) → v ≡ Client o log mine ∷ [] → IsPrefix seen log
-    → Sees record { owner = o; seen = seen; mine = mine; begun = begun } record { owner = o; seen = seen_of v; mine = mine_of v; begun = begun }
-caught o seen mine log v begun e p = (refl, ap mine_of e, (p.0, p.1 ∙ sym (ap seen_of e)))
 
 -- where what the session had begun at a place was committed, what it had begun under the number was
 pub decides_begun : (v w : SessionHistory) (number place : ℕ) (at : IsBegunAt v number place) (r : Result ℕ Refusal)

@@ -23,7 +23,7 @@ use Rattle.span_mutate.specs.Batches.{named_cells, row_mutation, with_cell}
 use Rattle.span_checking.specs.Checking.{cells_cause, checked, checked_all, checked_at, checked_in, lack_causes, mutation_cause, typed, with_front}
 use Rattle.span_mutate.specs.Database.{unless}
 use Rattle.span_checking.specs.Columns.{values_named}
-use Rattle.span_checking.specs.InOrder.{are_cells_at, are_in_order, are_names_at, cell_cause, is_cell_of, is_name_of, row_cause, value_causes, values_cause}
+use Rattle.span_checking.specs.InOrder.{are_cells_at, are_in_order, are_names_at, is_cell_of, is_name_of, row_cause, value_causes, values_cause}
 use Rattle.span_mutate.specs.Typed.{are_named_kinds}
 use Rattle.span_checking.proofs.Fronts.{front_more, front_refused}
 use Rattle.span_checking.proofs.InOrder.{named_cause, other_places_of, rules_at, values_given}
@@ -43,13 +43,6 @@ names_step columns [] names i d n h g f = absurd (let less : i < 0 = h in omega 
 names_step columns (p ∷ ps) [] i d n h g f = absurd (let less : i < 0 = g in omega arith)
 names_step columns (p ∷ ps) (m ∷ ms) zero d n h g f = ap (λ (l : List ℕ). is_name_of (slice_get columns p) l && are_names_at columns ps ms) (sym f)
 names_step columns (p ∷ ps) (m ∷ ms) (suc i) d n h g f = names_step columns ps ms i d n (omega arith) (omega arith) f
-
-pub row_step : (columns : List Column) (ps : List ℕ) (vs : List (Option Value)) (i d : ℕ) (v : Option Value) → i < length ps → i < length vs → v ≡ get_or vs i v
-    → row_cause columns (drop i ps) (drop i vs) ≡ option_or (cell_cause (slice_get columns (get_or ps i d)) v) (row_cause columns (drop (suc i) ps) (drop (suc i) vs))
-row_step columns [] vs i d v h g f = absurd (let less : i < 0 = h in omega arith)
-row_step columns (p ∷ ps) [] i d v h g f = absurd (let less : i < 0 = g in omega arith)
-row_step columns (p ∷ ps) (w ∷ vs) zero d v h g f = ap (λ (x : Option Value). option_or (cell_cause (slice_get columns p) x) (row_cause columns ps vs)) (sym f)
-row_step columns (p ∷ ps) (w ∷ vs) (suc i) d v h g f = row_step columns ps vs i d v (omega arith) (omega arith) f
 
 pub row_end : (columns : List Column) (ps : List ℕ) (vs : List (Option Value)) → min (length ps) (length vs) ≤ 0 → row_cause columns ps vs ≡ None
 row_end columns [] vs h = refl

@@ -311,13 +311,6 @@ cells_step columns (p ∷ ps) [] i d x h g f = absurd (let less : i < 0 = g in o
 cells_step columns (p ∷ ps) (y ∷ xs) zero d x h g f = ap (λ (z : NamedValue). is_cell_of (slice_get columns p) z && are_cells_at columns ps xs) (sym f)
 cells_step columns (p ∷ ps) (y ∷ xs) (suc i) d x h g f = cells_step columns ps xs i d x (omega arith) (omega arith) f
 
-pub values_step : (columns : List Column) (ps : List ℕ) (xs : List NamedValue) (i d : ℕ) (x : NamedValue) → i < length ps → i < length xs → x ≡ get_or xs i x
-    → values_cause columns (drop i ps) (drop i xs) ≡ option_or (first_cause (value_causes (slice_get columns (get_or ps i d)) x.value)) (values_cause columns (drop (suc i) ps) (drop (suc i) xs))
-values_step columns [] xs i d x h g f = absurd (let less : i < 0 = h in omega arith)
-values_step columns (p ∷ ps) [] i d x h g f = absurd (let less : i < 0 = g in omega arith)
-values_step columns (p ∷ ps) (y ∷ xs) zero d x h g f = ap (λ (z : NamedValue). option_or (first_cause (value_causes (slice_get columns p) z.value)) (values_cause columns ps xs)) (sym f)
-values_step columns (p ∷ ps) (y ∷ xs) (suc i) d x h g f = values_step columns ps xs i d x (omega arith) (omega arith) f
-
 pub values_end : (columns : List Column) (ps : List ℕ) (xs : List NamedValue) → min (length ps) (length xs) ≤ 0 → values_cause columns ps xs ≡ None
 values_end columns [] xs h = refl
 values_end columns (p ∷ ps) [] h = refl

@@ -1,5 +1,4 @@
 pub mod Batched
-pub mod Breaks
 pub mod Chars
 pub mod Finding
 pub mod Fronts

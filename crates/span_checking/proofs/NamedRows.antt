@@ -1,5 +1,5 @@
 -- Rows of batches whose names were looked up once: what is found by the numbers of the names is what is found by the names.
-use Rattle.std.proofs.Common.{◌≡◌, ◌≢◌, ℕ, zero, suc, ◌+◌, ◌<◌, ◌≤◌, Bool, true, false, ◌&&◌, ◌||◌, not, cond, List, [], ◌∷◌, ◌++◌, Option, Some, None, is_none, is_some, Ok, Err, length, drop, get_or, min, map, refl, sym, ap, subst, ◌∙◌, arith}
+use Rattle.std.proofs.Common.{◌≡◌, ◌≢◌, ℕ, zero, suc, ◌+◌, ◌<◌, ◌≤◌, Bool, true, false, ◌&&◌, ◌||◌, not, cond, List, [], ◌∷◌, ◌++◌, Option, Some, None, is_none, is_some, Ok, length, drop, get_or, min, map, refl, sym, ap, subst, ◌∙◌, arith}
 use Rattle.std.specs.Prelude.{slice_get, position, IfSome}
 use Rattle.std.specs.List.{AllByRecursion, find, list_any, position_or_len}
 use Rattle.std.specs.Option.{option_map, option_or}
@@ -348,6 +348,3 @@ module _ (tables : List Table) (columns : NamedColumns) (t : Table) (at : Some t
     named_checked none =
         judged ∙ ap (λ (o : Option Refusal). unless o (typed columns.table t (row_mutation heading row))) none
         ∙ ap (λ (cells : List (Option Value)). Ok (record { kind = heading.kind; table = columns.table; key = row.key; cells = cells })) (sym named_values)
-
-    pub named_refused : (why : Refusal) → mutation_cause tables columns.table t (row_mutation heading row) ≡ Some why → checked tables (row_mutation heading row) ≡ Err why
-    named_refused why is = judged ∙ ap (λ (o : Option Refusal). unless o (typed columns.table t (row_mutation heading row))) is

@@ -76,11 +76,6 @@ other_names key left rest name same (d ∷ ds) h = cases (is_key_name key d.name
     cases true again = again
     cases false again = ap (λ (v : Option Value). v ∷ values_named key rest ds) (same d.name h.0) ∙ ap (λ (vs : List (Option Value)). value_named left d.name ∷ vs) again
 
-drop_next : {X : Type 0} (xs : List X) (i : ℕ) (x : X) → i < length xs → x ≡ get_or xs i x → drop i xs ≡ x ∷ drop (suc i) xs
-drop_next [] i x lt is = absurd (let less : i < 0 = lt in omega arith)
-drop_next {X} (y ∷ ys) zero x lt is = ap (λ (z : X). z ∷ ys) (sym is)
-drop_next (y ∷ ys) (suc i) x lt is = drop_next ys i x (omega arith) is
-
 pub once_more : (columns : List Column) (i : ℕ) (c : Column) → i < length columns → c ≡ get_or columns i c → has_repeated_column (drop i columns) ≡ false → has_repeated_column (drop (i + 1) columns) ≡ false
 once_more columns i c lt is once =
     let here : has_repeated_column (c ∷ drop (i + 1) columns) ≡ false = subst (λ (l : List Column). has_repeated_column l ≡ false) (item_first columns i c lt is) once in

@@ -121,7 +121,3 @@ match_has expr a x arms read otherwise is same also =
 pub folded_step : {S : Type 0} (f : S → Outcome → S) (row : List Value) (xs : List Expr) (i : ℕ) (x : Expr) (s : S) → i < length xs → x ≡ get_or xs i x
     → fold f s (map (val row) (drop i xs)) ≡ fold f (f s (val row x)) (map (val row) (drop (i + 1) xs))
 folded_step f row xs i x s below is = ap (λ (all : List Expr). fold f s (map (val row) all)) (at_item xs i x below is)
-
-pub listed_step : (f : List Outcome → Outcome) (row : List Value) (xs : List Expr) (i : ℕ) (x : Expr) → i < length xs → x ≡ get_or xs i x
-    → f (map (val row) (drop i xs)) ≡ f (val row x ∷ map (val row) (drop (i + 1) xs))
-listed_step f row xs i x below is = ap (λ (all : List Expr). f (map (val row) all)) (at_item xs i x below is)

@@ -136,10 +136,6 @@ module _ (test : Expr → Bool) (one : IsOfOne test) where
 total_each : IsOfEach is_total
 total_each first more = fold-roll-Expr Bool total_at (Expr-F.And first more) ∙ ap (λ (b : Bool). is_total first && b) (list_all-map (λ (b : Bool). b) is_total more)
 
--- an expression is total where its conjuncts are
-pub is_total-conjuncts : (e : Expr) → is_total e ≡ list_all is_total (conjuncts e)
-is_total-conjuncts = test-conjuncts_each is_total total_each
-
 pub is_total-all_true : (es : List Expr) (e : Expr) → all_true es ≡ Some e → is_total e ≡ list_all is_total es
 is_total-all_true = test-all_true_each is_total total_each
 

@@ -1,7 +1,6 @@
 -- Copies of expressions, with their columns at other places.
-use Rattle.std.proofs.Common.{◌≡◌, ◌∙◌, sym, ap, subst, ℕ, Result, Ok, IfOk, ◌<◌, ◌+◌, List, [], ◌∷◌, ◌++◌, map, take, length, get_or, Option, Some, None}
+use Rattle.std.proofs.Common.{◌≡◌, ◌∙◌, sym, ap, subst, ℕ, Result, Ok, IfOk, List, map, Option, Some, None}
 use Rattle.std.specs.Option.{option_map}
-use Rattle.std.proofs.lemmas.List.{take_more, map-append}
 use Rattle.span_expr.specs.declared.expr.Arm.{Arm}
 use Rattle.span_expr.specs.declared.expr.Expr.{Expr}
 use Rattle.span_expr.specs.declared.expr.Expr.TheVariants as e
@@ -9,15 +8,6 @@ use Rattle.span_expr.specs.declared.expr.Expr.TheVariants.{rolls-Between, rolls-
 use Rattle.span_expr.specs.declared.expr.Expr.TheOpen.{Expr-F}
 use Rattle.span_expr.specs.declared.expr.Expr.TheFolds.{fold-roll-Expr}
 use Rattle.span_expr.specs.Places.{move_at, moved, moved_arm}
-
--- one more item of a copied list
-pub copied_more : {A B : Type 0} (f : A → B) (all : List A) (i : ℕ) (item : A) (copies new : List B) (copy : B) → i < length all → item ≡ get_or all i item → copies ≡ map f (take i all) → new ≡ copies ++ copy ∷ [] → copy ≡ f item → new ≡ map f (take (i + 1) all)
-copied_more {A} {B} f all i item copies new copy below is so_far pushed same =
-    pushed
-    ∙ ap (λ (xs : List B). xs ++ copy ∷ []) so_far
-    ∙ ap (λ (x : B). map f (take i all) ++ x ∷ []) (same ∙ ap f is)
-    ∙ sym (map-append f (take i all) (get_or all i item ∷ []))
-    ∙ ap (map f) (sym (take_more all i item below))
 
 -- what was made next and kept is what was asked for
 pub kept_next : {A E : Type 0} (made : Result A E) (kept wanted : A) → made ≡ Ok kept → IfOk made (λ x. x ≡ wanted) → kept ≡ wanted

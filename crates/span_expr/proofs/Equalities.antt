@@ -95,13 +95,3 @@ is_refused-is_equality row e i k is differ = elim (which_way i k (as_equality e)
   | inl first ↦ is_refused-unequal row e i k first differ
   | inr second ↦ is_refused-unequal row e k i second (λ same. differ (sym same))
 ]
-
-or_true_right : (a : Bool) → (a || true) ≡ true
-or_true_right true = refl
-or_true_right false = refl
-
-pub is_refused-is_equality_null : (row : List Value) (e : Expr) (i k : ℕ) → is_equality i k e ≡ true → is_null (column_of row i) ≡ true → is_refused (val row e) ≡ true
-is_refused-is_equality_null row e i k is null = elim (which_way i k (as_equality e) is) [
-  | inl first ↦ is_refused-null row e i k first (ap (λ (b : Bool). b || is_null (column_of row k)) null)
-  | inr second ↦ is_refused-null row e k i second (ap (λ (b : Bool). is_null (column_of row k) || b) null ∙ or_true_right (is_null (column_of row k)))
-]

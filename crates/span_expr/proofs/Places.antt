@@ -13,7 +13,6 @@ use Rattle.span_expr.specs.declared.expr.Expr.TheViews.{roll-Expr}
 use Rattle.span_expr.specs.declared.expr.Expr.TheFolds.{ind-Expr, map-Expr, fold-Expr, fold-roll-Expr}
 use Rattle.span_expr.specs.Operators.{column_of}
 use Rattle.span_expr.specs.Meaning.{at_operands, val, is_total_arm, total_at, is_total}
-use Rattle.span_expr.specs.Memory.{concatenation_at, has_concatenation}
 use Rattle.span_expr.specs.Places.{link_operand, reads_at, reads_only, move_at, moved}
 use Rattle.span_expr.proofs.Folds.{fold-fusion, fold-roll, fold-same}
 
@@ -48,26 +47,12 @@ total_at-with_place f y = refl
 pub is_total-moved : (f : ℕ → ℕ) (e : Expr) → is_total (moved f e) ≡ is_total e
 is_total-moved f = fold-moved Bool f total_at total_at (total_at-with_place f)
 
-concatenation_at-with_place : (f : ℕ → ℕ) (y : Expr-F Bool) → concatenation_at (with_place f y) ≡ concatenation_at y
-concatenation_at-with_place f (Expr-F.Column place) = refl
-concatenation_at-with_place f y = refl
-
-pub has_concatenation-moved : (f : ℕ → ℕ) (e : Expr) → has_concatenation (moved f e) ≡ has_concatenation e
-has_concatenation-moved f = fold-moved Bool f concatenation_at concatenation_at (concatenation_at-with_place f)
-
 reads_at-with_place : (f : ℕ → ℕ) (test : ℕ → Bool) (y : Expr-F Bool) → reads_at test (with_place f y) ≡ reads_at (λ k. test (f k)) y
 reads_at-with_place f test (Expr-F.Column place) = refl
 reads_at-with_place f test y = refl
 
 pub reads_only-moved : (f : ℕ → ℕ) (test : ℕ → Bool) (e : Expr) → reads_only test (moved f e) ≡ reads_only (λ k. test (f k)) e
 reads_only-moved f test = fold-moved Bool f (reads_at test) (reads_at (λ k. test (f k))) (reads_at-with_place f test)
-
-move_at-with_place : (f g : ℕ → ℕ) (y : Expr-F Expr) → move_at g (with_place f y) ≡ move_at (λ k. g (f k)) y
-move_at-with_place f g (Expr-F.Column place) = refl
-move_at-with_place f g y = refl
-
-pub moved-moved : (f g : ℕ → ℕ) (e : Expr) → moved g (moved f e) ≡ moved (λ k. g (f k)) e
-moved-moved f g = fold-moved Expr f (move_at g) (move_at (λ k. g (f k))) (move_at-with_place f g)
 
 move_at-same : (f : ℕ → ℕ) → ((k : ℕ) → f k ≡ k) → (y : Expr-F Expr) → move_at f y ≡ roll-Expr y
 move_at-same f same (Expr-F.Column place) = ap (λ (k : ℕ). roll-Expr (Expr-F.Column k)) (same place)

@@ -33,11 +33,6 @@ same_lexemes text is js a b = ap (lexemes_of text) (one_reading is js a.are b.ar
 pub text_read : (g : Goal) (text : List ℕ) (is : List Item) (r : Answer) → HasItems text is → Judges g (lexemes_in text is) r → r ≡ Ok tt → IsText g text
 text_read g text is r made j e = let t = j.read e in record { items = is; made = made; tree = t.0; has = t.1 }
 
-pub text_read_all : (g : Goal) (text : List ℕ) (is : List Item) (r : Answer) → HasItems text is → Judges g (lexemes_in text is) r → IsText g text → OrOutOfMemory r (Ok tt)
-text_read_all g text is r made j t =
-    let P : List Lexeme → Type 0 = λ w. HasTree inside (goal_rule g) w t.tree in
-    j.read_all t.tree (subst P (same_lexemes text t.items is t.made made) t.has)
-
 pub judged_refused : (g : Goal) (text : List ℕ) (is : List Item) (why : Refusal) → HasItems text is → IsTokenRefusal g (lexemes_in text is) why → IsRefused g text why
 judged_refused g text is refusal.Syntax made h = (is, made, h)
 judged_refused g text is refusal.TooDeep made h = (is, made, h)
@@ -61,18 +56,6 @@ text_refused_all g text is r made j refusal.OutOfMemory n h = absurd (n refl)
 text_refused_all g text is r made j _ n h = absurd h
 
 -- ---- a text that has no tokens
-
-pub misread_refused : (g : Goal) (text : List ℕ) (why : Refusal) → IsReadError text why → IsRefused g text why
-misread_refused g text refusal.TextTooLong h = h
-misread_refused g text refusal.BadToken h = h
-misread_refused g text refusal.OutOfMemory h = tt
-misread_refused g text _ h = absurd h
-
-pub misread_all : (g : Goal) (text : List ℕ) (why : Refusal) → IsReadError text why → IsText g text → OrOutOfMemory (let r : Answer = Err why in r) (Ok tt)
-misread_all g text refusal.TextTooLong h t = absurd (let l = t.made.short in omega (arith, h, l))
-misread_all g text refusal.BadToken h t = absurd (h.1 t.items t.made.are t.made.spells)
-misread_all g text refusal.OutOfMemory h t = inr refl
-misread_all g text _ h t = absurd h
 
 pub made_not : (text : List ℕ) (why : Refusal) (is : List Item) → IsReadError text why → why ≢ refusal.OutOfMemory → HasItems text is → ⊥
 made_not text refusal.TextTooLong is h n made = let l = made.short in omega (arith, h, l)

@@ -8,9 +8,6 @@ use Rattle.span_grammar.specs.Texts.{HasTree, NoneGoesOn, IsWrong, IsTooDeep}
 use Rattle.span_grammar.proofs.Sound.{words-append, Sound, Is, Ends, parse_sound, deeper_sound}
 use Rattle.span_grammar.proofs.Follow.{Good, Stretches, rest_of, Past, Reads, Meeting, reads_with, meets_with, deeper_reads, deeper_meets}
 
-abbrev pub Verdict : Type 0
-Verdict = Answer
-
 -- what is left over is a fault at its first token
 abbrev pub whole : Answer → Answer
 whole (Read x []) = Read x []

@@ -222,10 +222,6 @@ star_is : is_class (sort.Sign sign.Star) (class.Sign sign.Star) ≡ true
 unfolding is_class
 star_is = refl
 
-semicolon_is : is_class (sort.Sign sign.Semicolon) (class.Sign sign.Semicolon) ≡ true
-unfolding is_class
-semicolon_is = refl
-
 name_no_star : (c : Class) → is_class sort.Name c ≡ true → star_class c ≡ false
 unfolding is_class
 name_no_star class.Name h = refl

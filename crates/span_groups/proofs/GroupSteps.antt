@@ -299,10 +299,6 @@ pub held_whole : (g : Grouping) (all taken : List Row) (x : GroupLists) → Hold
 held_whole g all taken x h =
     h.whole ∙ ap (λ (n : ℕ). n * length g.aggregates) (length-map (rows_at all x.firsts.items) (columns_at g.keys) ∙ length-map x.firsts.items (λ (p : ℕ). get_or all p []))
 
-pub lent_whole : (g : Grouping) (rows : List Row) (firsts : List (Bor Row)) (states : List AggregateState) → AreGroupLists g rows (keys_at g.keys (lent_rows firsts)) states → length states ≡ length firsts * length g.aggregates
-lent_whole g rows firsts states h =
-    h.whole ∙ ap (λ (n : ℕ). n * length g.aggregates) (length-map (lent_rows firsts) (columns_at g.keys) ∙ length-map firsts (λ (r : Bor Row). r.now))
-
 pub lent_count : (rows : List Row) (lent : List (Bor Row)) (places : List ℕ) → lent_rows lent ≡ rows_at rows places → length lent ≡ length places
 lent_count rows lent places is =
     sym (length-map lent (λ (r : Bor Row). r.now)) ∙ ap (λ (l : List Row). length l) is ∙ length-map places (λ (p : ℕ). get_or rows p [])

@@ -212,11 +212,6 @@ module _ (g : Grouping) (key : Row) (keys rows : List Row) (groups : List Group)
         has_key = λ d. ap (λ (y : Group). y.key) (ap (λ i. get_or (groups ++ x ∷ []) i d) past ∙ get_or-append_seam groups x [] d) ∙ same;
       }
 
-pub keys_kept : (groups : List Group) (at : ℕ) (was new : Group) → at < length groups → was ≡ get_or groups at was → new.key ≡ was.key → keys_of (set groups at new) ≡ keys_of groups
-keys_kept groups at was new within is same =
-    keys-same groups at new within
-    (same ∙ ap (λ (x : Group). x.key) is ∙ sym (key_at groups at was was.key within) ∙ key_at groups at new was.key within)
-
 pub on_ok_always : {T E P : Type 0} (r : Result T E) → P → OnOk r P
 on_ok_always (Ok x) p = p
 on_ok_always (Err e) p = tt

@@ -18,7 +18,7 @@ use Rattle.span_rows.specs.Keys.{place_of}
 use Rattle.span_groups.specs.declared.aggregate.AggregateState.{AggregateState}
 use Rattle.span_groups.specs.States.{AreStatesOf, operand_at}
 use Rattle.span_groups.specs.GroupStates.{keys_of, HasTakenRows, AreGroupsOf}
-use Rattle.span_rows.proofs.Gathering.{concat_map-append, nil-append_results, one_more, one_fails}
+use Rattle.span_rows.proofs.Gathering.{concat_map-append, one_more, one_fails}
 use Rattle.span_rows.proofs.Alike.{are_equal-itself}
 use Rattle.span_rows.proofs.Places.{place_found, place_known, has_key}
 
@@ -57,9 +57,6 @@ module _ (g : Grouping) (rows : List Row) where
   pub record AreShown (all : List Group) (found : List Row) (left : List Group) : Type 0 where
     pub shown : rows_by all ≡ append_results (Some found) (rows_by left)
     pub taken : All (HasTakenRows g rows) left
-
-  pub shown_none : (all : List Group) → AreGroupsOf g rows all → AreShown all [] all
-  shown_none all are = record { shown = sym (nil-append_results (rows_by all)); taken = are.each }
 
   module _ (all : List Group) (found : List Row) (x : Group) (left : List Group) (are : AreShown all found (x ∷ left)) where
     pub next_taken : HasTakenRows g rows x

@@ -1,4 +1,4 @@
-use Rattle.std.proofs.Common.{◌≡◌, ◌≢◌, nat_lt, ℕ, ◌≤◌, ◌<◌, ◌^◌, ◌==◌, cond, subst, length, Bool, true, false, not, List, [], ◌∷◌, Option, Some, None, refl, ap, sym, ◌∙◌, arith}
+use Rattle.std.proofs.Common.{◌≡◌, nat_lt, ℕ, ◌≤◌, ◌<◌, ◌^◌, ◌==◌, cond, subst, length, Bool, true, false, not, List, [], ◌∷◌, Option, Some, None, refl, ap, sym, ◌∙◌, arith}
 use Rattle.std.proofs.lemmas.Bool.Decides.{nat_tests}
 use Rattle.std.specs.List.{list_all}
 use Rattle.std.specs.Prelude.{find, option_map, slice_get, slice_set, remove}
@@ -276,9 +276,6 @@ finish_some schema j query p e = ap (λ (o : Option OpenQuery). if_some o (refus
 pub finish_uncovered : (schema : List Table) (j : Journaled) (query : ℕ) (p : Pieced) → find (λ p. is_query query p.query) j.queries ≡ Some p → list_all is_covered p.query.leaves ≡ false → finish schema (machine_of j) query ≡ refused (machine_of j) refusal.Incomplete
 finish_uncovered schema j query p found uncovered =
     finish_some schema j query p found ∙ ap (λ b. cond b (answer_on p.query.s (meaning schema (machine_of j) p.query), machine_of j) (refused (machine_of j) refusal.Incomplete)) uncovered
-
-pub not_none : {A : Type 0} (o : Option A) (x : A) → o ≡ Some x → o ≢ None
-not_none o x e f = cc
 
 -- the leaf of a query that is not there, and of one that is
 pub leaf_none : (j : Journaled) (query leaf : ℕ) → find (λ p. is_query query p.query) j.queries ≡ None → leaf_of (machine_of j) query leaf ≡ None

@@ -27,9 +27,6 @@ before_upto a b p = strict.one_way a b p
 pub lt_le : (a b c : List ℕ) → IsBefore a b → IsUpto b c → IsBefore a c
 lt_le a b c p q = true_from_ne_false (is_lt (byte_order a c)) (λ e. both_ways (is_lt (byte_order a b)) (upto_upto b c a q e) p)
 
-pub le_lt : (a b c : List ℕ) → IsUpto a b → IsBefore b c → IsBefore a c
-le_lt a b c p q = true_from_ne_false (is_lt (byte_order a c)) (λ e. both_ways (is_lt (byte_order b c)) (upto_upto c a b e p) q)
-
 pub lt_lt : (a b c : List ℕ) → IsBefore a b → IsBefore b c → IsBefore a c
 lt_lt a b c p q = lt_le a b c p (before_upto b c q)
 

@@ -1,11 +1,11 @@
 -- How long the coding of a key is: a byte for each level, and its values.
-use Rattle.std.proofs.Common.{◌≡◌, ℕ, zero, suc, ◌+◌, ◌<◌, ◌≤◌, Bool, List, [], ◌∷◌, ◌++◌, Option, Some, None, refl, sym, ◌∙◌, ap, arith, length, take, drop, length-append}
+use Rattle.std.proofs.Common.{◌≡◌, ℕ, zero, suc, ◌+◌, ◌<◌, List, [], ◌∷◌, ◌++◌, Option, Some, None, refl, sym, ◌∙◌, ap, arith, length, take, drop, length-append}
 use Rattle.std.proofs.lemmas.List.{length-take, length-drop}
 use Rattle.span_value.specs.declared.value.Value.{Value}
 use Rattle.span_schema.specs.declared.table.Table.{Table}
 use Rattle.span_schema.specs.declared.layout.KeyPart.{KeyPart}
 use Rattle.span_schema.specs.Lineages.{parent_at, path_at, MeetsRules}
-use Rattle.span_schema.specs.Numbers.{key_at, own_key_at, columns_above}
+use Rattle.span_schema.specs.Numbers.{key_at, own_key_at}
 use Rattle.span_schema.proofs.Paths.{parent_before}
 use Rattle.span_keycode.specs.Coding.{plain, column_code, tuple_code}
 use Rattle.span_keycode.specs.Keys.{Level, values_len, own_values_at, level_of, level_code, code_of}
@@ -25,9 +25,6 @@ values_split : (k : ℕ) (vs : List Value) → values_len (take k vs) + values_l
 values_split zero vs = omega arith
 values_split (suc k) [] = omega arith
 values_split (suc k) (v ∷ vs) = omega (arith, values_split k vs)
-
-one_level : (tables : List Table) (l : Level) → code_of tables (l ∷ []) ≡ level_code tables l ++ []
-one_level tables l = refl
 
 last_level : (tables : List Table) (ls : List Level) (l : Level) → length (code_of tables (ls ++ l ∷ [])) ≡ length (code_of tables ls) + length (level_code tables l)
 last_level tables ls l = omega (arith, ap (length {A = ℕ}) (code_append tables ls (l ∷ [])), length-append (code_of tables ls) (level_code tables l ++ []), length-append (level_code tables l) [])

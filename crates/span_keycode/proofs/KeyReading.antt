@@ -131,10 +131,3 @@ dropped_all (b ∷ bs) (suc at) h = dropped_all bs at (omega arith)
 
 pub read_nothing : (tables : List Table) (bs : List ℕ) (vs : List Value) (at : ℕ) → IsRead tables bs None vs at → length bs ≤ at → IsUncoded tables bs
 read_nothing tables bs vs at r h = record { none = λ n ws k e. code_some tables n ws (sym (r.code ∙ dropped_all bs at h) ∙ e) }
-
-pub read_end : (tables : List Table) (bs : List ℕ) (n : ℕ) (vs : List Value) (at : ℕ) → IsRead tables bs (Some n) vs at → length bs ≤ at → IsKey tables n vs × (bs ≡ key_code tables n vs)
-read_end tables bs n vs at r h = (r.known, r.code ∙ ap (λ (xs : List ℕ). key_code tables n vs ++ xs) (dropped_all bs at h) ∙ append_none (key_code tables n vs))
-  where
-    append_none : (xs : List ℕ) → xs ++ [] ≡ xs
-    append_none [] = refl
-    append_none (x ∷ xs) = ap (λ (ys : List ℕ). x ∷ ys) (append_none xs)

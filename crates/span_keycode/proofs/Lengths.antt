@@ -1,8 +1,7 @@
 -- How long codings are, and where they do not fit.
-use Rattle.std.proofs.Common.{◌≡◌, ℕ, zero, suc, ◌+◌, ◌<◌, ◌≤◌, Bool, true, false, List, [], ◌∷◌, ◌++◌, length, drop, get_or, refl, sym, ap, ◌∙◌, arith, length-append, inl, inr}
+use Rattle.std.proofs.Common.{◌≡◌, ℕ, zero, suc, ◌+◌, ◌<◌, ◌≤◌, Bool, true, false, List, [], ◌∷◌, ◌++◌, length, drop, get_or, refl, sym, ap, ◌∙◌, arith, length-append}
 use Rattle.std.proofs.lemmas.List.{length-map, length-drop}
 use Rattle.std.proofs.Math.Seq.{drop-cons}
-use Rattle.std.proofs.lemmas.Bool.{cases_lt}
 use Rattle.smallvec.specs.SmallVec.{SmallVec}
 use Rattle.span_value.specs.declared.value.Value.{Value}
 use Rattle.span_schema.specs.declared.layout.KeyPart.{KeyPart}
@@ -13,13 +12,6 @@ use Rattle.span_keycode.specs.Coding.{escaped, escaped_byte, in_direction, colum
 pub length_directed : (d : Bool) (xs : List ℕ) → length (in_direction d xs) ≡ length xs
 length_directed false xs = refl
 length_directed true xs = length-map xs flipped
-
--- what does not fit without an allocation is refused alone
-pub no_room : (capacity len : ℕ) → (len + 1 ≤ capacity → ⊥) → capacity < len + 1
-no_room capacity len refused = elim (cases_lt capacity (len + 1)) [
-  | inl lt ↦ lt
-  | inr ge ↦ absurd (refused ge)
-]
 
 pub escaped_length : (b : ℕ) (bs : List ℕ) → length (escaped (b ∷ bs)) ≡ length (escaped_byte b []) + length (escaped bs)
 escaped_length zero bs = omega arith

@@ -19,9 +19,6 @@ by_parents tables P step i = below (suc i) i (omega arith)
     below zero i h = absurd (omega arith)
     below (suc n) i h = step i (λ p e. let less : p < i = parent_before tables i p e in below n p (omega arith))
 
-length_zero : {X : Type 0} (xs : List X) (i : ℕ) → i < length {A = X} [] → ⊥
-length_zero xs i h = let less : i < 0 = h in omega arith
-
 -- the key of a child is that of its parent, and its own columns
 pub key_split : (tables : List Table) → MeetsRules tables → (i p : ℕ) → i < length tables → parent_at tables i ≡ Some p
     → key_at tables i ≡ key_at tables p ++ own_key_at tables i

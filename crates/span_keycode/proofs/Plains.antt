@@ -1,17 +1,15 @@
 -- Reading one value.
-use Rattle.std.proofs.Common.{◌≡◌, ◌≢◌, ℕ, ◌+◌, ◌<◌, ◌≤◌, List, [], ◌∷◌, ◌++◌, Some, None, Bool, true, false, refl, sym, ◌∙◌, ap, subst, arith, length, length-append, drop}
-use Rattle.std.specs.Int.{to_be_bytes, w64}
+use Rattle.std.proofs.Common.{◌≡◌, ℕ, ◌≤◌, List, [], ◌∷◌, ◌++◌, Some, None, Bool, true, false, refl, sym, ◌∙◌, ap, subst, arith, length, drop}
 use Rattle.std.specs.Str.{IsUtf8}
 use Rattle.std.proofs.lemmas.List.{map-append}
 use Rattle.std.proofs.lemmas.Bool.Decides.{nat_tests}
 use Rattle.std.proofs.lemmas.Option.{some_pair_parts}
 use Rattle.span_value.specs.declared.value.Value.{Value}
 use Rattle.span_value.specs.declared.value.Value.TheVariants.{Null, Int, Str, Bytes, Bool as Flag}
-use Rattle.span_value.specs.declared.value.Kind.{Kind}
-use Rattle.span_value.specs.declared.value.Kind.TheVariants.{Int as Numbers, Str as Texts, Bytes as Strings, Bool as Flags}
+use Rattle.span_value.specs.declared.value.Kind.TheVariants.{Str as Texts, Bytes as Strings}
 use Rattle.span_schema.specs.declared.layout.KeyPart.{KeyPart}
 use Rattle.span_keycode.specs.Order.{flipped, complement}
-use Rattle.span_keycode.specs.Coding.{to_unsigned, escaped, bit, plain, in_direction, column_code, Fits}
+use Rattle.span_keycode.specs.Coding.{escaped, plain, in_direction, column_code, Fits}
 use Rattle.span_keycode.specs.Texts.{text_at}
 use Rattle.span_keycode.specs.Reads.{IsNoPlain, IsPlain, IsNoColumn, IsColumn}
 use Rattle.span_keycode.proofs.Reading.{text_again, text_spelled}
@@ -49,52 +47,8 @@ column_missed c bytes p = record {
       (ap (in_direction c.desc) e ∙ turned_append c.desc (column_code c v) rest ∙ ap (λ (front : List ℕ). front ++ in_direction c.desc rest) (turned_twice c.desc (plain v)));
 }
 
--- what begins no value
-nothing_first : (kind : Kind) (v : Value) (rest : List ℕ) → Fits kind v → [] ≡ plain v ++ rest → ⊥
-nothing_first kind Null rest f e = absurd (let g : [] ≡ 0 ∷ rest = e in cc)
-nothing_first kind (Int i) rest f e = absurd (let g : [] ≡ 1 ∷ (to_be_bytes w64 (to_unsigned i) ++ rest) = e in cc)
-nothing_first kind (Str bs) rest f e = absurd (let g : [] ≡ 1 ∷ (escaped bs ++ rest) = e in cc)
-nothing_first kind (Bytes bs) rest f e = absurd (let g : [] ≡ 1 ∷ (escaped bs ++ rest) = e in cc)
-nothing_first kind (Flag b) rest f e = absurd (let g : [] ≡ 1 ∷ (bit b ∷ rest) = e in cc)
-
-pub no_plain_nothing : (kind : Kind) → IsNoPlain kind []
-no_plain_nothing kind = record { none = nothing_first kind }
-
-other_first : (kind : Kind) (a : ℕ) (bs : List ℕ) → a ≢ 0 → a ≢ 1 → (v : Value) (rest : List ℕ) → Fits kind v → a ∷ bs ≡ plain v ++ rest → ⊥
-other_first kind a bs p q Null rest f e = p (cons_inj a 0 bs rest e).0
-other_first kind a bs p q (Int i) rest f e = q (cons_inj a 1 bs (to_be_bytes w64 (to_unsigned i) ++ rest) e).0
-other_first kind a bs p q (Str cs) rest f e = q (cons_inj a 1 bs (escaped cs ++ rest) e).0
-other_first kind a bs p q (Bytes cs) rest f e = q (cons_inj a 1 bs (escaped cs ++ rest) e).0
-other_first kind a bs p q (Flag b) rest f e = q (cons_inj a 1 bs (bit b ∷ rest) e).0
-
-pub no_plain_other : (kind : Kind) (a : ℕ) (bs : List ℕ) → a ≢ 0 → a ≢ 1 → IsNoPlain kind (a ∷ bs)
-no_plain_other kind a bs p q = record { none = other_first kind a bs p q }
-
 one_is_zero : (bs rest : List ℕ) → 1 ∷ bs ≡ 0 ∷ rest → ⊥
 one_is_zero bs rest e = let g = (cons_inj 1 0 bs rest e).0 in omega arith
-
-short_number : (bs : List ℕ) → length bs < 8 → (v : Value) (rest : List ℕ) → Fits Numbers v → 1 ∷ bs ≡ plain v ++ rest → ⊥
-short_number bs h Null rest f e = one_is_zero bs rest e
-short_number bs h (Int i) rest f e =
-    let same = (cons_inj 1 1 bs (to_be_bytes w64 (to_unsigned i) ++ rest) e).1 in
-    let len : length bs ≡ 8 + length rest = ap length same ∙ length-append (to_be_bytes w64 (to_unsigned i)) rest in
-    absurd (omega arith)
-short_number bs h (Str cs) rest f e = absurd f
-short_number bs h (Bytes cs) rest f e = absurd f
-short_number bs h (Flag b) rest f e = absurd f
-
-pub no_plain_number : (bs : List ℕ) → length bs < 8 → IsNoPlain Numbers (1 ∷ bs)
-no_plain_number bs h = record { none = short_number bs h }
-
-wrong_flag : (bs : List ℕ) → ((b : Bool) (rest : List ℕ) → bs ≡ bit b ∷ rest → ⊥) → (v : Value) (rest : List ℕ) → Fits Flags v → 1 ∷ bs ≡ plain v ++ rest → ⊥
-wrong_flag bs h Null rest f e = one_is_zero bs rest e
-wrong_flag bs h (Flag b) rest f e = h b rest (cons_inj 1 1 bs (bit b ∷ rest) e).1
-wrong_flag bs h (Int i) rest f e = absurd f
-wrong_flag bs h (Str cs) rest f e = absurd f
-wrong_flag bs h (Bytes cs) rest f e = absurd f
-
-pub no_plain_flag : (bs : List ℕ) → ((b : Bool) (rest : List ℕ) → bs ≡ bit b ∷ rest → ⊥) → IsNoPlain Flags (1 ∷ bs)
-no_plain_flag bs h = record { none = wrong_flag bs h }
 
 some_is_none : (x : List ℕ × List ℕ) → None ≡ Some x → ⊥
 some_is_none x e = absurd (let f : None ≡ Some x = e in cc)

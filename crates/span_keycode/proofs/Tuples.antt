@@ -1,11 +1,11 @@
 -- Reading a tuple, column by column.
-use Rattle.std.proofs.Common.{◌≡◌, ℕ, zero, suc, ◌+◌, ◌<◌, ◌≤◌, List, [], ◌∷◌, ◌++◌, refl, sym, ◌∙◌, ap, subst, append_assoc, arith, length, length-drop, take, drop, get_or}
+use Rattle.std.proofs.Common.{◌≡◌, ℕ, zero, suc, ◌+◌, ◌<◌, List, [], ◌∷◌, ◌++◌, refl, sym, ◌∙◌, ap, subst, append_assoc, arith, length, length-drop, take, drop, get_or}
 use Rattle.std.proofs.lemmas.List.{drop-drop}
 use Rattle.std.proofs.lemmas.Map.Lookups.{exact_bytes}
 use Rattle.span_value.specs.declared.value.Value.{Value}
 use Rattle.span_schema.specs.declared.layout.KeyPart.{KeyPart}
 use Rattle.span_keycode.specs.Coding.{Fits, AreFit, column_code, column_cmp, tuple_code}
-use Rattle.span_keycode.specs.Reads.{IsNoColumn, IsColumn, IsNoTuple, IsTuple}
+use Rattle.span_keycode.specs.Reads.{IsColumn, IsNoTuple, IsTuple}
 use Rattle.span_keycode.proofs.Order.{no_front}
 use Rattle.span_keycode.proofs.Codes.{decides-column}
 use Rattle.span_keycode.proofs.LevelLaws.{fit_join}
@@ -32,13 +32,6 @@ dropped_more cs i d h = by_suc cs i d h ∙ ap (λ (n : ℕ). get_or cs i d ∷ 
     by_suc (c ∷ cs) zero d h = refl
     by_suc (c ∷ cs) (suc i) d h = by_suc cs i d (omega arith)
 
-pub tuple_start : (bs : List ℕ) (before : List Value) → IsTuple [] bs before before 0
-tuple_start bs before = record { values = []; added = sym (append_none before); fits = tt; code = refl; within = omega arith }
-  where
-    append_none : (xs : List Value) → xs ++ [] ≡ xs
-    append_none [] = refl
-    append_none (x ∷ xs) = ap (λ (ys : List Value). x ∷ ys) (append_none xs)
-
 -- one more column
 pub tuple_more : (cs : List KeyPart) (bs : List ℕ) (before mid after : List Value) (i at w : ℕ) (d : KeyPart) (v : Value) → i < length cs
     → IsTuple (take i cs) bs before mid at → IsColumn (get_or cs i d) (drop at bs) v w → after ≡ mid ++ v ∷ [] → IsTuple (take (i + 1) cs) bs before after (at + w)
@@ -64,22 +57,12 @@ tuple_more cs bs before mid after i at w d v h t c e =
     one : (c : KeyPart) (v : Value) → tuple_code (c ∷ []) (v ∷ []) ≡ column_code c v
     one c v = none_after (column_code c v)
 
-no_first : (c : KeyPart) (cs : List KeyPart) (bs : List ℕ) → IsNoColumn c bs → (vs : List Value) (rest : List ℕ) → AreFit (c ∷ cs) vs → bs ≡ tuple_code (c ∷ cs) vs ++ rest → ⊥
-no_first c cs bs n [] rest f e = f
-no_first c cs bs n (v ∷ vs) rest f e = n.none v (tuple_code cs vs ++ rest) f.0 (e ∙ append_assoc (column_code c v) (tuple_code cs vs) rest)
-
 no_rest : (c : KeyPart) (cs : List KeyPart) (more : List ℕ) (w : Value) → Fits c.kind w → IsNoTuple cs more → (vs : List Value) (rest : List ℕ) → AreFit (c ∷ cs) vs
     → column_code c w ++ more ≡ tuple_code (c ∷ cs) vs ++ rest → ⊥
 no_rest c cs more w g n [] rest f e = f
 no_rest c cs more w g n (v ∷ vs) rest f e =
     let both = no_front (column_code c w) (column_code c v) more (tuple_code cs vs ++ rest) (column_cmp c w v) (decides-column c w v g f.0) (e ∙ append_assoc (column_code c v) (tuple_code cs vs) rest) in
     n.none vs rest f.1 (exact_bytes _ _ both.1)
-
--- no tuple, where the next column is none
-pub tuple_none : (cs : List KeyPart) (bs : List ℕ) (i at : ℕ) (d : KeyPart) → i < length cs → (IsNoTuple (drop i cs) (drop at bs) → IsNoTuple cs bs) → IsNoColumn (get_or cs i d) (drop at bs) → IsNoTuple cs bs
-tuple_none cs bs i at d h back n =
-    let P : List KeyPart → Type 0 = λ ds. IsNoTuple ds (drop at bs) in
-    back (subst P (sym (dropped_more cs i d h)) (record { none = no_first (get_or cs i d) (drop (i + 1) cs) (drop at bs) n }))
 
 -- no tuple, where there is none after the next column
 pub tuple_back : (cs : List KeyPart) (bs : List ℕ) (i at w : ℕ) (d : KeyPart) (v : Value) → i < length cs → (IsNoTuple (drop i cs) (drop at bs) → IsNoTuple cs bs) → IsColumn (get_or cs i d) (drop at bs) v w
@@ -89,12 +72,3 @@ tuple_back cs bs i at w d v h back c n =
     let Q : List ℕ → Type 0 = λ xs. IsNoTuple (get_or cs i d ∷ drop (i + 1) cs) xs in
     let here : drop at bs ≡ column_code (get_or cs i d) v ++ drop (at + w) bs = c.code ∙ ap (λ (xs : List ℕ). column_code (get_or cs i d) v ++ xs) (drop-drop w at bs) in
     back (subst P (sym (dropped_more cs i d h)) (subst Q (sym here) (record { none = no_rest (get_or cs i d) (drop (i + 1) cs) (drop (at + w) bs) v c.fits n })))
-
-pub tuple_end : (cs : List KeyPart) (bs : List ℕ) (before after : List Value) (at i : ℕ) → length cs ≤ i → IsTuple (take i cs) bs before after at → IsTuple cs bs before after at
-tuple_end cs bs before after at i h t = let P : List KeyPart → Type 0 = λ ds. IsTuple ds bs before after at in subst P (taken_all cs i h) t
-  where
-    taken_all : (cs : List KeyPart) (i : ℕ) → length cs ≤ i → take i cs ≡ cs
-    taken_all [] zero h = refl
-    taken_all [] (suc i) h = refl
-    taken_all (c ∷ cs) zero h = absurd (let l : suc (length cs) ≤ 0 = h in omega arith)
-    taken_all (c ∷ cs) (suc i) h = ap (λ (xs : List KeyPart). c ∷ xs) (taken_all cs i (omega arith))

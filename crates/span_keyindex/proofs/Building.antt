@@ -111,21 +111,6 @@ module _ (a b low high : ℕ) (da : IsDigits a low) (db : IsDigits b high) (from
         subst (λ (x : Bool). IsBalance (cond x RightHigh Even) a b) {x = false} {y = nat_lt a b} (sym t) e)
   ]
 
--- ---- no cell
-
-pub built_none : (cs : List Cell) (ns : Nexts) (n : ℕ) (at : Option ℕ) → n ≡ 0 → IsBuilt cs cs ns n at (record { root = None; rest = at; levels = 0 })
-built_none cs ns n at is = subst (λ (m : ℕ). IsBuilt cs cs ns m at (record { root = None; rest = at; levels = 0 })) {x = 0} {y = n} (sym is) (record {
-  tree = record { in_cells = tt; root = refl; once = λ i. omega arith; within = λ i s. absurd (omega arith) };
-  avl = tt;
-  tall = refl;
-  entries = refl;
-  after = refl;
-  digits = record { above = omega arith; most = λ some. absurd (omega arith); none = λ z. refl; few = omega arith };
-  keys = λ i. refl;
-  others = λ i z. refl;
-  same_length = refl;
-})
-
 -- ---- the left part
 
 module _ (cs : List Cell) (ns : Nexts) (low high : ℕ) (at : Option ℕ) (run : IsRun cs ns (low + suc high) at) where
@@ -197,12 +182,6 @@ module _ (old mid : List Cell) (ns : Nexts) (low high : ℕ) (at : Option ℕ) (
 
 module _ (old mid far : List Cell) (ns : Nexts) (low high : ℕ) (at : Option ℕ) (left right : Built) (cell : ℕ) (run : IsRun old ns (low + suc high) at) (l : IsBuilt old mid ns low at left) (here : left.rest ≡ Some cell)
     (r : IsBuilt mid far ns high (next_of ns cell) right) (from : low ≤ high) (to : high ≤ low + 1) (new : List Cell) (written : new ≡ with_links far cell (links_with left.root right.root (balance_of left.levels right.levels))) where
-  tl : Tree
-  tl = tree_at mid left.levels left.root
-
-  tr : Tree
-  tr = tree_at far right.levels right.root
-
   links : Links
   links = links_with left.root right.root (balance_of left.levels right.levels)
 

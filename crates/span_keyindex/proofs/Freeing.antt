@@ -1,5 +1,5 @@
 -- How the chains are freed that are not in use.
-use Rattle.std.proofs.Common.{◌≡◌, ◌≢◌, ℕ, ◌+◌, ◌<◌, ◌≤◌, List, [], ◌∷◌, ◌++◌, refl, sym, ◌∙◌, ap, arith, length, get_or, set, inl, inr, true, false, Option, Some, None, cond}
+use Rattle.std.proofs.Common.{◌≡◌, ◌≢◌, ℕ, ◌+◌, ◌<◌, ◌≤◌, List, [], ◌∷◌, ◌++◌, refl, sym, ◌∙◌, ap, arith, length, get_or, set, inl, inr, true, false, Option, None, cond}
 use Rattle.std.proofs.Math.Bool.{and-false}
 use Rattle.std.specs.Prelude.{not, ◌&&◌, Bool, nat_lt}
 use Rattle.std.proofs.Math.ListN.{get_or-eq_default}
@@ -108,20 +108,7 @@ freed_cells a b cell unused keeps = record {
   same_length = length-set b.cells cell blank ∙ keeps.same_length;
 }
 
-pub without_unused : (es : List KeyEntry) (a b : Content) → IsArenaOf es a → IsFreed a b es → IsWithoutUnused a b
-without_unused es a b own freed = record {
-  chains = λ c. freed.chains c ∙ whole (is_unused a c) (holders c es) (get_or a.chains c None) (own.each c);
-  numbers = freed.numbers;
-  others = freed.others;
-}
-  where
-    -- what is no chain is none as it was
-    whole : (b : Bool) (n : ℕ) (o : Option (List ArenaVersion)) → n ≡ one_if_chain o → unless (b && nat_lt 0 n) o ≡ cond b None o
-    whole false n o is = refl
-    whole true n None is = rw is refl
-    whole true n (Some vs) is = rw is refl
-
-pub arena_of_used : (es : List KeyEntry) (a b : Content) → IsArenaOf es a → IsWithoutUnused a b → IsArenaOf (in_use a es) b
+pub arena_of_used : (es : List Entry) (a b : Content) → IsArenaOf es a → IsWithoutUnused a b → IsArenaOf (in_use a es) b
 arena_of_used es a b own without = record { each = λ c. holders-filter (λ n. not (is_unused a n)) c es ∙ left (is_unused a c) (holders c es) (get_or a.chains c None) (own.each c) ∙ ap one_if_chain (sym (without.chains c)) }
   where
     left : (b : Bool) (n : ℕ) (o : Option (List ArenaVersion)) → n ≡ one_if_chain o → cond (not b) n 0 ≡ one_if_chain (cond b None o)

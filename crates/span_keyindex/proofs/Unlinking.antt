@@ -20,10 +20,10 @@ use Rattle.span_keytree.specs.Nexts.{Nexts, next_of, IsLinked, with_cell, last_c
 use Rattle.span_keytree.specs.Roots.{tree_of, entries_at, IsIndex}
 use Rattle.span_keywalk.specs.Walks.{walked}
 use Rattle.span_keyindex.specs.Builds.{run_of, IsRun, IsBuilt}
-use Rattle.span_keytree.specs.Arenas.{IsArenaOf, IsWithoutUnused}
+use Rattle.span_keytree.specs.Arenas.{IsArenaOf}
 use Rattle.span_keyindex.specs.Removals.{is_kept, unmarked, all_of, IsSequence, passed_links, passed, passed_arena, KeepsCells}
 use Rattle.span_keytree.proofs.Counting.{one_here, one_same}
-use Rattle.span_keyindex.proofs.Freeing.{IsFreed, is_chain_next, is_unused_next, freed_used, freed_more, freed_none, freed_cells, without_unused}
+use Rattle.span_keyindex.proofs.Freeing.{IsFreed, is_chain_next, is_unused_next, freed_used, freed_more, freed_none, freed_cells}
 use Rattle.span_keytree.proofs.Linking.{held_append, held_items, linked_same, linked_more, last_some, last_held, held_apart}
 use Rattle.span_keytree.proofs.Whole.{length_cell}
 use Rattle.span_keyindex.proofs.Building.{run_most}
@@ -39,15 +39,7 @@ held_filter : (p : KeyEntry → Bool) (i : ℕ) (es : List KeyEntry) → holders
 held_filter p i [] = omega arith
 held_filter p i (e ∷ es) = omega (arith, held_head i (p e) e (filter p es), held_filter p i es)
 
-length_head : (b : Bool) (e : KeyEntry) (es : List KeyEntry) → length (cond b (e ∷ es) es) ≤ suc (length es)
-length_head true e es = omega arith
-length_head false e es = omega arith
-
-length_filter : (p : KeyEntry → Bool) (es : List KeyEntry) → length (filter p es) ≤ length es
-length_filter p [] = omega arith
-length_filter p (e ∷ es) = omega (arith, length_head (p e) e (filter p es), length_filter p es)
-
-all_head : (P : KeyEntry → Type 0) (b : Bool) (e : KeyEntry) (es : List KeyEntry) → P e → AllByRecursion P es → AllByRecursion P (cond b (e ∷ es) es)
+all_head : (P : Entry → Type 0) (b : Bool) (e : Entry) (es : List Entry) → P e → AllByRecursion P es → AllByRecursion P (cond b (e ∷ es) es)
 all_head P true e es h k = (h, k)
 all_head P false e es h k = k
 
@@ -251,27 +243,6 @@ passing_first a old own = record {
   freed = freed_none a;
   cells = record { others = λ i is. refl; same_length = refl };
 }
-
--- all is passed
-pub record IsPassed (es : List KeyEntry) (a b : Content) (ns : Nexts) (k : Kept) : Type 0 where
-  pub linked : IsLinked (next_of ns) ns.first (unmarked (is_unused a) es)
-  pub count : k.count ≡ length (unmarked (is_unused a) es)
-  pub arena : IsWithoutUnused a b
-  pub cells : KeepsCells (is_unused a) a.cells b.cells
-
-pub passed_all : (es : List KeyEntry) (a b : Content) (old ns : Nexts) (n step : ℕ) (at : Option ℕ) (k : Kept) → IsArenaOf es a → IsPassing es a b old ns n step at k → n ≤ step → IsPassed es a b ns k
-passed_all es a b old ns n step at k own passing le =
-    let whole : passing.gone ≡ es = sym (passing.parts ∙ ap (λ (xs : List KeyEntry). passing.gone ++ xs) (none passing.rest (omega (arith, passing.few))) ∙ append-nil passing.gone) in
-    record {
-      linked = subst (λ (xs : List KeyEntry). IsLinked (next_of ns) ns.first (unmarked (is_unused a) xs)) {x = passing.gone} {y = es} whole passing.relinked;
-      count = passing.count ∙ ap (λ (xs : List KeyEntry). length (unmarked (is_unused a) xs)) whole;
-      arena = without_unused es a b own (subst (λ (xs : List KeyEntry). IsFreed a b xs) {x = passing.gone} {y = es} whole passing.freed);
-      cells = passing.cells;
-    }
-  where
-    none : (xs : List KeyEntry) → length xs ≡ 0 → xs ≡ []
-    none [] h = refl
-    none (x ∷ xs) h = absurd (omega arith)
 
 -- ---- the index of what is left
 

@@ -1,6 +1,6 @@
 -- A new cell joined to the right end of a tree.
-use Rattle.std.proofs.Common.{◌≡◌, ℕ, suc, ◌+◌, ◌-◌, ◌<◌, ◌≤◌, List, refl, sym, ◌∙◌, ap, arith, length, true, false, Option, Some, None, subst}
-use Rattle.std.specs.Prelude.{Bool, nat_lt, Ok, Err}
+use Rattle.std.proofs.Common.{◌≡◌, ℕ, ◌-◌, ◌<◌, ◌≤◌, List, refl, sym, ◌∙◌, ap, arith, length, true, false, Option, Some, None, subst}
+use Rattle.std.specs.Prelude.{Bool, nat_lt, Ok}
 use Rattle.std.specs.declared.cmp.Ordering.TheVariants.{Greater}
 use Rattle.std.proofs.lemmas.Bool.Decides.{nat_tests}
 use Rattle.span_keycode.specs.Order.{byte_order}
@@ -9,54 +9,32 @@ use Rattle.span_arena.specs.declared.cell.Links.{Links}
 use Rattle.span_arena.specs.Cells.{cell_at, new_cell}
 use Rattle.span_arena.specs.Content.{Content, IsNewChain, with_cells}
 use Rattle.span_arena.specs.Counts.{Count}
-use Rattle.span_value.specs.declared.refusal.Refusal.{Refusal}
-use Rattle.span_keytree.specs.declared.join.GrownPart.{GrownPart}
+use Rattle.span_keytree.specs.declared.join.Part.{Part}
 use Rattle.span_keytree.specs.declared.tree.TreeRoot.{TreeRoot}
 use Rattle.span_keytree.specs.Avl.{grown_height}
 use Rattle.span_keytree.specs.Effects.{links_of, IsInside}
 use Rattle.span_keytree.specs.Entries.{IsAbsent}
 use Rattle.span_keytree.specs.Roots.{tree_of, entries_at, IsIndex}
 use Rattle.span_keytree.specs.Items.{items}
-use Rattle.span_keytree.specs.Joins.{joined_right_cells, joined_right_root, most_by, IsJoinCost}
+use Rattle.span_keytree.specs.Joins.{joined_right_cells, joined_right_root}
 use Rattle.span_keytree.specs.Lasts.{IsAboveRight, is_after, IsNewPart, turns_by, IsHangCost, IsTreeCost}
 use Rattle.span_keytree.specs.Nexts.{Nexts, places_with, with_place, with_cell, before_in, last_cell}
 use Rattle.span_keytree.specs.Puts.{tree_at, AreChains, IsTree, IsPut, IsPutIn, IsNext, IsAdded, IsPutCost, Added, put_of, extra, extra_of, extra_by}
 use Rattle.span_keytree.specs.Trees.{Tree, Leaf, Fork, IsInCells, count, height, shape}
 use Rattle.span_keytree.proofs.Counting.{stays}
-use Rattle.span_keytree.proofs.Costs.{IsReady, still_right}
+use Rattle.span_keytree.proofs.Costs.{IsReady}
 use Rattle.span_keytree.proofs.Exits.{fork_some, right_ready, right_added, new_relinked}
 use Rattle.span_keytree.proofs.Lasts.{all_before, last_new, inside_last, above_right, not_there, before_last, last_fork}
 use Rattle.span_keytree.proofs.Linking.{held_items}
-use Rattle.span_keytree.proofs.Puts.{leaf_at, places_more, places_here, not_in, cell_right}
+use Rattle.span_keytree.proofs.Puts.{places_more, places_here, not_in}
 use Rattle.span_keytree.proofs.Rising.{AllBelow}
 use Rattle.span_keytree.proofs.Searching.{search_absent}
-use Rattle.span_keytree.proofs.Spent.{right_under}
 use Rattle.span_keytree.proofs.Keyed.{keys_in_cells}
 use Rattle.span_keytree.proofs.Whole.{IsAfter, index_after, shape_is}
 
 -- a cell that has a place takes no other
 places_kept : (n c : ℕ) → c < n → places_with n c ≡ n
 places_kept n c lt = let t : nat_lt c n ≡ true = grind (arith, nat_tests) in rw t refl
-
--- ---- where the link leads nowhere
-
-module _ (cs : List Cell) (levels : ℕ) (at : Option ℕ) (part : GrownPart) (none : at ≡ None) where
-  no_tree : tree_at cs levels at ≡ Leaf
-  no_tree = ap (λ (x : Option ℕ). tree_at cs levels x) none ∙ leaf_at cs levels
-
-  pub hung_alone : IsNewPart cs part → IsAdded cs cs (tree_at cs levels at) (cell_at cs part.cell).key part
-  hung_alone new =
-      let here = new.here in
-      subst (λ (t : Tree). IsAdded cs cs t (cell_at cs part.cell).key part) {x = Leaf} {y = tree_at cs levels at} (sym no_tree) (record {
-        absent = refl;
-        free = refl;
-        number = omega arith;
-        one_more = sym (places_kept (length cs) part.cell here);
-        in_cells = (new.alone, tt, tt);
-        root = ap (λ (x : ℕ). Some x) new.root;
-        grew = new.grew;
-        others = λ i differs n. refl;
-      })
 
 -- ---- where it leads to a cell
 
@@ -84,28 +62,6 @@ pub last_by : (cs : List Cell) (levels : ℕ) (at : Option ℕ) (i : ℕ) (ls : 
 last_by cs levels at i ls e read tree x =
     ap (λ (t : Tree). last_cell x (items t)) (fork_some cs levels at i ls e read tree)
     ∙ last_fork x (tree_at cs (levels - 1) ls.left) i (cell_at cs i).key ls.balance (tree_at cs (levels - 1) ls.right)
-
--- other links twice
-pub linked_twice : (old mid new : Content) (cs : List Cell) → mid ≡ with_cells old mid.cells → new ≡ with_cells mid cs → new ≡ with_cells old new.cells
-linked_twice old mid new cs first then =
-    then ∙ ap (λ (m : Content). with_cells m cs) first ∙ ap (λ (m : Content). with_cells old m.cells) (sym then)
-
-pub same_cell : (mid : List Cell) (i : ℕ) (part after : GrownPart) (c : ℕ) → after ≡ joined_right_root part.grew mid i part → part.cell ≡ c → after.cell ≡ c
-same_cell mid i part after c result same = ap (λ (p : GrownPart). p.cell) result ∙ cell_right part.grew mid i part ∙ same
-
-turns_join : (p a : Bool) → (p ≡ false → a ≡ false) → turns_by p + most_by p a ≤ suc (turns_by a)
-turns_join false false same = omega arith
-turns_join false true same = absurd (let e : true ≡ false = same refl in cc)
-turns_join true false same = omega arith
-turns_join true true same = omega arith
-
-pub hung_cost : (old mid : List Cell) (levels : ℕ) (at : Option ℕ) (i : ℕ) (ls : Links) (part after : GrownPart) (s0 s1 s2 : Count) → at ≡ Some i → ls ≡ links_of old i → IsTree old at (tree_at old levels at)
-    → IsHangCost (tree_at old (levels - 1) ls.right) part s0 s1 → IsJoinCost part.grew after.grew s1 s2 → after ≡ joined_right_root part.grew mid i part → IsHangCost (tree_at old levels at) after s0 s2
-hung_cost old mid levels at i ls part after s0 s1 s2 e read tree cost join result =
-    let low : suc (height (tree_at old (levels - 1) ls.right)) ≤ height (tree_at old levels at) = right_under old levels at i ls e read tree in
-    let m = turns_join part.grew after.grew (still_right mid i part after part.grew result) in
-    let a = cost.compared in let b = cost.written in let c = join.compared in let d = join.written in
-    record { compared = c ∙ a; written = omega arith }
 
 -- ---- the index
 
@@ -225,7 +181,3 @@ module _ (a mid : Content) (ns ms : Nexts) (index : TreeRoot) (key : List ℕ) (
 pub is_added : (a mid : List Cell) (key : List ℕ) (first : GrownPart) (b : Bool) → IsPut a mid Leaf key (put_of b first) → put_of b first ≡ Added first
 is_added a mid key first false put = absurd (let e : None ≡ Some first.cell = put.here in cc)
 is_added a mid key first true put = refl
-
--- a key that gets no cell
-pub refused_cost : (t : Tree) (why : Refusal) (s0 s1 : Count) → IsPutCost Leaf (Err why) s0 s1 → IsTreeCost 0 t s0 s1
-refused_cost t why s0 s1 put = (let x = put.compared in let y = put.written in record { compared = omega arith; written = omega arith })

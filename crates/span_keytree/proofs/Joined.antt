@@ -16,10 +16,6 @@ use Rattle.span_keytree.proofs.Turned.{IsNow, relinked, relinked_thrice, single_
 now_is : (cs new other : List Cell) (t : Tree) (root place : ℕ) → other ≡ new → place ≡ root → IsNow cs new t root → IsNow cs other t place
 now_is cs new other t root place e f now = subst (λ (x : List Cell). IsNow cs x t place) {x = new} {y = other} (sym e) (subst (λ (x : ℕ). IsNow cs new t x) {x = root} {y = place} (sym f) now)
 
--- where a part of the tree is
-part_in : (cs : List Cell) (n : ℕ) (t : Tree) → ((i : ℕ) → 0 < count i t → i < length cs) → 0 < count n t → n < length cs
-part_in cs n t within some = within n some
-
 links_is : (cs : List Cell) (l : Tree) (n : ℕ) (k : List ℕ) (b : Balance) (r : Tree) → cell_at cs n ≡ cell_of l k b r → links_of cs n ≡ links_with (root_of l) (root_of r) b
 links_is cs l n k b r e = ap (λ (x : Cell). x.links) e
 

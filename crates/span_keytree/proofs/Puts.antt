@@ -1,5 +1,5 @@
 -- A key put into a part of a tree of cells is put into the tree.
-use Rattle.std.proofs.Common.{◌≡◌, ◌≢◌, ℕ, zero, suc, ◌+◌, ◌-◌, ◌<◌, ◌≤◌, List, [], ◌∷◌, ◌++◌, refl, sym, ◌∙◌, ap, arith, length, inl, inr, true, false, Option, Some, None, subst, get_or, length-append, length-set}
+use Rattle.std.proofs.Common.{◌≡◌, ◌≢◌, ℕ, zero, suc, ◌+◌, ◌-◌, ◌<◌, ◌≤◌, List, [], ◌∷◌, ◌++◌, refl, sym, ◌∙◌, ap, arith, length, inl, inr, true, false, Option, Some, None, subst, get_or, length-append}
 use Rattle.std.specs.Prelude.{Bool, nat_lt}
 use Rattle.std.specs.declared.cmp.Ordering.{Ordering}
 use Rattle.std.specs.declared.cmp.Ordering.TheVariants.{Less, Greater}
@@ -8,14 +8,13 @@ use Rattle.std.proofs.lemmas.List.{get_or_append_left, get_or-set_other}
 use Rattle.std.proofs.lemmas.Bool.Decides.{nat_tests}
 use Rattle.std.proofs.Math.ListN.{get_or-eq_default}
 use Rattle.span_arena.specs.Content.{Content, IsChain, IsNewChain, with_at}
-use Rattle.span_arena.proofs.Keeping.{with_at-same}
 use Rattle.span_keycode.specs.Order.{byte_order}
 use Rattle.span_arena.specs.declared.cell.Cell.{Cell}
 use Rattle.span_arena.specs.declared.cell.Balance.{Balance}
 use Rattle.span_arena.specs.declared.cell.Balance.TheVariants.{LeftHigh, Even, RightHigh}
-use Rattle.span_keytree.specs.declared.join.GrownPart.{GrownPart}
-use Rattle.span_keytree.specs.Trees.{Tree, Leaf, Fork, Grown, root_of, cell_of, IsInCells, one_at, count, joined_left, joined_right, placed, inserted, by_side, search_in}
-use Rattle.span_arena.specs.Cells.{cell_at, blank, new_cell}
+use Rattle.span_keytree.specs.declared.join.Part.{Part}
+use Rattle.span_keytree.specs.Trees.{Tree, Fork, Grown, root_of, cell_of, IsInCells, one_at, count, joined_left, joined_right, placed, inserted, by_side, search_in}
+use Rattle.span_arena.specs.Cells.{cell_at}
 use Rattle.span_keytree.specs.Effects.{links_of}
 use Rattle.span_keytree.specs.Joins.{joined_left_cells, joined_left_root, higher_left_root, joined_right_cells, joined_right_root, higher_right_root}
 use Rattle.span_keytree.specs.Nexts.{places_with}
@@ -32,11 +31,6 @@ pub record IsFork (cs : List Cell) (levels i : ℕ) : Type 0 where
 pub fork_at : (cs : List Cell) (levels i : ℕ) → IsTree cs (Some i) (tree_at cs levels (Some i)) → IsFork cs levels i
 fork_at cs zero i tree = absurd (let e : Some i ≡ None = tree.root in cc)
 fork_at cs (suc n) i tree = let e : suc n - 1 ≡ n = omega arith in record { some = omega arith; is = rw e refl }
-
--- a link that leads nowhere
-pub leaf_at : (cs : List Cell) (levels : ℕ) → tree_at cs levels None ≡ Leaf
-leaf_at cs zero = refl
-leaf_at cs (suc n) = refl
 
 left_tree : (cs : List Cell) (l : Tree) (i : ℕ) (k : List ℕ) (b : Balance) (r : Tree) → IsTree cs (Some i) (Fork l i k b r) → IsTree cs (links_of cs i).left l
 left_tree cs l i k b r tree = record {
@@ -87,12 +81,6 @@ places_here n c le = elim (cases_lt c n) [
   | inr ge ↦ (let t : nat_lt c n ≡ false = grind (arith, nat_tests) in rw t (omega arith))
 ]
 
-pub length_at : {A : Type 0} → (xs : List A) (c : ℕ) (x : A) → length (with_at xs c x) ≡ places_with (length xs) c
-length_at xs c x = elim (cases_lt c (length xs)) [
-  | inl lt ↦ (let t : nat_lt c (length xs) ≡ true = grind (arith, nat_tests) in rw t (length-set xs c x))
-  | inr ge ↦ (let t : nat_lt c (length xs) ≡ false = grind (arith, nat_tests) in rw t (length-append xs (x ∷ [])))
-]
-
 pub elsewhere : {A : Type 0} → (xs : List A) (c i : ℕ) (x d : A) → i ≢ c → c ≤ length xs → get_or (with_at xs c x) i d ≡ get_or xs i d
 elsewhere xs c i x d differs le = elim (cases_lt c (length xs)) [
   | inl lt ↦ (let t : nat_lt c (length xs) ≡ true = grind (arith, nat_tests) in rw t (get_or-set_other xs c i x d differs))
@@ -101,18 +89,6 @@ elsewhere xs c i x d differs le = elim (cases_lt c (length xs)) [
     | inr past ↦ (let long : length (xs ++ x ∷ []) ≤ i = omega (arith, length-append xs (x ∷ [])) in get_or-eq_default (xs ++ x ∷ []) d long ∙ sym (get_or-eq_default xs d past))
   ]))
 ]
-
-pub added_alone : (old new : List Cell) (key : List ℕ) (part : GrownPart) → part.cell ≤ length old → part.root ≡ part.cell → part.grew ≡ true → new ≡ with_at old part.cell (new_cell key) → IsAdded old new Leaf key part
-added_alone old new key part number root grew is = record {
-  absent = refl;
-  free = refl;
-  number = number;
-  one_more = ap length is ∙ length_at old part.cell (new_cell key);
-  in_cells = (ap (λ (cs : List Cell). cell_at cs part.cell) is ∙ with_at-same old part.cell (new_cell key) blank number, tt, tt);
-  root = ap (λ (x : ℕ). Some x) root;
-  grew = grew;
-  others = λ i differs none. ap (λ (cs : List Cell). cell_at cs i) is ∙ elsewhere old part.cell i (new_cell key) blank differs number;
-}
 
 -- ---- the left part
 

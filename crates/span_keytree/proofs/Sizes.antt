@@ -14,10 +14,6 @@ abbrev ones : ℕ → ℕ → ℕ
 ones zero c = 0
 ones (suc n) c = one_at n c + ones n c
 
-counted_leaf : (n : ℕ) → counted n Leaf ≡ 0
-counted_leaf zero = refl
-counted_leaf (suc n) = omega (arith, counted_leaf n)
-
 counted_fork : (n : ℕ) (l : Tree) (c : ℕ) (k : List ℕ) (b : Balance) (r : Tree) → counted n (Fork l c k b r) ≡ ones n c + (counted n l + counted n r)
 counted_fork zero l c k b r = omega arith
 counted_fork (suc n) l c k b r = omega (arith, counted_fork n l c k b r)

@@ -89,9 +89,3 @@ left_search old levels at i ls s0 s1 s2 e read tree one cost = search_deeper (tr
 
 pub right_search : (old : List Cell) (levels : ℕ) (at : Option ℕ) (i : ℕ) (ls : Links) (s0 s1 s2 : Count) → at ≡ Some i → ls ≡ links_of old i → IsTree old at (tree_at old levels at) → IsCompared s0 s1 → IsSearchOf (tree_at old (levels - 1) ls.right) s1 s2 → IsSearchOf (tree_at old levels at) s0 s2
 right_search old levels at i ls s0 s1 s2 e read tree one cost = search_deeper (tree_at old levels at) (tree_at old (levels - 1) ls.right) s0 s1 s2 (right_under old levels at i ls e read tree) one cost
-
-pub here_search : (old : List Cell) (levels : ℕ) (at : Option ℕ) (i : ℕ) (ls : Links) (s0 s1 : Count) → at ≡ Some i → ls ≡ links_of old i → IsTree old at (tree_at old levels at) → IsCompared s0 s1 → IsSearchOf (tree_at old levels at) s0 s1
-here_search old levels at i ls s0 s1 e read tree one =
-    let low = left_under old levels at i ls e read tree in
-    let a = one.compared in
-    record { compared = omega arith; written = one.written }

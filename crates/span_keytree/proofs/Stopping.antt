@@ -153,11 +153,7 @@ levels_low f (suc n) (Some i) =
     let most = max-le (levels_low f n (f i).links.left) (levels_low f n (f i).links.right) in
     omega (arith, most)
 
-root_cell : (at : Option ℕ) (part : GrownPart) → (with_root at part).cell ≡ part.cell
-root_cell None part = refl
-root_cell (Some root) part = refl
-
-root_grew : (at : Option ℕ) (part : GrownPart) → (with_root at part).grew ≡ part.grew
+root_grew : (at : Option ℕ) (part : Part) → (with_root at part).grew ≡ part.grew
 root_grew None part = refl
 root_grew (Some root) part = refl
 
@@ -217,9 +213,6 @@ module _ (cs : List Cell) (levels : ℕ) (at : Option ℕ) (key : List ℕ) (c p
       module _ (new : List Cell) (after : GrownPart) (same : part.cell ≡ c) (result : after ≡ joined_right_root part.grew mid p part) where
         after_is : after ≡ kept_part c p
         after_is = result ∙ ap (λ (g : Bool). joined_right_root g mid p part) stays_low ∙ ap (λ (x : ℕ). kept_part x p) same
-
-        pub part_cell : (with_root at after).cell ≡ c
-        part_cell = root_cell at after ∙ ap (λ (x : GrownPart). x.cell) after_is
 
         pub part_added : new ≡ joined_right_cells part.grew mid p part.root → IsAdded cs new (tree_at cs levels at) key (with_root at after)
         part_added cells =

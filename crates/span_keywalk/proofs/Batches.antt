@@ -1,5 +1,5 @@
 -- Short keys, found one by one.
-use Rattle.std.proofs.Common.{◌≡◌, ℕ, zero, suc, ◌+◌, ◌-◌, ◌<◌, ◌≤◌, List, [], ◌∷◌, ◌++◌, refl, sym, ◌∙◌, ap, arith, length, map, take, set, true, false, cond, Option, Some, None, subst, append_assoc}
+use Rattle.std.proofs.Common.{◌≡◌, ℕ, zero, suc, ◌+◌, ◌-◌, ◌<◌, ◌≤◌, List, [], ◌∷◌, ◌++◌, refl, sym, ◌∙◌, ap, arith, length, take, set, true, false, cond, Option, Some, subst, append_assoc}
 use Rattle.std.specs.Prelude.{Bool, nat_le, nat_lt}
 use Rattle.std.proofs.lemmas.Bool.Decides.{nat_tests}
 use Rattle.std.proofs.lemmas.List.{map-append, take-set, take_more_set}
@@ -50,15 +50,6 @@ same_short cs ns most stop es xs ys n m o p e f g h =
     subst (λ (zs : List ℕ). AreShortOf cs ns most stop es zs n o) (sym e)
     (subst (λ (k : ℕ). AreShortOf cs ns most stop es ys k o) (sym f)
     (subst (λ (q : Option ℕ). AreShortOf cs ns most stop es ys m q) (sym g) h))
-
--- nothing is found, and then more
-pub short_after : (cs : List Cell) (ns : Nexts) (most : ℕ) (stop : Option ℕ) (es : List KeyEntry) (xs ys : List ℕ) (n m : ℕ) (o p : Option ℕ) → xs ≡ []
-    → AreShortOf cs ns most stop es xs n o → AreShortOf cs ns most stop (walked_in cs ns n o stop) ys m p → AreShortOf cs ns most stop es ys m p
-short_after cs ns most stop es xs ys n m o p none first later = record {
-  short = later.short ∙ sym (ap (λ (zs : List ℕ). cell_entries cs zs ++ short_entries most (walked_in cs ns n o stop)) none) ∙ first.short;
-  found = later.found;
-  below = later.below;
-}
 
 -- a key on
 module _ (cs : List Cell) (ns : Nexts) (most i : ℕ) where

@@ -377,9 +377,6 @@ abbrev pub is_in_bounds : List KeyBound → Value → Bool
 is_in_bounds bs v = list_all (λ (b : KeyBound). compares b.0 v b.1) bs
 
 module _ (k : Kind) (row : List Value) (place low high : ℕ) (fits : Fits k (column_of row place)) (passes : is_in low high place ≡ true) where
-  abbrev out_of : List KeyBound → Bool
-  out_of bs = not (is_in_bounds bs (column_of row place))
-
   -- of one condition
   one_out : (e : Expr) (bs : List KeyBound) → AllByRecursion (RefusedOut k (column_of row place) (val row e)) bs → is_in_bounds (filter (λ (b : KeyBound). is_of_type k b.1) bs) (column_of row place) ≡ false → is_refused (val row e) ≡ true
   one_out e [] all out = cc

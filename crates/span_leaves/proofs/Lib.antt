@@ -9,4 +9,3 @@ pub mod Ranging
 pub mod Extents
 pub mod Reading
 pub mod Picked
-pub mod OwnChecks

@@ -42,10 +42,6 @@ skipped t q zero bs = sym (with_zero (closing_quote t q 0 bs))
 skipped t q (suc k) [] = closed_nil t q (suc k) ∙ sym (ap (with_more (suc k)) (closed_nil t q 0))
 skipped t q (suc k) (b ∷ bs) = closed_in t q k b bs ∙ ap one_more (skipped t q k bs) ∙ with_suc k (closing_quote t q 0 (drop k bs))
 
-pub one_plus : (o : Option ℕ) → one_more o ≡ with_more 1 o
-one_plus None = refl
-one_plus (Some n) = ap Some (omega arith)
-
 -- a piece of n bytes, then the rest
 pub piece_then : (t : Literal) (q b n : ℕ) (bs : List ℕ) → b ≢ q → piece_length t (b ∷ bs) ≡ Some n → 0 < n → closing_quote t q 0 (b ∷ bs) ≡ with_more n (closing_quote t q 0 (drop n (b ∷ bs)))
 piece_then t q b zero bs ne e pos = absurd (omega arith)

@@ -1,5 +1,5 @@
 -- Each item is read, whatever follows it, and a text of items is read to its end.
-use Rattle.std.proofs.Common.{◌≡◌, ◌⊎◌, inl, inr, ℕ, zero, suc, ◌+◌, ◌-◌, ◌*◌, ◌<◌, ◌≤◌, ◌==◌, nat_lt, Bool, true, false, not, ◌&&◌, ◌||◌, List, [], ◌∷◌, ◌++◌, length, drop, take, Option, Some, None, if◌then◌else◌, refl, sym, ap, subst, ◌∙◌, arith, eqb-true}
+use Rattle.std.proofs.Common.{◌≡◌, ◌⊎◌, inl, inr, ℕ, zero, suc, ◌+◌, ◌-◌, ◌*◌, ◌<◌, ◌≤◌, ◌==◌, nat_lt, Bool, true, false, not, ◌&&◌, ◌||◌, List, [], ◌∷◌, ◌++◌, length, drop, take, Option, Some, None, refl, sym, ap, subst, ◌∙◌, arith, eqb-true}
 use Rattle.std.proofs.lemmas.Grind.{common_steps}
 use Rattle.std.proofs.lemmas.List.{take-append-drop}
 use Rattle.std.proofs.lemmas.Bool.{or_parts}
@@ -168,9 +168,6 @@ integer_front_read ds rest v h =
 
 -- ---- signs
 
-abbrev Alone : Sign → List ℕ → Type 0
-Alone s rest = (b : ℕ) → (more : List ℕ) → rest ≡ b ∷ more → (a : ℕ) → sign s ≡ a ∷ [] → is_pair a b ≡ false
-
 not_next : (p : ℕ → Bool) (rest : List ℕ) → ((b : ℕ) (more : List ℕ) → rest ≡ b ∷ more → p b ≡ false) → begins p rest ≡ false
 not_next p [] h = refl
 not_next p (b ∷ rest) h = h b rest refl
@@ -186,14 +183,6 @@ pair_greater c e = (or_parts (c == 61) false e).0
 pair_minus : (c : ℕ) → is_pair 45 c ≡ false → (c == 45) ≡ false
 unfolding is_pair
 pair_minus c e = e
-
-less_front : (bs : List ℕ) → lex_sign 60 bs ≡ (if begins (λ c. c == 61) bs then lex_result.Lexeme (kind.Sign sgn.LessEqual) 2 else (if begins (λ c. c == 62) bs then lex_result.Lexeme (kind.Sign sgn.LessGreater) 2 else lex_result.Lexeme (kind.Sign sgn.Less) 1))
-unfolding lex_sign
-less_front bs = refl
-
-greater_front : (bs : List ℕ) → lex_sign 62 bs ≡ (if begins (λ c. c == 61) bs then lex_result.Lexeme (kind.Sign sgn.GreaterEqual) 2 else lex_result.Lexeme (kind.Sign sgn.Greater) 1)
-unfolding lex_sign
-greater_front bs = refl
 
 sign_read : (s : Sign) (rest : List ℕ) → NoPair (sign s) rest → lex_first (sign s ++ rest) ≡ lex_result.Lexeme (kind.Sign s) (length (sign s))
 unfolding lex_first is_blank is_mark is_letter is_digit is_quote lex_sign
@@ -217,11 +206,6 @@ sign_read sgn.GreaterEqual rest h = refl
 sign_read sgn.Concat rest h = refl
 
 -- ---- items
-
-abbrev front_for : Item → LexResult
-front_for (Blank b) = lex_result.Skip 1
-front_for (Comment bytes) = lex_result.Skip (2 + length bytes)
-front_for (Lexeme k bytes) = lex_result.Lexeme k (length bytes)
 
 comment_read : (bytes rest : List ℕ) → Each is_on_line bytes → Stops is_on_line rest → lex_first (45 ∷ 45 ∷ (bytes ++ rest)) ≡ lex_result.Skip (2 + length bytes)
 unfolding lex_first is_blank is_mark is_letter is_digit is_quote is_on_line

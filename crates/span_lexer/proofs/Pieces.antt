@@ -93,10 +93,6 @@ back_is_no_quote : (q : ℕ) → is_quote q ≡ true → 92 ≢ q
 unfolding is_quote
 back_is_no_quote q h e = let P : ℕ → Type 0 = λ x. is_quote x ≡ true in let bad : false ≡ true = subst P (sym e) h in cc
 
-drop_piece : (xs ys : List ℕ) → drop (length xs) (xs ++ ys) ≡ ys
-drop_piece [] ys = refl
-drop_piece (x ∷ xs) ys = drop_piece xs ys
-
 piece_closes : (t : Literal) (q : ℕ) → 92 ≢ q → (p : Piece) (rest : List ℕ) → IsPiece t q p → closing_quote t q 0 (piece_bytes p ++ rest) ≡ with_more (length (piece_bytes p)) (closing_quote t q 0 rest)
 piece_closes t q n (Plain b) rest h = piece_then t q b 1 rest (not_quote q b h.0) (read_piece t q (Plain b) rest h) (omega arith)
 piece_closes t q n (Escaped e) rest h = piece_then t q 92 2 (e ∷ rest) n (read_piece t q (Escaped e) rest h) (omega arith)

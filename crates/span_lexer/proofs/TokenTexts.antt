@@ -88,10 +88,6 @@ integer_low : (bytes rest : List ℕ) (v : ℕ) → IsInteger bytes v rest → E
 integer_low [] rest v h = absurd (omega (arith, h.some))
 integer_low (b ∷ bytes) rest v h = each_low is_digit digit_low b bytes h.only
 
-front_low : (front bytes : List ℕ) → EndsLow bytes → EndsLow (front ++ bytes)
-front_low [] bytes h = h
-front_low (b ∷ front) bytes h = more b (front ++ bytes) (front_low front bytes h)
-
 sign_low : (s : Sign) → EndsLow (sign s)
 sign_low sgn.Open = one 40 (omega arith)
 sign_low sgn.Close = one 41 (omega arith)

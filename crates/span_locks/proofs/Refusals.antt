@@ -25,10 +25,10 @@ use Rattle.span_machine.specs.declared.transaction.Decision.TheVariants as decis
 use Rattle.span_machine.specs.declared.transaction.OpenTransaction.{OpenTransaction}
 use Rattle.span_machine.specs.Kept as kept
 use Rattle.span_machine.specs.Limits.{most_transactions, most_commits, most_slots, number_end}
-use Rattle.span_machine.specs.Machine.{Machine, Answer, refused, if_some, refusal_of, unless_refused, for_slot, has_conflict, is_early, is_safe, with_horizon, is_transaction, is_undecided, is_prepared_at, is_all_prepared, mutations_in, begin_refusal, begun, begin, prepare_refusal, mutations_refusal, capacity_refusal, prepare_timestamp, prepared, prepare_transaction, prepare, commit_refusal, commit_timestamp, committed, aborted, decide_transaction, decide, apply_refusal, applied_at, apply_transaction, apply_step, advanced, advance, trim_refusal, trimmed, trim_slot, trim, begins_at, slot_of, split_refusal, split_in_two, split_slot, split_at}
+use Rattle.span_machine.specs.Machine.{Machine, Answer, refused, if_some, refusal_of, unless_refused, for_slot, has_conflict, is_early, is_transaction, is_undecided, is_prepared_at, is_all_prepared, mutations_in, begin_refusal, begun, begin, prepare_refusal, mutations_refusal, capacity_refusal, prepare_timestamp, prepared, prepare_transaction, prepare, commit_refusal, commit_timestamp, committed, aborted, decide_transaction, decide, apply_refusal, applied_at, apply_transaction, apply_step, advanced, advance, begins_at, slot_of, split_refusal, split_in_two, split_slot, split_at}
 use Rattle.span_machine_laws.proofs.Reached.{IsReached, reached_tables}
 use Rattle.span_machine_laws.proofs.Splits.{may_split}
-use Rattle.span_locks.specs.Replies.{at_slot, IsAmong, IsPrepareRefusal, begin_refusals, apply_refusals, abort_refusals, decide_refusals, prepare_refusals, split_refusals, trim_refusals}
+use Rattle.span_locks.specs.Replies.{at_slot, IsAmong, IsPrepareRefusal, begin_refusals, apply_refusals, abort_refusals, decide_refusals, prepare_refusals, split_refusals}
 
 -- ---- replies of one kind
 
@@ -53,9 +53,6 @@ refused_began a n e = absurd (cc e)
 
 refused_floor : (a : Refusal) (n : ℕ) → reply.Refused a ≡ reply.Floor n → ⊥
 refused_floor a n e = absurd (cc e)
-
-refused_trimmed : (a : Refusal) (n : ℕ) → reply.Refused a ≡ reply.Trimmed n → ⊥
-refused_trimmed a n e = absurd (cc e)
 
 refused_prepared : (a : Refusal) (n : ℕ) → reply.Refused a ≡ reply.Prepared n → ⊥
 refused_prepared a n e = absurd (cc e)
@@ -116,17 +113,6 @@ module _ (m : Machine) (slot : ℕ) (interval : Interval) where
       by : (o : Option SlotState) → reply.Floor floor ≡ (if_some o (refused m refusal.NoSlot) (advanced m slot interval)).0 → interval.latest ≤ floor
       by None f = absurd (refused_floor refusal.NoSlot floor (sym f))
       by (Some s) f = subst (λ (n : ℕ). interval.latest ≤ n) (sym (floor_same floor (max s.floor interval.latest) f)) (le-max_right s.floor interval.latest)
-
-pub trim_refused : (schema : List Table) (m : Machine) (slot h : ℕ) (why : Refusal) → reply.Refused why ≡ (trim schema m slot h).0 → IsAmong trim_refusals why
-trim_refused schema m slot h why e = by (slice_get m.slots slot) e
-  where
-    by : (o : Option SlotState) → reply.Refused why ≡ (if_some o (refused m refusal.NoSlot) (trim_slot schema m slot h)).0 → IsAmong trim_refusals why
-    by None f = inl (refused_same why refusal.NoSlot f)
-    by (Some s) f = cause s (unless_cause m (trim_refusal m slot h s) (trimmed schema m slot h s) why f)
-      where
-        cause : (s : SlotState) → (trim_refusal m slot h s ≡ Some why) ⊎ (reply.Refused why ≡ (trimmed schema m slot h s).0) → IsAmong trim_refusals why
-        cause s (inl is) = inr (among_causes ((nat_lt h s.horizon, refusal.TrimBackward) ∷ (not (is_safe m slot s h), refusal.TrimTooNew) ∷ []) why is)
-        cause s (inr f) = absurd (refused_trimmed why (kept.live schema m.log m.transactions slot (with_horizon h s)) f)
 
 -- ---- splits
 

@@ -26,7 +26,7 @@ use Rattle.span_locks.specs.Held.{IsKeeper}
 use Rattle.span_board.specs.Known.{Known}
 use Rattle.span_board.specs.Rule.{known_at}
 use Rattle.span_locks.specs.Replies.{MayReply, IsAmong}
-use Rattle.span_locks.specs.Refusing.{IsUnopened, IsUnscanned, IsEndRefused, IsFault, IsFaultOf, IsUnfinished, IsRefusedAtFirst, IsQueryRefusal}
+use Rattle.span_locks.specs.Refusing.{IsUnopened, IsUnscanned, IsEndRefused, IsFault, IsFaultOf, IsUnfinished, IsQueryRefusal}
 use Rattle.span_locks.proofs.Refusals.{refused_same}
 use Rattle.span_locks.proofs.Replying.{answers_may, replies, may_reply}
 
@@ -99,12 +99,6 @@ rows_unfinished schema text params s seen taken why (inl e) faulty =
           (subst (λ (i : ℕ). IsFault schema taken.text taken.params seen i) f.s_is (faulty f.gives))),
     )
 rows_unfinished schema text params s seen taken why (inr e) faulty = inr (inl e)
-
--- a text that is refused, or memory ran out
-pub text_refused : (schema : List Table) (text : List ℕ) (params : List Parameter) (bound : Bound) (interval : Interval) (why : Refusal) → (why ≡ refusal.OutOfMemory) ⊎ Understands schema text params (Err why)
-    → IsRefusedAtFirst schema text params bound interval why
-text_refused schema text params bound interval why (inl e) = inr (inl e)
-text_refused schema text params bound interval why (inr e) = inl e
 
 -- the same of a result
 pub result_unfinished : (schema : List Table) (text : List ℕ) (params : List Parameter) (s : ℕ) (seen : List Commit) (taken : Taken) (r : Result Found Refusal)

@@ -1,7 +1,7 @@
 -- The journal under its lock is a machine that goes with what the rule knows of it, and its reply is the answer.
 use Rattle.std.proofs.Common.{◌≡◌, ◌⊎◌, ◌≤◌, ◌<◌, ℕ, List, [], ◌∷◌, length, Option, Some, None, Result, Ok, Err, refl, sym, ap, ◌∙◌, subst, inl, inr, arith}
 use Rattle.std.specs.Prelude.{slice_get, slice_set, IfOk, IfErr, IfSome, MatchOption}
-use Rattle.std.proofs.lemmas.Option.{slice_get_past, slice_get-get_or}
+use Rattle.std.proofs.lemmas.Option.{slice_get-get_or}
 use Rattle.atomic_table.specs.Seated.{TableId}
 use Rattle.span_value.specs.declared.refusal.Refusal.{Refusal}
 use Rattle.span_value.specs.declared.refusal.Refusal.TheVariants as refusal
@@ -30,17 +30,14 @@ use Rattle.span_board.specs.declared.board.Role.{Role}
 use Rattle.span_locks.specs.Held.{IsKeeper}
 use Rattle.span_board.specs.Known.{Known}
 use Rattle.span_board.specs.Rule.{SessionHistory, IsBegunAt, known_at}
-use Rattle.span_locks.specs.Replies.{IsMachineOf, Replies, MayReply, RepliesOnce, MayReplyOnce, RepliesAt, MayReplyAt, at_slot, RepliesToCommit, RepliesToCommitOnce, RepliesToBegun, RepliesToVerdict, RepliesToDecision, IsBeginRefused, IsPrepareRefused, IsUndecided, IsUncommitted, IsAmong, IsPrepareRefusal, IsCommitRefusal, begin_refusals, apply_refusals, abort_refusals, decide_refusals, split_refusals, trim_refusals, IsErrAmong}
-use Rattle.span_locks.proofs.Refusals.{refused_same, at_slot_cause, advance_refused, advance_floor, trim_refused, split_refused, split_number, cut_within, apply_refused, begin_refused, commit_refused, abort_refused, abort_undecided, prepare_refused}
+use Rattle.span_locks.specs.Replies.{IsMachineOf, Replies, MayReply, RepliesOnce, MayReplyOnce, RepliesAt, MayReplyAt, at_slot, RepliesToCommit, RepliesToCommitOnce, RepliesToBegun, RepliesToVerdict, RepliesToDecision, IsBeginRefused, IsPrepareRefused, IsUndecided, IsUncommitted, IsAmong, IsPrepareRefusal, IsCommitRefusal, begin_refusals, apply_refusals, abort_refusals, decide_refusals, split_refusals, IsErrAmong}
+use Rattle.span_locks.proofs.Refusals.{refused_same, at_slot_cause, advance_refused, advance_floor, split_refused, split_number, cut_within, apply_refused, begin_refused, commit_refused, abort_refused, abort_undecided, prepare_refused}
 
 -- ---- slots of a machine
 
 module _ (m : Machine) (slot : ℕ) (step : Machine → Answer) where
   pub at_used : slot < length m.slots → at_slot slot step m ≡ step m
   at_used within = ap (λ (o : Option SlotState). if_some o (refused m refusal.NoSlot) (λ _. step m)) (slice_get-get_or m.slots slot first_slot within)
-
-  pub at_spare : length m.slots ≤ slot → at_slot slot step m ≡ refused m refusal.NoSlot
-  at_spare past = ap (λ (o : Option SlotState). if_some o (refused m refusal.NoSlot) (λ _. step m)) (slice_get_past m.slots slot past)
 
 -- the machine's answer, or out of memory
 pub answers_may : (m : Machine) (a : Answer) (r : Reply) (n : Machine) → Answers m a r n → (r ≡ reply.Refused refusal.OutOfMemory) ⊎ (r ≡ a.0)
@@ -76,10 +73,6 @@ module _ (schema : List Table) (table here : TableId) (views : List (List Role))
   pub used_may_reply : (slot : ℕ) → slot < length j.slots → (step : Machine → Answer) (r : Reply) → (r ≡ reply.Refused refusal.OutOfMemory) ⊎ (r ≡ (step (machine_of j)).0) → MayReply schema known (at_slot slot step) r
   used_may_reply slot within step r (inl e) = inl e
   used_may_reply slot within step r (inr e) = inr (used_replies slot within step r e)
-
-  -- at one that is not
-  pub spare_replies : (slot : ℕ) → length j.slots ≤ slot → (step : Machine → Answer) → Replies schema known (at_slot slot step) (reply.Refused refusal.NoSlot)
-  spare_replies slot past step = replies (at_slot slot step) (reply.Refused refusal.NoSlot) (sym (ap (λ (a : Answer). a.0) (at_spare (machine_of j) slot step past)))
 
 -- ---- what a trim keeps
 
@@ -117,29 +110,12 @@ module _ (schema : List Table) (j k : Journaled) (slot h : ℕ) (before after : 
 
 -- ---- calls of a database
 
--- under its lock the slot has the number
-pub slot_replies : (schema : List Table) (known : Known) (n slot : ℕ) (step : ℕ → Machine → Answer) (r : Reply) → n ≡ slot → Replies schema known (at_slot n (step n)) r → RepliesAt schema slot (step slot) r
-slot_replies schema known n slot step r same x = inr (known, subst (λ (i : ℕ). Replies schema known (at_slot i (step i)) r) same x)
-
-pub slot_may_reply : (schema : List Table) (known : Known) (n slot : ℕ) (step : ℕ → Machine → Answer) (r : Reply) → n ≡ slot → MayReply schema known (at_slot n (step n)) r → MayReplyAt schema slot (step slot) r
-slot_may_reply schema known n slot step r same (inl e) = inl e
-slot_may_reply schema known n slot step r same (inr x) = inr (slot_replies schema known n slot step r same x)
-
 pub may_once : (schema : List Table) (known : Known) (step : Machine → Answer) (r : Reply) → MayReply schema known step r → MayReplyOnce schema step r
 may_once schema known step r (inl e) = inl e
 may_once schema known step r (inr x) = inr (known, x)
 
 -- a refusal of a call is among those of its step
 module _ (schema : List Table) (slot : ℕ) where
-  pub trim_refusal_is : (h : ℕ) (r : Result ℕ Refusal) → RepliesAt schema slot (λ m. trim schema m slot h) (as_reply reply.Trimmed r) → IfErr r (IsAmong trim_refusals)
-  trim_refusal_is h (Ok n) x = tt
-  trim_refusal_is h (Err why) (inl e) = inl (refused_same why refusal.NoSlot e)
-  trim_refusal_is h (Err why) (inr x) = by (at_slot_cause x.1.machine slot (λ m. trim schema m slot h) why x.1.is)
-    where
-      by : (why ≡ refusal.NoSlot) ⊎ (reply.Refused why ≡ (trim schema x.1.machine slot h).0) → IsAmong trim_refusals why
-      by (inl e) = inl e
-      by (inr e) = trim_refused schema x.1.machine slot h why e
-
   pub apply_refusal_is : {A : Type 0} (owner txn : ℕ) (interval : Interval) (r : Result A Refusal) → RepliesAt schema slot (λ m. apply_step m owner txn slot interval) (as_reply (λ _. reply.Applied) r) → IfErr r (IsAmong apply_refusals)
   apply_refusal_is owner txn interval (Ok n) x = tt
   apply_refusal_is owner txn interval (Err why) (inl e) = inl (refused_same why refusal.NoSlot e)

@@ -1,6 +1,6 @@
-use Rattle.std.proofs.Common.{◌≡◌, Bool, true, false, cond, List, [], ◌∷◌, ◌++◌, Some, refl, ap}
+use Rattle.std.proofs.Common.{◌≡◌, Bool, true, false, cond, List, [], ◌∷◌, Some, refl, ap}
 use Rattle.std.specs.Prelude.{map, find, option_map}
-use Rattle.span_machine.specs.Machine.{changed_first, without_first}
+use Rattle.span_machine.specs.Machine.{without_first}
 
 -- finding and changing what is inside the items of a list
 module _ {A B : Type 0} (f : A → B) (test : B → Bool) where
@@ -17,14 +17,3 @@ module _ {A B : Type 0} (f : A → B) (test : B → Bool) where
     | true ↦ refl
     | false ↦ ap (λ l. f x ∷ l) (without_first-map xs)
   ]
-
-  pub changed_first-map : (change : B → B) (inside : A → A) → ((x : A) → change (f x) ≡ f (inside x)) → (xs : List A) → changed_first test change (map f xs) ≡ map f (changed_first (λ x. test (f x)) inside xs)
-  changed_first-map change inside same [] = refl
-  changed_first-map change inside same (x ∷ xs) = elim (test (f x)) as (λ b. cond b (change (f x) ∷ map f xs) (f x ∷ changed_first test change (map f xs)) ≡ map f (cond b (inside x ∷ xs) (x ∷ changed_first (λ y. test (f y)) inside xs))) [
-    | true ↦ ap (λ y. y ∷ map f xs) (same x)
-    | false ↦ ap (λ l. f x ∷ l) (changed_first-map change inside same xs)
-  ]
-
-pub map-append : {A B : Type 0} (f : A → B) (xs ys : List A) → map f (xs ++ ys) ≡ map f xs ++ map f ys
-map-append f [] ys = refl
-map-append f (x ∷ xs) ys = ap (λ l. f x ∷ l) (map-append f xs ys)

@@ -1,7 +1,7 @@
 use Rattle.std.proofs.Common.{◌≡◌, ℕ, ◌<◌, ◌+◌, zero, suc, Bool, true, false, cond, List, [], ◌∷◌, Some, None, refl, ap, sym, ◌∙◌, subst, arith, get_or}
-use Rattle.std.specs.Prelude.{slice_get, slice_set, find, remove, position, count_by}
+use Rattle.std.specs.Prelude.{slice_get, slice_set, find, position, count_by}
 use Rattle.std.proofs.lemmas.Option.{get_or_from_slice_get, slice_get_within}
-use Rattle.std.proofs.lemmas.List.Sums.{sum_by-set, sum_by-remove}
+use Rattle.std.proofs.lemmas.List.Sums.{sum_by-set}
 use Rattle.std.proofs.lemmas.List.Quantifiers.{position-Some}
 use Rattle.std.specs.List.{position_from}
 use Rattle.std.proofs.lemmas.Iterator.Adapters.{position_from-zero}
@@ -47,6 +47,3 @@ module _ {A : Type 0} (test : A → Bool) where
   -- how many pass after a change at a place
   pub count_by-set : (xs : List A) (i : ℕ) (x v : A) → slice_get xs i ≡ Some x → count_by test (slice_set xs i v) + cond (test x) 1 0 ≡ count_by test xs + cond (test v) 1 0
   count_by-set xs i x v e = subst (λ z. count_by test (slice_set xs i v) + cond (test z) 1 0 ≡ count_by test xs + cond (test v) 1 0) (get_or_from_slice_get xs i x x e) (sum_by-set (λ z. cond (test z) 1 0) xs i v x (slice_get_within xs i x e))
-
-  pub count_by-remove : (xs : List A) (i : ℕ) (x : A) → slice_get xs i ≡ Some x → count_by test (remove xs i) + cond (test x) 1 0 ≡ count_by test xs
-  count_by-remove xs i x e = subst (λ z. count_by test (remove xs i) + cond (test z) 1 0 ≡ count_by test xs) (get_or_from_slice_get xs i x x e) (sum_by-remove (λ z. cond (test z) 1 0) xs i x (slice_get_within xs i x e))

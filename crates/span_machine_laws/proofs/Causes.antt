@@ -7,21 +7,12 @@ use Rattle.span_machine.specs.Machine.{is_no_decision}
 
 -- what a step that is not refused has found
 
-pub may_begin : (full long : Bool) → first_cause ((full, refusal.TransactionTableFull) ∷ (long, refusal.LogFull) ∷ []) ≡ None → (full ≡ false) × (long ≡ false)
-may_begin false false e = (refl, refl)
-may_begin false true e = absurd (cc)
-may_begin true long e = absurd (cc)
-
 pub may_prepare : (u p z c : Bool) → first_cause ((not u || p || z, refusal.WrongState) ∷ (c, refusal.Conflict) ∷ []) ≡ None → (u ≡ true) × (p ≡ false) × (c ≡ false)
 may_prepare true false false false e = (refl, refl, refl)
 may_prepare true false false true e = absurd (cc)
 may_prepare true false true c e = absurd (cc)
 may_prepare true true z c e = absurd (cc)
 may_prepare false p z c e = absurd (cc)
-
-pub may_stamp : (late : Bool) → first_cause ((late, refusal.TimestampRange) ∷ []) ≡ None → late ≡ false
-may_stamp false e = refl
-may_stamp true e = absurd (cc)
 
 pub may_commit : (u ready late : Bool) → first_cause ((not u || not ready, refusal.WrongState) ∷ (late, refusal.TimestampRange) ∷ []) ≡ None → (u ≡ true) × (ready ≡ true) × (late ≡ false)
 may_commit true true false e = (refl, refl, refl)

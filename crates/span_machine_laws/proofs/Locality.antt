@@ -13,7 +13,6 @@ use Rattle.span_value.specs.Results.{and_then}
 use Rattle.span_mutate.specs.Database.{apply_one, apply}
 use Rattle.span_mutate.specs.Rows.{begins}
 use Rattle.span_mutate.specs.Directories.{Root, directory, key_len, IsKeyed, AreKeyed, IsDatabase, RunsTo, IsPutTogether}
-use Rattle.span_mutate.proofs.Apart.{one_database}
 use Rattle.span_mutate.proofs.Begins.{front_of_taken, front_within, number_itself, same_key, same_number}
 use Rattle.std.proofs.lemmas.Bool.{and_from, and_parts}
 use Rattle.span_mutate.proofs.ByRoots.{root_by_root, root_keyed, in_own}
@@ -122,17 +121,6 @@ module _ (schema : List Table) (rules : MeetsRules schema) where
       let first = first_succeeds m ms db own.0 keyed.0 own.1 in
       let rest = apply-succeeds ms first.0 (step_database schema m keyed.0 db is_db first.0 first.1) keyed.1 (then_each m ms db first.0 keyed.0 is_db first.1 each) in
       (rest.0, run_on schema db m ms first.0 first.1 ∙ rest.1)
-
-  -- what is made depends on each directory's mutations alone
-  pub apply_alike : (ms ns : List CheckedMutation) (db out : List TableRow) → IsDatabase schema db → AreKeyed schema ms → AreKeyed schema ns → apply schema db ms ≡ Ok out
-      → ((root : Root) → IsRoot schema root → filter (is_at schema root) ns ≡ filter (is_at schema root) ms) → apply schema db ns ≡ Ok out
-  apply_alike ms ns db out is_db keyed_ms keyed_ns h alike =
-      let row : (root : Root) → IsRoot schema root → apply schema (directory schema root db) (filter (is_at schema root) ns) ≡ Ok (directory schema root out) =
-      λ root is. ap (apply schema (directory schema root db)) (alike root is) ∙ apply-directory schema rules ms db out root is is_db keyed_ms h in
-      let made = apply-succeeds ns db is_db keyed_ns (λ root is. (directory schema root out, row root is)) in
-      let same : made.0 ≡ out = one_database schema rules made.0 out (apply-database schema rules ns db made.0 is_db keyed_ns made.1) (apply-database schema rules ms db out is_db keyed_ms h)
-      (λ root is. ok_same (sym (apply-directory schema rules ns db made.0 root is is_db keyed_ns made.1) ∙ row root is)) in
-      made.1 ∙ ap Ok same
 
 -- the empty database
 pub empty_database : (schema : List Table) → IsDatabase schema []

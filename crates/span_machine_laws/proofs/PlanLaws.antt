@@ -1,5 +1,5 @@
 -- What a plan gives on a database is what its query means there.
-use Rattle.std.proofs.Common.{◌≡◌, ℕ, zero, suc, ◌+◌, List, [], ◌∷◌, map, drop, Option, Some, None, add-one, refl, ap, sym, ◌∙◌, arith}
+use Rattle.std.proofs.Common.{◌≡◌, ℕ, zero, suc, List, [], ◌∷◌, map, Option, Some, None, refl, ap, sym, ◌∙◌, arith}
 use Rattle.std.specs.Prelude.{slice_get}
 use Rattle.std.specs.List.{AllByRecursion}
 use Rattle.std.specs.Option.{unwrap_or, option_map}
@@ -12,18 +12,16 @@ use Rattle.span_mutate.specs.Directories.{IsDatabase}
 use Rattle.span_mutate.specs.Typed.{AreTyped}
 use Rattle.span_query.specs.declared.query.Statement.{Statement}
 use Rattle.span_query.specs.Rows.{Row, Rows}
-use Rattle.span_query.specs.Meaning.{table_rows, meaning_over, given}
+use Rattle.span_query.specs.Meaning.{table_rows}
 use Rattle.span_columns.specs.declared.leaf.Leaf.{Leaf}
-use Rattle.span_columns.specs.declared.leaf.Plan.{Plan}
 use Rattle.span_leaves.specs.Leaves.{table_of}
 use Rattle.span_planner.specs.Plannable.{IsPlannable}
-use Rattle.span_columns.specs.Picks.{pick_rows}
 use Rattle.span_leaves.specs.Results.{leaf_rows}
 use Rattle.span_planner.proofs.Known.{leaves_known}
 use Rattle.span_planner.proofs.Planned.{IsPlanned}
 use Rattle.span_planner.proofs.MaskedPlan.{query_above_picked}
 use Rattle.span_machine.specs.Machine.{statement_plan}
-use Rattle.span_machine.specs.Meaning.{declared_row, whole_table, means, rows_within, tables_within, leaf_within, plan_means}
+use Rattle.span_machine.specs.Meaning.{declared_row, whole_table, means, tables_within, plan_means}
 use Rattle.span_rowreader.proofs.KeyPlaces.{keyed}
 use Rattle.span_machine_laws.proofs.LeafWhole.{table_width, leaf_whole}
 use Rattle.span_machine_laws.proofs.TableOrder.{IsOfTable, of_table}
@@ -71,24 +69,3 @@ module _ (schema : List Table) (rules : MeetsRules schema) (db : List TableRow) 
 -- THE LAW OF A PLAN: what the plan of a statement gives on a database is what its query means there
 pub planned_meaning : (schema : List Table) → MeetsRules schema → (q : Statement) → IsPlannable schema q → (db : List TableRow) → IsDatabase schema db → AreTyped schema db → plan_means schema (statement_plan schema q) db ≡ means schema q.query q.leaves db
 planned_meaning schema rules q can db is_db typed = meaning_of_plan schema rules db typed q can
-
--- ---- plans on two databases
-
--- the databases have the same rows of the leaf's tables in its range
-abbrev pub IsAlikeIn : List Table → List TableRow → List TableRow → Leaf → Type 0
-IsAlikeIn schema a b leaf = AllByRecursion (λ (t : ℕ). rows_within schema a t leaf.range ≡ rows_within schema b t leaf.range) leaf.tables
-
--- what a plan gives depends on the rows of its leaves' tables in their ranges
-pub plan_alike : (schema : List Table) (plan : Plan) (a b : List TableRow) → AllByRecursion (IsAlikeIn schema a b) plan.leaves → plan_means schema plan a ≡ plan_means schema plan b
-plan_alike schema plan a b alike = ap (λ (results : List Rows). meaning_over (given results) plan.top) (leaves_alike plan.leaves alike)
-  where
-    tables_alike : (leaf : Leaf) (ts : List ℕ) → AllByRecursion (λ (t : ℕ). rows_within schema a t leaf.range ≡ rows_within schema b t leaf.range) ts → tables_within schema a ts leaf.range ≡ tables_within schema b ts leaf.range
-    tables_alike leaf [] same = refl
-    tables_alike leaf (t ∷ ts) same =
-        ap (λ (rows : List Row). rows ∷ tables_within schema a ts leaf.range) same.0 ∙ ap (λ (l : List (List Row)). rows_within schema b t leaf.range ∷ l) (tables_alike leaf ts same.1)
-
-    leaves_alike : (ls : List Leaf) → AllByRecursion (IsAlikeIn schema a b) ls → map (λ (l : Leaf). leaf_within schema a l l.range) ls ≡ map (λ (l : Leaf). leaf_within schema b l l.range) ls
-    leaves_alike [] alike = refl
-    leaves_alike (l ∷ ls) alike =
-        ap (λ (tables : List (List Row)). pick_rows l.reads (leaf_rows l tables) ∷ map (λ (l : Leaf). leaf_within schema a l l.range) ls) (tables_alike l l.tables alike.0)
-        ∙ ap (λ (results : List Rows). leaf_within schema b l l.range ∷ results) (leaves_alike ls alike.1)

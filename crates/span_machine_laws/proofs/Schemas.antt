@@ -1,5 +1,5 @@
 -- What is begun and what is committed was checked against the schema.
-use Rattle.std.proofs.Common.{◌≡◌, ℕ, Bool, true, false, cond, ◌==◌, nat_le, List, [], ◌∷◌, ◌++◌, length, refl, sym, subst, inl, inr}
+use Rattle.std.proofs.Common.{◌≡◌, ℕ, Bool, true, false, cond, ◌==◌, nat_le, List, [], ◌∷◌, ◌++◌, length, refl, sym, subst}
 use Rattle.std.specs.Prelude.{filter}
 use Rattle.std.specs.List.{AllByRecursion}
 use Rattle.span_schema.specs.declared.table.Table.{Table}
@@ -12,14 +12,13 @@ use Rattle.span_mutate.specs.Directories.{IsKeyed, AreKeyed}
 use Rattle.span_mutate.specs.Typed.{IsTypedMutation, AreTypedMutations}
 use Rattle.span_machine.specs.declared.slot.SlotState.{SlotState}
 use Rattle.span_machine.specs.declared.step.Step.{Step}
-use Rattle.span_machine.specs.declared.step.Reply.{Reply}
 use Rattle.span_machine.specs.declared.transaction.Commit.{Commit}
 use Rattle.span_machine.specs.declared.transaction.OpenTransaction.{OpenTransaction}
 use Rattle.span_machine.specs.declared.transaction.Decision.{Decision}
 use Rattle.span_machine.specs.declared.transaction.Decision.TheVariants as decision
 use Rattle.span_machine.specs.Sorting.{placed, in_order}
 use Rattle.span_machine.specs.Tables.{is_before, upto, mutations_of}
-use Rattle.span_machine.specs.Machine.{Machine, Understanding, IsStep, answer, start, is_transaction, root_at, holds, mutations_in, changed_first, without_first, with_decision, add_prepared, prepare_timestamp, commit_timestamp, commit_of, without_prepared, applied_at}
+use Rattle.span_machine.specs.Machine.{Machine, answer, start, is_transaction, root_at, holds, mutations_in, changed_first, without_first, with_decision, add_prepared, prepare_timestamp, commit_timestamp, commit_of, without_prepared, applied_at}
 use Rattle.span_machine.specs.Run.{IsOfSchema}
 use Rattle.span_machine_laws.proofs.Lists.{all_push, all_changed, all_without, all_found, all_filtered, one_or_other}
 use Rattle.span_machine_laws.proofs.Walks.{Ends, answer_by}
@@ -126,11 +125,6 @@ module _ (schema : List Table) (m : Machine) (by : IsBySchema schema m) where
 -- every step keeps to the schema
 pub answer_by_schema : (schema : List Table) (m : Machine) (u : Result Statement Refusal) → IsBySchema schema m → (step : Step) → IsOfSchema schema step → IsBySchema schema (answer schema m u step).1
 answer_by_schema schema m u by step of = answer_by schema m u (λ s a. IsOfSchema schema s → IsBySchema schema a.1) (by_ends schema m by u) step of
-
--- one step, out of memory included
-pub step_by_schema : (understands : Understanding) (schema : List Table) (m : Machine) (step : Step) (r : Reply) (next : Machine) → IsStep understands schema m step r next → IsOfSchema schema step → IsBySchema schema m → IsBySchema schema next
-step_by_schema understands schema m step r next (inl e) of by = subst (IsBySchema schema) (sym e.2.1) (answer_by_schema schema m e.0 by step of)
-step_by_schema understands schema m step r next (inr e) of by = subst (IsBySchema schema) (sym e.1.1) by
 
 pub start_by_schema : (schema : List Table) → IsBySchema schema start
 start_by_schema schema = record { transactions = tt; log = tt }

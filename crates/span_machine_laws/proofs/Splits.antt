@@ -1,15 +1,14 @@
 -- A slot that is cut in two at a key: the keys of the two parts, and the list of slots.
-use Rattle.std.proofs.Common.{◌≡◌, ◌≢◌, ℕ, zero, suc, Bool, true, false, not, ◌||◌, List, [], ◌∷◌, ◌++◌, length, Option, Some, None, refl, ap, subst, inl, inr, ◌⊎◌}
+use Rattle.std.proofs.Common.{◌≡◌, ◌≢◌, ℕ, zero, suc, Bool, true, false, not, List, [], ◌∷◌, ◌++◌, length, Option, Some, None, refl, ap, subst, inl, inr, ◌⊎◌}
 use Rattle.std.specs.Prelude.{slice_get, slice_set}
 use Rattle.std.specs.Ordering.{is_lt}
-use Rattle.std.specs.Cmp.{both_ways as same_tests}
-use Rattle.std.proofs.lemmas.Bool.{not-true, not_from_false, or_left, or_right, or_cases, false_from_ne_true}
+use Rattle.std.proofs.lemmas.Bool.{not-true, not_from_false}
 use Rattle.std.proofs.lemmas.Option.{get_or_from_slice_get}
 use Rattle.std.proofs.lemmas.List.Quantifiers.{position-Some}
 use Rattle.span_value.specs.Results.{first_cause}
 use Rattle.span_value.specs.declared.refusal.Refusal.TheVariants as refusal
 use Rattle.span_keycode.specs.Order.{byte_order}
-use Rattle.span_keycode.proofs.Befores.{IsBefore, IsUpto, upto_upto, lt_lt, before_or_not, not_both}
+use Rattle.span_keycode.proofs.Befores.{IsBefore, IsUpto, upto_upto, lt_lt}
 use Rattle.span_machine.specs.declared.slot.SlotState.{SlotState}
 use Rattle.span_machine.specs.Machine.{slot_of}
 use Rattle.span_machine.specs.Slots.{is_from, is_upto, is_between, has_key}
@@ -60,24 +59,6 @@ pub from_has : (code : List ℕ) (slot_state : SlotState) (key : List ℕ) → h
 unfolding is_between
 from_has code slot_state key has after =
     both_of (not (is_lt (byte_order key code))) (is_upto slot_state.hi key) (not_from_false (is_lt (byte_order key code)) after) (second_true (is_from slot_state.lo key) (is_upto slot_state.hi key) has)
-
--- the two parts have the keys of the slot
-pub split_keys : (code : List ℕ) (slot_state : SlotState) (key : List ℕ) → has_key slot_state code ≡ true → has_key slot_state key ≡ (has_key (part_below code slot_state) key || has_key (part_from code slot_state) key)
-split_keys code slot_state key inside =
-    same_tests (has_key slot_state key) (has_key (part_below code slot_state) key || has_key (part_from code slot_state) key)
-    (λ has. elim (before_or_not key code) [
-      | inl before ↦ or_left (has_key (part_below code slot_state) key) (has_key (part_from code slot_state) key) (below_has code slot_state key has before)
-      | inr after ↦ or_right (has_key (part_below code slot_state) key) (has_key (part_from code slot_state) key) (from_has code slot_state key has after)
-    ])
-    (λ either. elim (or_cases (has_key (part_below code slot_state) key) (has_key (part_from code slot_state) key) either) [
-      | inl below ↦ (below_parts code slot_state key inside below).0
-      | inr from ↦ (from_parts code slot_state key inside from).0
-    ])
-
--- and no key is in both
-pub split_apart : (code : List ℕ) (slot_state : SlotState) (key : List ℕ) → has_key slot_state code ≡ true → has_key (part_below code slot_state) key ≡ true → has_key (part_from code slot_state) key ≡ false
-split_apart code slot_state key inside below =
-    false_from_ne_true (has_key (part_from code slot_state) key) (λ from. not_both key code (below_parts code slot_state key inside below).1 (from_parts code slot_state key inside from).1)
 
 -- the slot that a key is found in has it
 pub found_has : (slots : List SlotState) (key : List ℕ) (slot : ℕ) (slot_state : SlotState) → slot_of slots key ≡ Some slot → slice_get slots slot ≡ Some slot_state → has_key slot_state key ≡ true

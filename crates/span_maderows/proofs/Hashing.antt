@@ -2,16 +2,15 @@
 use Rattle.std.proofs.Common.{◌≡◌, ℕ, Bool, true, false, cond, List, [], ◌∷◌, ◌++◌, Option, Some, None, is_none, is_some, not, IfSome, IfNone, IsPermutation, refl, sym, ap, subst, ◌∙◌, append_assoc}
 use Rattle.std.specs.List.{IsDistinct}
 use Rattle.std.specs.List.Sorted.{IsStrictlySortedBy}
-use Rattle.std.specs.Ordering.{is_eq, ordering_reverse, match_ordering}
+use Rattle.std.specs.Ordering.{is_eq, match_ordering}
 use Rattle.std.specs.declared.cmp.Ordering.{Ordering}
 use Rattle.std.specs.declared.cmp.Ordering.TheVariants.{Less, Equal, Greater}
 use Rattle.std.specs.BTreeMap.{insert_entry}
 use Rattle.std.specs.Map.{keys_of}
 use Rattle.std.proofs.lemmas.Cmp.{eq_by_cmp_equiv}
-use Rattle.std.proofs.lemmas.List.Elements.{recursion_from_All, All-from_recursion}
 use Rattle.std.proofs.lemmas.List.Sorted.{Contains-permutation, IsPermutation-sym, IsPermutation-map}
 use Rattle.std.proofs.lemmas.Map.Keys.{IsDistinct-IsPermutation}
-use Rattle.std.proofs.lemmas.Map.Views.{All-keys-insert_entry, Contains-from_lookup, lookup-from_Contains}
+use Rattle.std.proofs.lemmas.Map.Views.{Contains-from_lookup, lookup-from_Contains}
 use Rattle.indexmap.specs.IndexMap as hash
 use Rattle.span_keycode.specs.Order.{byte_order, is_same}
 use Rattle.span_maderows.specs.Made.{made_at, AreInKeyOrder, HaveDistinctKeys, HasSameRows, IsAfterAll, IsBeforeAll, IsSetAt, in_key_order}
@@ -47,25 +46,6 @@ put_at (e ∷ es) key row k = by (byte_order key e.0) refl (put_at es key row k)
         ∙ twice (is_same k e.0) row e.1 (made_at es k))
     by Greater f again = ap (λ (o : Option (List ℕ)). cond (is_same k e.0) (Some e.1) o) again ∙ both f (is_same k key) (is_same k e.0) refl refl
 
--- it stays in order
-put_order : (made : Made) (key row : List ℕ) → AreInKeyOrder made → AreInKeyOrder (insert_entry byte_order made key row)
-unfolding IsStrictlySortedBy
-put_order [] key row order = (tt, tt)
-put_order (e ∷ es) key row order = by (byte_order key e.0) refl (put_order es key row order.1)
-  where
-    P : List ℕ → Type 0
-    P k = byte_order e.0 k ≡ Less
-
-    by : (o : Ordering) → byte_order key e.0 ≡ o → AreInKeyOrder (insert_entry byte_order es key row)
-        → AreInKeyOrder (match_ordering o ((key, row) ∷ e ∷ es) ((e.0, row) ∷ es) (e ∷ insert_entry byte_order es key row))
-    by Less f again = ((f, all_map P (λ (k : List ℕ). byte_order key k ≡ Less) (λ k h. bytes_total.trans key e.0 k f h) (keys_of es) order.0), order)
-    by Equal f again = order
-    by Greater f again = (
-      recursion_from_All P (keys_of (insert_entry byte_order es key row))
-          (All-keys-insert_entry byte_order key row P es (All-from_recursion P (keys_of es) order.0) (bytes_total.antisymm e.0 key ∙ ap ordering_reverse f)),
-      again,
-    )
-
 -- before all others it is the first
 put_first : (made : Made) (key row : List ℕ) → IsBeforeAll key made → insert_entry byte_order made key row ≡ (key, row) ∷ made
 put_first [] key row before = refl
@@ -76,11 +56,6 @@ put_first (e ∷ es) key row before = ap (λ (o : Ordering). match_ordering o ((
 pub order_at : (made : Made) (k : List ℕ) → made_at (in_key_order made) k ≡ made_at made k
 order_at [] k = refl
 order_at (e ∷ made) k = put_at (in_key_order made) e.0 e.1 k ∙ ap (λ (o : Option (List ℕ)). cond (is_same k e.0) (Some e.1) o) (order_at made k)
-
-pub order_is : (made : Made) → AreInKeyOrder (in_key_order made)
-unfolding IsStrictlySortedBy
-order_is [] = tt
-order_is (e ∷ made) = put_order (in_key_order made) e.0 e.1 (order_is made)
 
 -- a list that is in order stays as it is
 pub order_same : (made : Made) → AreInKeyOrder made → in_key_order made ≡ made

@@ -129,20 +129,6 @@ pushing_next es front old new next key row before rest is more begun h = moved (
         by_key k r f true e = inl (list_any-append (is_same k) g.added (key ∷ []) ∙ or_second (list_any (is_same k) g.added) (list_any (is_same k) (key ∷ [])) (or_first (is_same k key) false e))
         by_key k r f false e = inr (sym (ap (λ (b : Bool). cond b (Some row) (made_at rest k)) e) ∙ f)
 
--- where nothing is left, all are added
-pub pushed_all : (es : Made) (front : List ℕ) (old new : List (List ℕ)) (rest : Made) → rest ≡ [] → IsPushing es front old rest new → AddsMade es front old new
-pushed_all es front old new rest none g = record {
-  added = g.added;
-  whole = g.whole;
-  are = record {
-    sound = g.sound;
-    complete = λ k row b e. elim (g.left k row b e) [
-      | inl f ↦ f
-      | inr f ↦ absurd (let i : None ≡ Some row = sym (ap (λ (l : Made). made_at l k) none) ∙ f in cc)
-    ];
-  };
-}
-
 -- where the next key doesn't begin with the front, no later one does
 pub pushed_until : (es : Made) (front : List ℕ) (old new : List (List ℕ)) (key : List ℕ) (o : List ℕ) (before rest : Made) → before ≡ (key, o) ∷ rest → begins_with key front ≡ false → IsPushing es front old before new → AddsMade es front old new
 pushed_until es front old new key o before rest is past h = done (subst (λ (l : Made). IsPushing es front old l new) is h)

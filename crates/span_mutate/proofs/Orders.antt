@@ -38,14 +38,6 @@ column_equal : (d : Bool) (v w : Value) → column_order d v w ≡ Equal → v �
 column_equal false v w e = value_order_equal v w e
 column_equal true v w e = value_order_equal v w (reverse_equal (value_order v w) e)
 
-column_same : (d : Bool) (v : Value) → column_order d v v ≡ Equal
-column_same d v = itself (column_order d v v) ((column_total d).antisymm v v)
-  where
-    itself : (o : Ordering) → o ≡ ordering_reverse o → o ≡ Equal
-    itself Less e = absurd cc
-    itself Equal e = refl
-    itself Greater e = absurd cc
-
 then_less : (a b : Ordering) → ordering_then a b ≡ Less → (a ≡ Less) ⊎ ((a ≡ Equal) × (b ≡ Less))
 then_less Less b e = inl refl
 then_less Equal b e = inr (refl, e)

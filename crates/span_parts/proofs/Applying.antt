@@ -1,5 +1,5 @@
 -- Apply and Trim of a slot, in the journal and in the slot's shard.
-use Rattle.std.proofs.Common.{◌≡◌, ℕ, ◌≤◌, nat_lt, false, List, Option, Some, None, refl, ap, sym, ◌∙◌, subst, arith}
+use Rattle.std.proofs.Common.{◌≡◌, ℕ, ◌≤◌, nat_lt, false, List, Option, Some, None, ap, sym, ◌∙◌, subst, arith}
 use Rattle.std.specs.Prelude.{find, slice_get, slice_set}
 use Rattle.std.proofs.lemmas.Bool.Decides.{nat_tests}
 use Rattle.span_value.specs.declared.refusal.Refusal.{Refusal}
@@ -40,16 +40,6 @@ apply_is m owner txn slot interval committed n d =
     ∙ ap (λ (o : Option SlotState). if_some o (refused m refusal.NoSlot) (apply_transaction m owner txn slot interval d.transaction)) d.here
     ∙ ap (λ (o : Option Refusal). unless_refused m o (applied_at d.transaction.decision m owner txn slot d.transaction)) d.accepted
     ∙ ap (λ (o : Decision). applied_at o m owner txn slot d.transaction) d.decision
-
-applied_reply : (committed : Option ℕ) (m : Machine) (owner txn slot : ℕ) (t : OpenTransaction) → (applied_at (decision_of committed) m owner txn slot t).0 ≡ reply.Applied
-applied_reply None m owner txn slot t = refl
-applied_reply (Some ts) m owner txn slot t = refl
-
--- the machine's answer
-pub applied_answer : (m : Machine) (owner txn slot : ℕ) (interval : Interval) (committed : Option ℕ) (n : Machine) → IsApplied m owner txn slot interval committed n → IsAnswer (apply_step m owner txn slot interval) reply.Applied n
-applied_answer m owner txn slot interval committed n d =
-    let e = apply_is m owner txn slot interval committed n d in
-    (sym (ap (λ (a : Answer). a.0) e ∙ applied_reply committed m owner txn slot d.transaction), d.after ∙ sym (ap (λ (a : Answer). a.1) e))
 
 kept_applied : (schema : List Table) (m : Machine) (cs : List KeyVersions) (owner txn slot : ℕ) (committed : Option ℕ) (t : OpenTransaction) → IsReached schema m → AreKept schema m slot cs → find (is_transaction owner txn) m.transactions ≡ Some t → t.decision ≡ decision_of committed
     → AreKept schema (applied_at (decision_of committed) m owner txn slot t).1 slot (shard.applied txn committed cs)

@@ -43,9 +43,6 @@ module _ (schema : List Table) (m : Machine) (shards : Shards) (all : AreAllKept
 
 -- ---- what is found at a place
 
-pub at_some : {A : Type 0} (P : A → Type 0) (o : Option A) (x : A) → o ≡ Some x → P x → IfSome o P
-at_some P o x e p = subst (λ q. IfSome q P) (sym e) p
-
 pub of_some : {A : Type 0} (P : A → Type 0) (o : Option A) (x : A) → o ≡ Some x → IfSome o P → P x
 of_some P o x e p = subst (λ q. IfSome q P) e p
 

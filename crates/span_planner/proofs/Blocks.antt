@@ -187,11 +187,6 @@ module _ (schema : List Table) (tables : List ℕ) (w : ℕ → List Row) (f0 f 
 
   -- ---- widths and ONs of a part of the items
 
-  all_take : {A : Type 0} (P : A → Type 0) (n : ℕ) (xs : List A) → AllByRecursion P xs → AllByRecursion P (take n xs)
-  all_take P zero xs all = tt {0}
-  all_take P (suc n) [] all = tt {0}
-  all_take P (suc n) (x ∷ xs) all = (all.0, all_take P n xs all.1)
-
   all_drop : {A : Type 0} (P : A → Type 0) (n : ℕ) (xs : List A) → AllByRecursion P xs → AllByRecursion P (drop n xs)
   all_drop P zero xs all = all
   all_drop P (suc n) [] all = tt {0}

@@ -1,41 +1,16 @@
 -- A mask changes no value of an expression that reads within it; how wide joined and filtered rows are.
-use Rattle.std.proofs.Common.{◌≡◌, ℕ, ◌+◌, suc, zero, Bool, true, false, List, [], ◌∷◌, ◌++◌, map, length, replicate, Option, Some, None, refl, ap, ◌∙◌, length-append, arith}
+use Rattle.std.proofs.Common.{◌≡◌, ℕ, ◌+◌, Bool, true, false, List, [], ◌∷◌, ◌++◌, map, length, replicate, Option, Some, None, refl, ap, ◌∙◌, length-append, arith}
 use Rattle.std.specs.List.{AllByRecursion}
 use Rattle.std.proofs.lemmas.List.{length-replicate}
 use Rattle.span_value.specs.declared.value.Value.TheVariants.{Null}
 use Rattle.span_expr.specs.declared.expr.Expr.{Expr}
-use Rattle.span_expr.specs.Operators.{column_of}
-use Rattle.span_expr.specs.Meaning.{val}
-use Rattle.span_expr.proofs.Places.{val-reads}
 use Rattle.span_query.specs.declared.query.Join.{Join}
 use Rattle.span_query.specs.Rows.{Row, OrFault, Rows, ◌>>=◌, append_results, concat_map, keep_if, holds, filter_rows, filter_where}
 use Rattle.span_query.specs.Meaning.{or_unmatched, pairs_of, join_rows}
-use Rattle.span_leaves.specs.Masks.{masked}
-use Rattle.span_columns.specs.Reads.{has_place, reads_within}
 use Rattle.span_leaves.proofs.Joins.{all_map}
 use Rattle.span_leaves.proofs.Pushing.{AreOfWidth}
 use Rattle.span_leaves.proofs.Narrowing.{IsWide}
 use Rattle.span_planner.proofs.Widths.{wide_concat_map}
-
--- ---- a row
-
-pub length-masked : (ms : List Bool) (row : Row) → length (masked ms row) ≡ length row
-length-masked ms [] = refl
-length-masked [] (v ∷ row) = ap suc (length-masked [] row)
-length-masked (true ∷ ms) (v ∷ row) = ap suc (length-masked ms row)
-length-masked (false ∷ ms) (v ∷ row) = ap suc (length-masked ms row)
-
-pub column_of-masked : (ms : List Bool) (row : Row) (k : ℕ) → length row ≡ length ms → has_place ms k ≡ true → column_of (masked ms row) k ≡ column_of row k
-column_of-masked ms [] k wide has = refl
-column_of-masked [] (v ∷ row) k wide has = absurd (omega arith)
-column_of-masked (true ∷ ms) (v ∷ row) zero wide has = refl
-column_of-masked (true ∷ ms) (v ∷ row) (suc k) wide has = column_of-masked ms row k (omega arith) has
-column_of-masked (false ∷ ms) (v ∷ row) zero wide has = cc
-column_of-masked (false ∷ ms) (v ∷ row) (suc k) wide has = column_of-masked ms row k (omega arith) has
-
--- THE LAW OF A MASK: at a masked row an expression that reads within the mask comes to what it comes to at the row.
-pub val-masked : (ms : List Bool) (row : Row) (e : Expr) → length row ≡ length ms → reads_within ms e ≡ true → val (masked ms row) e ≡ val row e
-val-masked ms row e wide reads = val-reads (has_place ms) row (masked ms row) e reads (λ k has. column_of-masked ms row k wide has)
 
 -- ---- lists of rows
 
@@ -46,10 +21,6 @@ concat_map-unmasked h f g (x ∷ xs) all =
     ap (λ (o : OrFault (List _)). append_results o (concat_map g (map h xs))) all.0 ∙ ap (append_results (f x)) (concat_map-unmasked h f g xs all.1)
 
 -- ---- widths
-
-pub wide_next : {A : Type 0} (n : ℕ) (o : OrFault A) (P : A → Type 0) (f : A → Rows) → ((x : A) → P x → IsWide n (f x)) → ((x : A) → o ≡ Some x → P x) → IsWide n (o >>= f)
-wide_next n (Some x) P f goes is = goes x (is x refl)
-wide_next n None P f goes is = tt {0}
 
 wide_kept : (n : ℕ) (row : Row) (o : OrFault Bool) → length row ≡ n → IsWide n (o >>= (λ b. Some (keep_if row b)))
 wide_kept n row None is = tt {0}

@@ -205,11 +205,6 @@ module _ (schema : List Table) (tables : List ℕ) where
       either_lost true k place w short x within fits out rest = is_refused-conjuncts (x ++ rest) w ∙ left_out_among 0 leaf_width (conjuncts w) (x ++ rest) (first_lost k leaf_width place w short x within fits out rest)
       either_lost false k place w short x within fits out rest = refused_all_true (conjuncts_on 0 leaf_width (conjuncts w)) (x ++ rest) (first_lost k leaf_width place w short x within fits out rest)
 
-      all_take : {A : Type 0} (P : A → Type 0) (n : ℕ) (xs : List A) → AllByRecursion P xs → AllByRecursion P (take n xs)
-      all_take P zero xs all = tt {0}
-      all_take P (suc n) [] all = tt {0}
-      all_take P (suc n) (x ∷ xs) all = (all.0, all_take P n xs all.1)
-
       total_joins : (js : List (Join Planned)) → have_total_ons js ≡ true → (n : ℕ) → AreTotalJoins (map leaf_join (take n js))
       total_joins js total zero = tt {0}
       total_joins [] total (suc n) = tt {0}

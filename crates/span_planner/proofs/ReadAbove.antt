@@ -150,10 +150,6 @@ module _ (masks : ℕ → List Bool) where
     abbrev are_sized : List (Join Witness) → Bool
     are_sized js = list_all (is_sized_join schema tables) (map (map_join bare_shape) js)
 
-    append_more : (xs ys zs : List Bool) → (xs ++ ys) ++ zs ≡ xs ++ (ys ++ zs)
-    append_more [] ys zs = refl
-    append_more (x ∷ xs) ys zs = ap (λ (l : List Bool). x ∷ l) (append_more xs ys zs)
-
     joins_read : (rs : List Bool) (es : List Expr) (at before : ℕ) (js : List (Join Witness)) → are_sized js ≡ true → at + widths (planned_joins js) ≤ length rs
         → MasksAt before (rest_leaves schema tables rs es at (planned_joins js))
         → (list_all (join_within masks) (joins_above before (planned_joins js)) ≡ true) × Covers (drop at rs) (flat_map (join_mask masks) (joins_above before (planned_joins js)))

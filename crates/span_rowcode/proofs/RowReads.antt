@@ -1,7 +1,6 @@
 -- Reading cells.
-use Rattle.std.proofs.Common.{◌≡◌, ◌≢◌, ℕ, ℤ, zero, suc, ◌+◌, ◌-◌, ◌<◌, ◌≤◌, ◌^◌, List, [], ◌∷◌, ◌++◌, Bool, true, false, refl, sym, ◌∙◌, ap, subst, append_assoc, arith, length, length-append, length-drop, drop, take, get_or}
+use Rattle.std.proofs.Common.{◌≡◌, ℕ, ℤ, zero, suc, ◌+◌, ◌-◌, ◌<◌, ◌≤◌, ◌^◌, List, [], ◌∷◌, ◌++◌, Bool, true, false, refl, sym, ◌∙◌, ap, subst, append_assoc, arith, length, length-append, length-drop, drop, take, get_or}
 use Rattle.std.specs.Int.{to_be_bytes, from_be_bytes, cast_unsigned, cast_signed, w32, w64}
-use Rattle.std.specs.Str.{IsUtf8}
 use Rattle.std.proofs.lemmas.List.{take-append-drop, drop-drop, length-take-le}
 use Rattle.std.proofs.lemmas.Nat.{be_bytes_8, be_bytes_4, from_be_bytes-to_be_bytes_8, from_be_bytes-to_be_bytes_4}
 use Rattle.std.proofs.Math.Facts.{to_z-of_z, Fits-of_z}
@@ -11,7 +10,7 @@ use Rattle.span_value.specs.declared.value.Kind.{Kind}
 use Rattle.span_value.specs.declared.value.Kind.TheVariants.{Int as Numbers, Str as Texts, Bytes as Strings, Bool as Flags}
 use Rattle.span_schema.specs.Fitting.{Fits, AreBytes}
 use Rattle.span_rowcode.specs.Rows.{bit, bytes_code, cell_code, row_code, AreCells, IsNoCell, IsCell}
-use Rattle.span_rowcode.specs.Cells.{IsNoBody, IsBody, HasBytes, HasNoBytes}
+use Rattle.span_rowcode.specs.Cells.{HasBytes}
 use Rattle.span_value.proofs.Lists.{cons_inj}
 
 one_is_zero : (bs rest : List ℕ) → 1 ∷ bs ≡ 0 ∷ rest → ⊥
@@ -68,50 +67,6 @@ bytes_read bs found n are h k small e is =
       short = omega arith;
     }
 
--- what begins no cell
-nothing_first : (k : Kind) (v : Value) (rest : List ℕ) → [] ≡ cell_code v ++ rest → ⊥
-nothing_first k Null rest e = absurd (let g : [] ≡ 0 ∷ rest = e in cc)
-nothing_first k (Int i) rest e = absurd (let g : [] ≡ 1 ∷ (to_be_bytes w64 (cast_unsigned w64 i) ++ rest) = e in cc)
-nothing_first k (Str bs) rest e = absurd (let g : [] ≡ 1 ∷ ((to_be_bytes w32 (length bs) ++ bs) ++ rest) = e in cc)
-nothing_first k (Bytes bs) rest e = absurd (let g : [] ≡ 1 ∷ ((to_be_bytes w32 (length bs) ++ bs) ++ rest) = e in cc)
-nothing_first k (Flag b) rest e = absurd (let g : [] ≡ 1 ∷ (bit b ∷ rest) = e in cc)
-
-pub no_cell_nothing : (k : Kind) → IsNoCell k []
-no_cell_nothing k = record { none = λ v rest f e. nothing_first k v rest e }
-
-other_first : (a : ℕ) (bs : List ℕ) → a ≢ 0 → a ≢ 1 → (v : Value) (rest : List ℕ) → a ∷ bs ≡ cell_code v ++ rest → ⊥
-other_first a bs p q Null rest e = p (cons_inj a 0 bs rest e).0
-other_first a bs p q (Int i) rest e = q (cons_inj a 1 bs (to_be_bytes w64 (cast_unsigned w64 i) ++ rest) e).0
-other_first a bs p q (Str cs) rest e = q (cons_inj a 1 bs ((to_be_bytes w32 (length cs) ++ cs) ++ rest) e).0
-other_first a bs p q (Bytes cs) rest e = q (cons_inj a 1 bs ((to_be_bytes w32 (length cs) ++ cs) ++ rest) e).0
-other_first a bs p q (Flag b) rest e = q (cons_inj a 1 bs (bit b ∷ rest) e).0
-
-pub no_cell_other : (k : Kind) (a : ℕ) (bs : List ℕ) → a ≢ 0 → a ≢ 1 → IsNoCell k (a ∷ bs)
-no_cell_other k a bs p q = record { none = λ v rest f e. other_first a bs p q v rest e }
-
-pub no_cell_body : (k : Kind) (bs : List ℕ) → IsNoBody k bs → IsNoCell k (1 ∷ bs)
-no_cell_body k bs b = record { none = b.none }
-
-wrong_bytes : (bs : List ℕ) → HasNoBytes bs → (v : Value) (rest : List ℕ) → Fits Strings v → 1 ∷ bs ≡ cell_code v ++ rest → ⊥
-wrong_bytes bs h Null rest f e = one_is_zero bs rest e
-wrong_bytes bs h (Bytes cs) rest f e = h.none cs rest ((cons_inj 1 1 bs ((to_be_bytes w32 (length cs) ++ cs) ++ rest) e).1 ∙ append_assoc (to_be_bytes w32 (length cs)) cs rest)
-wrong_bytes bs h (Int x) rest f e = absurd f
-wrong_bytes bs h (Str x) rest f e = absurd f
-wrong_bytes bs h (Flag x) rest f e = absurd f
-
-pub no_bytes : (bs : List ℕ) → HasNoBytes bs → IsNoBody Strings bs
-no_bytes bs h = record { none = wrong_bytes bs h }
-
-wrong_text : (bs : List ℕ) → HasNoBytes bs → (v : Value) (rest : List ℕ) → Fits Texts v → 1 ∷ bs ≡ cell_code v ++ rest → ⊥
-wrong_text bs h Null rest f e = one_is_zero bs rest e
-wrong_text bs h (Str cs) rest f e = h.none cs rest ((cons_inj 1 1 bs ((to_be_bytes w32 (length cs) ++ cs) ++ rest) e).1 ∙ append_assoc (to_be_bytes w32 (length cs)) cs rest)
-wrong_text bs h (Int x) rest f e = absurd f
-wrong_text bs h (Bytes x) rest f e = absurd f
-wrong_text bs h (Flag x) rest f e = absurd f
-
-pub no_text : (bs : List ℕ) → HasNoBytes bs → IsNoBody Texts bs
-no_text bs h = record { none = wrong_text bs h }
-
 -- equal lists with fronts of one length
 pub fronts : (xs ys r s : List ℕ) → length xs ≡ length ys → xs ++ r ≡ ys ++ s → (xs ≡ ys) × (r ≡ s)
 fronts [] [] r s l e = (refl, e)
@@ -134,36 +89,6 @@ pub one_text : (bs cs r s : List ℕ) → length bs < 2 ^ 32 → length cs < 2 ^
 one_text bs cs r s a b e =
     let words = fronts (to_be_bytes w32 (length bs)) (to_be_bytes w32 (length cs)) (bs ++ r) (cs ++ s) refl e in
     fronts bs cs r s (one_length (length bs) (length cs) a b words.0) words.1
-
-other_text : (bs ts : List ℕ) → HasBytes bs ts → length bs < 2 ^ 32 → (IsUtf8 ts → ⊥) → (v : Value) (rest : List ℕ) → Fits Texts v → 1 ∷ bs ≡ cell_code v ++ rest → ⊥
-other_text bs ts h small bad Null rest f e = one_is_zero bs rest e
-other_text bs ts h small bad (Str cs) rest f e =
-    let code : bs ≡ to_be_bytes w32 (length cs) ++ (cs ++ rest) = (cons_inj 1 1 bs ((to_be_bytes w32 (length cs) ++ cs) ++ rest) e).1 ∙ append_assoc (to_be_bytes w32 (length cs)) cs rest in
-    let len : length bs ≡ 4 + length (cs ++ rest) = ap length code ∙ length-append (to_be_bytes w32 (length cs)) (cs ++ rest) in
-    let short : length cs < 2 ^ 32 = omega (arith, len, length-append cs rest) in
-    let same = (one_text ts cs (drop (length ts + 4) bs) rest h.short short (sym h.code ∙ code)).0 in
-    let P : List ℕ → Type 0 = IsUtf8 in bad (subst P (sym same) f.0)
-other_text bs ts h small bad (Int x) rest f e = absurd f
-other_text bs ts h small bad (Bytes x) rest f e = absurd f
-other_text bs ts h small bad (Flag x) rest f e = absurd f
-
-pub no_utf8 : (bs ts : List ℕ) → HasBytes bs ts → length bs < 2 ^ 32 → (IsUtf8 ts → ⊥) → IsNoBody Texts bs
-no_utf8 bs ts h small bad = record { none = other_text bs ts h small bad }
-
--- what is read is coded so
-pub bytes_coded : (bs found : List ℕ) → HasBytes bs found → 1 ∷ bs ≡ bytes_code found ++ drop (length found + 4) bs
-bytes_coded bs found h = ap (λ (xs : List ℕ). 1 ∷ xs) (h.code ∙ sym (append_assoc (to_be_bytes w32 (length found)) found (drop (length found + 4) bs)))
-
-pub cell_found : (k : Kind) (bs : List ℕ) (first : ℕ) (rest : List ℕ) (v : Value) (w : ℕ) → bs ≡ 1 ∷ drop 1 bs → IsBody k (drop 1 bs) v w → IsCell k bs v (w + 1)
-cell_found k bs first rest v w e b = record {
-  fits = b.fits;
-  code = e ∙ b.code ∙ ap (λ (xs : List ℕ). cell_code v ++ xs) (drop-drop w 1 bs ∙ ap (λ (n : ℕ). drop n bs) (let f : 1 + w ≡ w + 1 = omega arith in f));
-  within = omega (arith, b.within, length-drop 1 bs, ap (length {A = ℕ}) e);
-}
-
-pub first_byte : (bs : List ℕ) (a : ℕ) → 0 < length bs → get_or bs 0 0 ≡ a → bs ≡ a ∷ drop 1 bs
-first_byte [] a h e = absurd (let l : 0 < 0 = h in omega arith)
-first_byte (b ∷ bs) a h e = ap (λ (n : ℕ). n ∷ bs) e
 
 -- cells of one kind with equal codings are the same
 signed_once : (i j : ℤ) (r s : List ℕ) → Fits Numbers (Int i) → Fits Numbers (Int j) → to_be_bytes w64 (cast_unsigned w64 i) ++ r ≡ to_be_bytes w64 (cast_unsigned w64 j) ++ s → (i ≡ j) × (r ≡ s)
@@ -339,16 +264,6 @@ dropped_all [] (suc at) h = refl
 dropped_all (b ∷ bs) zero h = absurd (let l : suc (length bs) ≤ 0 = h in omega arith)
 dropped_all (b ∷ bs) (suc at) h = dropped_all bs at (omega arith)
 
-taken_all : {X : Type 0} (xs : List X) (i : ℕ) → length xs ≤ i → take i xs ≡ xs
-taken_all [] zero h = refl
-taken_all [] (suc i) h = refl
-taken_all (c ∷ xs) zero h = absurd (let l : suc (length xs) ≤ 0 = h in omega arith)
-taken_all {X} (c ∷ xs) (suc i) h = ap (λ (ys : List X). c ∷ ys) (taken_all xs i (omega arith))
-
-append_nothing : (xs : List ℕ) → xs ++ [] ≡ xs
-append_nothing [] = refl
-append_nothing (x ∷ xs) = ap (λ (ys : List ℕ). x ∷ ys) (append_nothing xs)
-
 left_over : (bs : List ℕ) (at : ℕ) → at < length bs → (vs : List Value) → AreCells [] vs → drop at bs ≡ row_code vs → ⊥
 left_over bs at h [] f e = let l : length (drop at bs) ≡ 0 = ap length e in omega (arith, length-drop at bs)
 left_over bs at h (v ∷ vs) f e = f
@@ -357,11 +272,6 @@ pub cells_left : (ks : List Kind) (bs : List ℕ) (i at : ℕ) → length ks ≤
 cells_left ks bs i at h k back =
     let P : List Kind → Type 0 = λ ls. IsNoCells ls (drop at bs) in
     back (subst P (sym (dropped_all ks i h)) (record { none = left_over bs at k }))
-
-pub cells_end : (ks : List Kind) (bs : List ℕ) (vs : List Value) (i at : ℕ) → length ks ≤ i → length bs ≤ at → IsCells (take i ks) bs vs at → AreCells ks vs × (bs ≡ row_code vs)
-cells_end ks bs vs i at h k t =
-    let P : List Kind → Type 0 = λ ls. AreCells ls vs in
-    (subst P (taken_all ks i h) t.are, t.code ∙ ap (λ (xs : List ℕ). row_code vs ++ xs) (dropped_all bs at k) ∙ append_nothing (row_code vs))
 
 -- a packed row is that of one row
 pub one_row : (ks : List Kind) (vs ws : List Value) → AreCells ks vs → AreCells ks ws → length (row_code vs) < 2 ^ 32 → row_code vs ≡ row_code ws → vs ≡ ws

@@ -163,12 +163,6 @@ read_put ms r bs old new n some one = record {
       (here.0, here.1 ∙ drop-drop n r.above bs ∙ ap (λ (k : ℕ). drop k bs) (let e : r.above + n ≡ n + r.above = omega arith in e));
 }
 
-pub read_short : (r : KeyRead) (bs : List ℕ) → length bs < r.above → IsNoRead r bs
-read_short r bs short = record {
-  none = λ v more at.
-      omega (arith, short, at.above, ap (length {A = ℕ}) at.code, length-append at.front (column_code r.column v ++ more));
-}
-
 pub no_read : (r : KeyRead) (bs : List ℕ) → IsNoColumn r.column (drop r.above bs) → IsNoRead r bs
 no_read r bs none = record { none = λ v more at. none.none v more at.fits (past_front r v bs more at) }
 

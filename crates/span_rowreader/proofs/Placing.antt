@@ -1,14 +1,13 @@
 -- Values put at their places one after another.
-use Rattle.std.proofs.Common.{◌≡◌, ℕ, ◌+◌, ◌<◌, ◌≤◌, ◌^◌, List, [], ◌∷◌, Bool, true, false, not, Option, Some, None, MatchOption, Result, Ok, Err, IfOk, refl, sym, ◌∙◌, ap, subst, arith, length, drop, get_or, set, if◌then◌else◌}
+use Rattle.std.proofs.Common.{◌≡◌, ℕ, ◌+◌, ◌<◌, ◌^◌, List, [], ◌∷◌, Bool, true, false, not, Option, Some, None, MatchOption, Result, Ok, Err, IfOk, refl, sym, ◌∙◌, ap, subst, arith, length, drop, get_or, set, if◌then◌else◌}
 use Rattle.std.proofs.lemmas.Bool.{and_parts, not-true}
-use Rattle.std.proofs.lemmas.List.{drop_more, drop-drop, drop_all}
+use Rattle.std.proofs.lemmas.List.{drop_more, drop-drop}
 use Rattle.span_value.specs.declared.value.Value.{Value}
 use Rattle.span_value.specs.declared.value.Kind.{Kind}
 use Rattle.span_schema.specs.declared.layout.KeyPart.{KeyPart}
 use Rattle.span_keycode.specs.Reads.{IsNoColumn, IsColumn}
-use Rattle.span_keycode.specs.Roots.{IsSkip}
 use Rattle.span_keycode.proofs.Once.{column_once}
-use Rattle.span_rowcode.specs.Rows.{AreCells, IsRow, IsNoCell, IsCell, IsCellSkip, row_code}
+use Rattle.span_rowcode.specs.Rows.{AreCells, IsRow, IsNoCell, IsCell, row_code}
 use Rattle.span_rowcode.specs.Limits.{longest_row}
 use Rattle.span_rowcode.proofs.CellSkips.{cell_once}
 use Rattle.span_rowreader.specs.Placed.{is_wanted, wants_none, put, placed, IsColumnPut, IsColumnRead, IsCellPut, IsCellRead, AreCellsPut}
@@ -28,17 +27,11 @@ column_put ms c place bs old new v n wanted read e = record {
   put = λ w more f code. let once = column_once c bs v w n more read f code in (put_wanted ms place v w old new wanted e once.0, once.1);
 }
 
-pub column_skipped : (ms : List Bool) (c : KeyPart) (place : ℕ) (bs : List ℕ) (old : List Value) (n : ℕ) → is_wanted ms place ≡ false → IsSkip c bs n → IsColumnPut ms c place bs old old n
-column_skipped ms c place bs old n not_wanted skip = record { within = skip.within; put = λ w more f code. (put_not ms place w old not_wanted, skip.past w more f code) }
-
 pub cell_put : (ms : List Bool) (k : Kind) (place : ℕ) (bs : List ℕ) (old new : List Value) (v : Value) (n : ℕ) → length bs < 2 ^ 32 → is_wanted ms place ≡ true → IsCell k bs v n → new ≡ set old place v → IsCellPut ms k place bs old new n
 cell_put ms k place bs old new v n small wanted read e = record {
   within = read.within;
   put = λ w more f code. let once = cell_once k bs v w n more small read f code in (put_wanted ms place v w old new wanted e once.0, once.1);
 }
-
-pub cell_skipped : (ms : List Bool) (k : Kind) (place : ℕ) (bs : List ℕ) (old : List Value) (n : ℕ) → is_wanted ms place ≡ false → IsCellSkip k bs n → IsCellPut ms k place bs old old n
-cell_skipped ms k place bs old n not_wanted skip = record { within = skip.within; put = λ w more f code. (put_not ms place w old not_wanted, skip.past w more f code) }
 
 -- what was read and put at a place that the mask has
 
@@ -73,10 +66,6 @@ none_put ms (p ∷ ps) (v ∷ vs) row none =
 pub heads : (a b : ℕ) (xs ys : List ℕ) → a ∷ xs ≡ b ∷ ys → (a ≡ b) × (xs ≡ ys)
 heads a b xs ys e = (cc, cc)
 
-nothing_put : (ms : List Bool) (ps : List ℕ) (row : List Value) → placed ms ps [] row ≡ row
-nothing_put ms [] row = refl
-nothing_put ms (p ∷ ps) row = refl
-
 -- ---- cells one after another
 
 -- the cells that are left of a row, and what is put of all
@@ -102,13 +91,6 @@ no_cell ms k ks ps rest row all none left = by_values left.values left.are left.
     by_values [] f e = f
     by_values (v ∷ vs) f e = none.none v (row_code vs) f.0 e
 
-cells_done : (ms : List Bool) (ps rest : List ℕ) (row all : List Value) → CellsLeft ms [] ps rest row all → row ≡ all
-cells_done ms ps rest row all left = by_values left.values left.are left.put
-  where
-    by_values : (vs : List Value) → AreCells [] vs → all ≡ placed ms ps vs row → row ≡ all
-    by_values [] f so = sym (so ∙ nothing_put ms ps row)
-    by_values (v ∷ vs) f so = absurd f
-
 -- of whatever cells the bytes code, those that are left at a place
 abbrev pub CellsLeftAt : List Bool → List Kind → List ℕ → List ℕ → List Value → ℕ → ℕ → List Value → Type 0
 CellsLeftAt ms ks ps bs old i at row = (vs : List Value) → IsRow ks vs → bs ≡ row_code vs → CellsLeft ms (drop i ks) (drop i ps) (drop at bs) row (placed ms ps vs old)
@@ -132,14 +114,6 @@ no_cell_at ms ks ps bs old row new i at d h none left = record {
       let all = placed ms ps vs old in
       let P : List Kind → Type 0 = λ ds. CellsLeft ms ds (drop i ps) (drop at bs) row all in
       absurd (no_cell ms (get_or ks i d) (drop (i + 1) ks) (drop i ps) (drop at bs) row all none (subst P (drop_more ks i d h) (left vs f e)));
-}
-
-pub cells_end : (ms : List Bool) (ks : List Kind) (ps bs : List ℕ) (old row : List Value) (i at : ℕ) → length ks ≤ i → CellsLeftAt ms ks ps bs old i at row → AreCellsPut ks ps ms bs old row true
-cells_end ms ks ps bs old row i at h left = record {
-  put = λ vs f e.
-      let all = placed ms ps vs old in
-      let P : List Kind → Type 0 = λ ds. CellsLeft ms ds (drop i ps) (drop at bs) row all in
-      (refl, cells_done ms (drop i ps) (drop at bs) row all (subst P (drop_all i ks h) (left vs f e)));
 }
 
 -- no cell that is left is wanted

@@ -60,13 +60,6 @@ module _ {A : Type 0} where
   part_added : (all more : List A) → take (length all + length more - length all) (drop (length all) (all ++ more)) ≡ more
   part_added all more = grind (arith, common_steps)
 
-  -- the lists, where more items follow
-  pub cut_stays : (at : ℕ) (ends : List ℕ) (all more : List A) → AreEnds at ends (length all) → cut_at at ends (all ++ more) ≡ cut_at at ends all
-  cut_stays at [] all more is = refl
-  cut_stays at (e ∷ ends) all more are =
-      ap (λ (x : List A). x ∷ cut_at e ends (all ++ more)) (part_stays at e all more (ends_within e ends (length all) are.1))
-      ∙ ap (λ (xs : List (List A)). take (e - at) (drop at all) ∷ xs) (cut_stays e ends all more are.1)
-
   pub cut_more : (at : ℕ) (ends : List ℕ) (all more : List A) → AreEnds at ends (length all)
       → cut_at at (ends ++ (length all + length more) ∷ []) (all ++ more) ≡ cut_at at ends all ++ more ∷ []
   cut_more at [] all more is = ap (λ (n : ℕ). take (length all + length more - n) (drop n (all ++ more)) ∷ []) is ∙ ap (λ (x : List A). x ∷ []) (part_added all more)

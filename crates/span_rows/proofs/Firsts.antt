@@ -55,5 +55,3 @@ insert_key-new keys y = ap (λ b. cond b keys (keys ++ y ∷ [])) (any_reversed 
 
 pub distinct-inserted : (keys new rows : List Row) (y : Row) → keys ≡ distinct rows → new ≡ insert_key are_equal keys y → new ≡ distinct (rows ++ y ∷ [])
 distinct-inserted keys new rows y is inserted = inserted ∙ insert_key-new keys y ∙ ap (λ (l : List Row). with_new l y) is ∙ sym (distinct-more rows y)
-
-pub ruleset one_more = (distinct-inserted)

@@ -67,10 +67,6 @@ pub adding-fails : {A : Type 0} (why : Failure) (o : OrFault (List A)) (old new 
 adding-fails Fault o old new fails = fails
 adding-fails OutOfMemory o old new fails = tt {0}
 
-pub fails-adding : {A : Type 0} (why : Failure) (o : OrFault (List A)) (old new : List A) → Gives (Err why) o → Adds (Err why) o old new
-fails-adding Fault o old new fails = fails
-fails-adding OutOfMemory o old new fails = tt {0}
-
 -- ---- the same for a loop over places, each of which adds what its item gives
 
 pub added_more : {A B : Type 0} (f : A → OrFault (List B)) (xs : List A) (k : ℕ) (x : A) → k < length xs → x ≡ get_or xs k x → (first old new : List B)

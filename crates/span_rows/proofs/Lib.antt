@@ -1,6 +1,5 @@
 pub mod Gathering
 pub mod Alike
-mod Filtering
 pub mod Firsts
 pub mod Places
 pub mod Cutting

@@ -126,11 +126,6 @@ none_with places k (row ∷ rows) e =
     let both : (are_equal (columns_at places row) k ≡ false) × (contains_row (map (columns_at places) rows) k ≡ false) = or_parts (are_equal (columns_at places row) k) (contains_row (map (columns_at places) rows) k) e in
     ap (λ b. cond b (row ∷ rows_with places k rows) (rows_with places k rows)) (are_equal-reversed k (columns_at places row) ∙ both.0) ∙ none_with places k rows both.1
 
--- no row has a key that is not among the keys
-pub no_rows : (places : List ℕ) (row : Row) (rows : List Row) → contains_row (group_keys places rows) (columns_at places row) ≡ false → rows_with places (columns_at places row) rows ≡ []
-no_rows [] row rows e = absurd cc
-no_rows (p ∷ ps) row rows e = none_with (p ∷ ps) (columns_at (p ∷ ps) row) rows (sym (contains_row-distinct (map (columns_at (p ∷ ps)) rows) (columns_at (p ∷ ps) row)) ∙ e)
-
 pub rows_with-push : (places : List ℕ) (k : Row) (rows : List Row) (row : Row) (b : Bool) → are_equal k (columns_at places row) ≡ b → rows_with places k (rows ++ row ∷ []) ≡ rows_with places k rows ++ cond b (row ∷ []) []
 rows_with-push places k rows row b e =
     filter-append (λ (r : Row). are_equal k (columns_at places r)) rows (row ∷ []) ∙ ap (λ c. rows_with places k rows ++ cond c (row ∷ []) []) e

@@ -17,22 +17,10 @@ use Rattle.span_store.specs.KeyVersions.{KeyVersions}
 use Rattle.span_store.specs.KeyLists.{AreInOrder, keys_cmp, is_key, versions_of, end_of_time, row_now}
 use Rattle.span_store.specs.Reads.{versions_alone}
 use Rattle.span_shard.specs.Reading.{row_of}
-use Rattle.span_shard.specs.Overlay.{Changes, changed_at, row_over, is_unchanged, change_of, AreUnchangedUnder, AreChangedUnder, AreCleared, AddsCleared, HasSameCleared, IsPutAt, AreUnder, AreRemoved, without_if}
+use Rattle.span_shard.specs.Overlay.{Changes, changed_at, row_over, is_unchanged, change_of, AreUnchangedUnder, AreCleared, AddsCleared, HasSameCleared, AreUnder, AreRemoved, without_if}
 use Rattle.span_store.proofs.Lists.{all_both, all_whole, found_all}
 use Rattle.span_shard.proofs.Databases.{find_kept}
 use Rattle.span_store.specs.Versions.{row_at}
-
--- ---- a row that is made
-
-pub put_at : (es fs : Changes) (key row : List ℕ) → fs.removed ≡ es.removed → ((k : List ℕ) → made_at fs.made k ≡ cond (is_same key k) (Some row) (made_at es.made k)) → IsPutAt key row es fs
-put_at es fs key row same put k =
-    ap (change_of (made_at fs.made k)) (ap (λ (l : List (List ℕ)). list_any (is_same k) l) same)
-    ∙ ap (λ (o : Option (List ℕ)). change_of o (list_any (is_same k) es.removed)) (put k)
-    ∙ cases (is_same key k)
-  where
-    cases : (b : Bool) → change_of (cond b (Some row) (made_at es.made k)) (list_any (is_same k) es.removed) ≡ cond b (Some (Some row)) (changed_at es k)
-    cases true = refl
-    cases false = refl
 
 -- ---- a row that is removed
 
@@ -205,13 +193,6 @@ unchanged_complete cs es front k b none some = of_found (find (is_key k) cs) ref
 pub unchanged_found : (cs : List KeyVersions) → AreInOrder cs → (es : Changes) (front : List ℕ) → AreUnchangedUnder cs es front (unchanged_under es front cs)
 unchanged_found cs sorted es front = record { sound = unchanged_sound cs sorted es front; complete = unchanged_complete cs es front }
 
--- it need not be looked at
-pub unchanged_none : (cs : List KeyVersions) (es : Changes) (front : List ℕ) → AreChangedUnder cs es front → AreUnchangedUnder cs es front []
-unchanged_none cs es front changed = record {
-  sound = tt;
-  complete = λ k b none some. absurd (let f : false ≡ true = sym (ap (λ (o : Option (Option (List ℕ))). is_some o) none) ∙ changed k b some in cc);
-}
-
 pub all_under : (cs : List KeyVersions) (es : Changes) (front : List ℕ) (old ks : List (List ℕ)) → AreUnchangedUnder cs es front old → AddsMade es.made front old ks → AreUnder cs es front ks
 all_under cs es front old ks unchanged h = subst (AreUnder cs es front) (sym h.whole) (record {
   sound = all_append (λ (k : List ℕ). (begins_with k front ≡ true) × (is_some (row_over cs es k) ≡ true)) old h.added unchanged.sound
@@ -244,17 +225,6 @@ all_under cs es front old ks unchanged h = subst (AreUnder cs es front) (sym h.w
         (unchanged.complete k b (left k None false e f) (sym (over k None (left k None false e f)) ∙ some))
 
 -- ---- keys from which on down all rows were removed
-
--- a row that was changed stays changed
-pub still_cleared : (cs : List KeyVersions) (es fs : Changes) → AreCleared cs es → HasSameCleared es fs → ((k : List ℕ) → is_some (changed_at es k) ≡ true → is_some (changed_at fs k) ≡ true) → AreCleared cs fs
-still_cleared cs es fs cleared same stays front e k b some = stays k (cleared front (sym (ap (λ (l : List (List ℕ)). list_any (is_same front) l) same) ∙ e) k b some)
-
-pub put_stays : (es fs : Changes) (key row : List ℕ) → IsPutAt key row es fs → (k : List ℕ) → is_some (changed_at es k) ≡ true → is_some (changed_at fs k) ≡ true
-put_stays es fs key row put k e = ap (λ (o : Option (Option (List ℕ))). is_some o) (put k) ∙ cases (is_same key k)
-  where
-    cases : (b : Bool) → is_some (cond b (Some (Some row)) (changed_at es k)) ≡ true
-    cases true = refl
-    cases false = e
 
 removed_stays : (es fs : Changes) (ks : List (List ℕ)) → AreRemoved es ks fs → (k : List ℕ) → is_some (changed_at es k) ≡ true → is_some (changed_at fs k) ≡ true
 removed_stays es fs ks removed k e = ap (λ (o : Option (Option (List ℕ))). is_some o) (removed k) ∙ cases (list_any (is_same k) ks)

@@ -37,7 +37,7 @@ use Rattle.span_store.specs.KeyLists.{row_now}
 use Rattle.span_shard.specs.Shard.{IsNow}
 use Rattle.span_shard.specs.Reading.{is_same_row, is_prepare_refusal, AreUnreadable, IsPrepareRefusal, IsFault, AreWrites}
 use Rattle.span_keycode.specs.Order.{is_same}
-use Rattle.span_shard.specs.Overlay.{Changes, changed_at, own_code, row_before, IsUnpacked, IsStray, IsOver, HasDirectory, IsTableRow, AreTableRows, IsNoPut, IsNoDelete, BlocksDelete, IsRunOf, IsRunFault, AreRunsOf, AreCleared, no_change, change_of, changes_of, write_new, write_if, write_at, IsWrittenAt, AreWrittenFrom, AreWritesAt}
+use Rattle.span_shard.specs.Overlay.{Changes, changed_at, own_code, row_before, IsUnpacked, IsStray, IsOver, HasDirectory, IsTableRow, AreTableRows, IsNoPut, IsNoDelete, BlocksDelete, IsRunOf, IsRunFault, AreRunsOf, AreCleared, change_of, changes_of, write_new, write_if, write_at, IsWrittenAt, AreWrittenFrom, AreWritesAt}
 use Rattle.span_store.proofs.Lists.{all_at}
 use Rattle.span_shard.proofs.Touching.{typed_keyed}
 use Rattle.span_shard.proofs.Databases.{untouched_there}
@@ -158,14 +158,6 @@ pub record HaveRun (tables : List Table) (ms : List CheckedMutation) (cs : List 
   pub applied : (db : List TableRow) → IsDatabase tables db → AreTyped tables db → IsNow tables ms db cs
       → (now : List TableRow) × (apply tables now (drop i ms) ≡ apply tables db ms) × (IsDatabase tables now × AreTyped tables now) × IsOver tables (is_touched tables ms) cs es now
 
-pub none_run : (tables : List Table) (ms : List CheckedMutation) (cs : List KeyVersions) (es : Changes) → es ≡ no_change → HaveRun tables ms cs 0 es
-none_run tables ms cs es e = subst (HaveRun tables ms cs 0) (sym e) (record {
-  rows = λ k row f. absurd (let g : None ≡ Some (Some row) = f in cc);
-  cleared = λ front f. absurd (let g : false ≡ true = f in cc);
-  touched = λ k f. absurd (let g : false ≡ true = f in cc);
-  applied = λ db is tdb now. (db, refl, (is, tdb), now);
-})
-
 pub any_at : {X : Type 0} (p : X → Bool) (xs : List X) (i : ℕ) (x : X) → i < length xs → x ≡ get_or xs i x → p x ≡ true → list_any p xs ≡ true
 any_at p [] i x h e f = absurd (omega arith)
 any_at p (y ∷ ys) zero x h e f = or_first (p y) (list_any p ys) (ap p (sym e) ∙ f)
@@ -212,12 +204,6 @@ one_more tables ms typed cs i m es fs h e so_far run cleared = record { rows = r
           next.2,
         )
 
-pub all_run : (tables : List Table) (ms : List CheckedMutation) (cs : List KeyVersions) (i : ℕ) (es : Changes) → drop i ms ≡ [] → HaveRun tables ms cs i es → AreRunsOf tables ms cs es
-all_run tables ms cs i es e so_far = record {
-  touched = so_far.touched;
-  applied = λ db is tdb now. let at = so_far.applied db is tdb now in (at.0, sym at.1 ∙ ap (apply tables at.0) e, at.3);
-}
-
 pub run_fault : (tables : List Table) (ms : List CheckedMutation) (cs : List KeyVersions) (i : ℕ) (m : CheckedMutation) (es : Changes) (why : Refusal) → i < length ms → m ≡ get_or ms i m → HaveRun tables ms cs i es → IsRunFault tables cs m es why
     → IsFault tables ms cs why
 run_fault tables ms cs i m es why h e so_far f db is tdb now =
@@ -259,9 +245,6 @@ equal_rows (Some a) None e = absurd (let f : true ≡ false = e in cc)
 equal_rows (Some a) (Some b) e = ap Some ((bytes_eq-Decides a b).0 (not-false (bytes_eq a b) e))
 
 -- ---- what is written
-
-pub none_written : (cs : List KeyVersions) (es : Changes) → AreWrittenFrom cs es es []
-none_written cs es = record { changed = tt; at = λ k. inl (refl, refl) }
 
 found_more : (p : Write → Bool) (ws : List Write) (w : Write) → p w ≡ false → find p (ws ++ w ∷ []) ≡ find p ws
 found_more p [] w e = ap (λ (b : Bool). cond b (Some w) None) e
@@ -358,16 +341,6 @@ written_alike cs es left rest ws so_far alike = record {
   ];
 }
 
--- nothing is left at any key
-all_done : (cs : List KeyVersions) (es left : Changes) (ws : List Write) → ((k : List ℕ) → changed_at left k ≡ None) → AreWrittenFrom cs es left ws → AreWritesAt cs es ws
-all_done cs es left ws none so_far = record { changed = so_far.changed; at = λ k. at k }
-  where
-    at : (k : List ℕ) → find (is_of k) ws ≡ write_at cs es k
-    at k = elim (so_far.at k) [
-      | inl g ↦ (let unchanged : changed_at es k ≡ None = sym g.0 ∙ none k in g.1 ∙ sym (ap (write_if k (row_now cs k)) unchanged))
-      | inr g ↦ g.1
-    ]
-
 -- ---- the rows that were removed
 
 -- one is looked at, where none was made since
@@ -419,9 +392,6 @@ removal_none cs es made left rest ws key among out old so_far = of_made (made_at
         written_same cs es (changes_of made left) (changes_of made rest) ws key None so_far (removed_taken made left rest key among out e)
         (sym (ap (λ (o : Option (List ℕ)). not (is_some o) && not (is_same_row (row_now cs key) None)) e) ∙ old)
 
-pub removals_written : (cs : List KeyVersions) (es : Changes) (made : List (List ℕ × List ℕ)) (left : List (List ℕ)) (ws : List Write) → left ≡ [] → AreWrittenFrom cs es (changes_of made left) ws → AreWrittenFrom cs es (changes_of made []) ws
-removals_written cs es made left ws none so_far = subst (λ (l : List (List ℕ)). AreWrittenFrom cs es (changes_of made l) ws) none so_far
-
 -- ---- the rows that were made
 
 -- the keys from which on down all was removed are no part of what is written
@@ -442,9 +412,6 @@ made_taken made rest key row here out = (
     cases : (k : List ℕ) (b : Bool) → change_of (cond b None (made_at made k)) false ≡ cond b None (change_of (made_at made k) false)
     cases k true = refl
     cases k false = refl
-
-pub all_written : (cs : List KeyVersions) (es : Changes) (left : List (List ℕ × List ℕ)) (ws : List Write) → left ≡ [] → AreWrittenFrom cs es (changes_of left []) ws → AreWritesAt cs es ws
-all_written cs es left ws none so_far = all_done cs es (changes_of left []) ws (λ k. ap (λ (made : List (List ℕ × List ℕ)). change_of (made_at made k) false) none) so_far
 
 -- ---- on each database
 

@@ -87,9 +87,6 @@ not_greater a b le = grind (arith, nat_tests)
 not_less : (a b : ℕ) → b ≤ a → or_next (nat_cmp a b) Greater ≡ Greater
 not_less a b le = grind (arith, nat_tests)
 
-same_then : (o : Ordering) → ordering_then Equal o ≡ o
-same_then o = refl
-
 -- the first of the bytes that are left, with the digits up to it
 first_byte : (k p q x y : ℕ) (a b : List ℕ) → AreBytes a → AreBytes b → (o : Ordering) → nat_cmp x y ≡ o
     → (x < y → p < q) → (y < x → q < p) → (x ≡ y → p ≡ q)

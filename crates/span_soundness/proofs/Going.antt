@@ -11,10 +11,6 @@ use Rattle.span_typing.specs.Typing.{Finds}
 use Rattle.span_soundness.specs.Bindings.{AreAggregatesOf}
 use Rattle.span_soundness.proofs.Agreeing.{Made}
 
--- what is known of something, by the types of the aggregates found so far
-abbrev pub Claim : Type 0 → Type 1
-Claim A = List Kind → A → Type 0
-
 -- it holds whatever aggregates are found after these
 abbrev pub Always : {A : Type 0} → (List Kind → A → Type 0) → List Kind → A → Type 0
 Always R kinds x = (later : List Kind) → R (kinds ++ later) x

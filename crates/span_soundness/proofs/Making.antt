@@ -13,7 +13,6 @@ use Rattle.span_trees.specs.declared.tree.Operator.TheVariants.{Plus, Minus, Tim
 use Rattle.span_expr.specs.declared.expr.Expr.{Expr}
 use Rattle.span_expr.specs.declared.expr.Expr.TheVariants as expr
 use Rattle.span_expr.specs.declared.expr.Link.{Link}
-use Rattle.span_expr.specs.declared.expr.Arm.{Arm}
 use Rattle.span_pattern.specs.declared.pattern.PatternPart.{PatternPart}
 use Rattle.span_expr.specs.declared.expr.Operator.{Operator}
 use Rattle.span_expr.specs.declared.expr.Operator.TheVariants.{Divide, Modulo}
@@ -200,9 +199,6 @@ module _ (types : List Kind) where
   value_kind_right : (arms : List TypedArm) (other : Option Typed) → Made (TakesValues arms other) (value_kind arms other)
   value_kind_right arms other = then_made (λ k. AllCovered k (otherwise_kind other ∷ map value_kind_of arms)) (TakesValues arms other) (common_kind_of_all (otherwise_kind other ∷ map value_kind_of arms)) (λ k. Ok (or_int k)) (all_covered (otherwise_kind other ∷ map value_kind_of arms))
       (λ k all. (all.0 (or_int k) (takes_own k), all_take (or_int k) k (map value_kind_of arms) (takes_own k) all.1))
-
-  abbrev TypedArms : List TypedArm → List (Arm Expr)
-  TypedArms arms = map arm_of arms
 
   else_right : (other : Option Typed) (k : Kind) → IsTypedElse other → Takes k (otherwise_kind other) → is_else_of k (else_type types (otherwise_of other)) ≡ true
   else_right None k is take = refl

@@ -1,7 +1,7 @@
 -- What is gathered, and what a load has read beside it.
-use Rattle.std.proofs.Common.{◌≡◌, ◌⊎◌, ◌∙◌, ◌-◌, ℕ, List, [], ◌∷◌, ◌++◌, Option, Some, None, Result, Ok, Err, inl, inr, refl, sym, ap, subst, codes, length, take, arith, append_assoc, length-append}
+use Rattle.std.proofs.Common.{◌≡◌, ◌⊎◌, ◌∙◌, ℕ, List, [], ◌∷◌, ◌++◌, Option, Some, None, Result, Ok, Err, inl, inr, refl, sym, ap, subst, length, take, append_assoc}
 use Rattle.std.proofs.Math.Seq.{take-append_seam, take-length}
-use Rattle.std.proofs.lemmas.List.{append-nil, length-map, map-append}
+use Rattle.std.proofs.lemmas.List.{append-nil, map-append}
 use Rattle.span_value.specs.declared.refusal.Refusal.{Refusal}
 use Rattle.span_value.specs.declared.refusal.Refusal.TheVariants.{OutOfMemory}
 use Rattle.span_truetime.specs.declared.interval.Interval.{Interval}
@@ -19,8 +19,7 @@ use Rattle.span_steps.specs.declared.refused.Refused.{Refused}
 use Rattle.span_steps.specs.declared.load.Load.{Load}
 use Rattle.span_steps.specs.declared.load.Records.{Records}
 use Rattle.span_steps.specs.declared.running.RunningScript.{RunningScript}
-use Rattle.span_answers.specs.Lines.{number_line, refused_line}
-use Rattle.span_steps.specs.States.{BeginsLoad, EndsLoad, Gathers, LoadsRecord, RefusesRecord, ScriptState, refused_load}
+use Rattle.span_steps.specs.States.{BeginsLoad, Gathers, LoadsRecord, RefusesRecord, ScriptState, refused_load}
 use Rattle.span_steps.specs.Running.{AddsRow, Changes, Gathered, inserts_of, load_of, state_of, state_with, with_records}
 
 -- ---- gathering, where no load is read
@@ -133,32 +132,3 @@ module _ (clock : Interval) (params : List Parameter) (gathered : List Mutation)
       subst
       (λ (r : Result Records Refused). LoadsRecord (load_of (length gathered) (record { records = r })) text (state_with clock params gathered (Some (record { records = r }))) (state_with clock params gathered (Some (record { records = Err refused }))))
       (sym is) refl
-
-  -- ---- its end
-
-  abbrev Ends : Result Records Refused → List ℕ → ScriptState → Type 0
-  Ends r answer next = EndsLoad (load_of (length gathered) (record { records = r })) (state_with clock params gathered (Some (record { records = r }))) answer next
-
-  count : (records : Records) → length records.rows.items ≡ length (gathered ++ inserts_of records) - length gathered
-  count records =
-      let f = row_mutation (heading_of records.layout Insert) in
-      omega (arith, length-append gathered (inserts_of records), length-map records.rows.items f)
-
-  pub ends_loaded : (load : Load) (records : Records) (open_load : Option Load) (n : ℕ) (next : ScriptState) → load.records ≡ Ok records → open_load ≡ None → n ≡ length records.rows.items
-      → next ≡ record (state_with clock params gathered open_load) { gathered = (state_with clock params gathered open_load).gathered ++ inserts_of records }
-      → EndsLoad (load_of (length gathered) load) (state_with clock params gathered (Some load)) (number_line (codes "loaded") n) next
-  ends_loaded load records (Some other) n next is none many gathers = absurd (cc none)
-  ends_loaded load records None n next is none many gathers =
-      subst (λ (r : Result Records Refused). Ends r (number_line (codes "loaded") n) next) (sym is) (inl (ap (λ (k : ℕ). number_line (codes "loaded") k) (many ∙ count records), gathers))
-
-  pub ends_unloaded : (load : Load) (records : Records) (open_load : Option Load) (next : ScriptState) → load.records ≡ Ok records → open_load ≡ None → next ≡ state_with clock params gathered open_load
-      → EndsLoad (load_of (length gathered) load) (state_with clock params gathered (Some load)) (refused_line OutOfMemory) next
-  ends_unloaded load records (Some other) next is none stays = absurd (cc none)
-  ends_unloaded load records None next is none stays =
-      let before = ap (λ (l : List Mutation). let state : ScriptState = record { clock = clock; params = params; gathered = l; load = None } in state) (sym (before_load (Ok records))) in
-      subst (λ (r : Result Records Refused). Ends r (refused_line OutOfMemory) next) (sym is) (inr (refl, stays ∙ before))
-
-  pub ends_refused : (load : Load) (refused : Refused) (open_load : Option Load) → load.records ≡ Err refused → open_load ≡ None
-      → EndsLoad (load_of (length gathered) load) (state_with clock params gathered (Some load)) (refused_line refused.why) (state_with clock params gathered open_load)
-  ends_refused load refused (Some other) is none = absurd (cc none)
-  ends_refused load refused None is none = subst (λ (r : Result Records Refused). Ends r (refused_line refused.why) (state_with clock params gathered None)) (sym is) (refl, refl)

@@ -145,13 +145,6 @@ moving_starts es fs sources chains a c sources_are chains_are keys all_sources a
   room = room;
 }
 
--- where no chain is left of the one, none is left of the other
-pub some_open : (left open_ones : List KeyEntry) (sources rest : List Chain) (source : Chain) (chains : List Chain) → length left ≡ length open_ones → sources ≡ map (λ (e : KeyEntry). e.chain) left → sources ≡ source ∷ rest
-    → chains ≡ map (λ (e : KeyEntry). e.chain) open_ones → chains ≡ [] → ⊥
-some_open [] open_ones sources rest source chains equal is first others none = (let q : [] ≡ source ∷ rest = sym is ∙ first in cc)
-some_open (e ∷ left) [] sources rest source chains equal is first others none = (let z : suc (length left) ≡ 0 = equal in omega arith)
-some_open (e ∷ left) (f ∷ open_ones) sources rest source chains equal is first others none = (let q : f.chain ∷ map (λ (x : KeyEntry). x.chain) open_ones ≡ [] = sym others ∙ none in cc)
-
 -- another chain of the new arena leaves what is there
 there_stays : (a d e : Content) (es fs : List KeyEntry) (c : ℕ) → holders c fs ≡ 0 → ((x : ℕ) → x ≢ c → versions e x ≡ versions d x) → HaveVersions a d es fs → HaveVersions a e es fs
 there_stays a d e [] [] c other stay there = tt

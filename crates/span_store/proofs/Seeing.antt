@@ -64,15 +64,6 @@ pub pushed_step : {X Y : Type 0} (f : X → Y) (found more : List Y) (es fs : Li
 pushed_step {X} {Y} f found more es fs e all is pushed so_far =
     ap (λ (l : List Y). l ++ map f fs) pushed ∙ append_assoc found (f e ∷ []) (map f fs) ∙ ap (λ (l : List X). found ++ map f l) (sym is) ∙ so_far
 
-pub seen_none : {X Y : Type 0} (f : X → Option Y) (found : List Y) (es fs : List X) (e : X) (all : List Y) → es ≡ e ∷ fs → f e ≡ None → found ++ filter_map f es ≡ all → found ++ filter_map f fs ≡ all
-seen_none {X} {Y} f found es fs e all is none so_far =
-    ap (λ (o : Option Y). found ++ cons_option o (filter_map f fs)) (sym none) ∙ ap (λ (l : List X). found ++ filter_map f l) (sym is) ∙ so_far
-
-pub seen_some : {X Y : Type 0} (f : X → Option Y) (found more : List Y) (es fs : List X) (e : X) (y : Y) (all : List Y) → es ≡ e ∷ fs → f e ≡ Some y → more ≡ found ++ y ∷ [] → found ++ filter_map f es ≡ all → more ++ filter_map f fs ≡ all
-seen_some {X} {Y} f found more es fs e y all is some pushed so_far =
-    ap (λ (l : List Y). l ++ filter_map f fs) pushed ∙ append_assoc found (y ∷ []) (filter_map f fs)
-    ∙ ap (λ (o : Option Y). found ++ cons_option o (filter_map f fs)) (sym some) ∙ ap (λ (l : List X). found ++ filter_map f l) (sym is) ∙ so_far
-
 -- ---- rows with short keys
 
 abbrev the_row : List ℕ → List ℕ → KeyRow

@@ -1,7 +1,6 @@
 -- Comparisons of numbers with literals, at packed rows.
-use Rattle.std.proofs.Common.{◌≡◌, inl, inr, ◌∙◌, ℕ, ℤ, zero, suc, ◌+◌, ◌<◌, ◌≤◌, ◌^◌, ◌==◌, Bool, true, false, not, List, [], ◌∷◌, ◌++◌, Option, Some, None, length, map, take, drop, get_or, refl, sym, ap, subst, arith, if◌then◌else◌}
+use Rattle.std.proofs.Common.{◌≡◌, inl, inr, ◌∙◌, ℕ, ℤ, zero, suc, ◌+◌, ◌<◌, ◌==◌, Bool, true, false, not, List, [], ◌∷◌, ◌++◌, Option, Some, None, length, map, take, drop, get_or, refl, sym, ap, subst, arith, if◌then◌else◌}
 use Rattle.std.specs.Prelude.{◌&&◌, ◌||◌, IfSome}
-use Rattle.std.specs.Int.{to_be_bytes, cast_unsigned, w64}
 use Rattle.std.specs.List.{AllByRecursion, fold, list_all}
 use Rattle.std.specs.Option.{unwrap_or, option_or}
 use Rattle.std.specs.Ordering.{ordering_reverse}
@@ -9,7 +8,7 @@ use Rattle.std.specs.declared.cmp.Ordering.{Ordering}
 use Rattle.std.specs.declared.cmp.Ordering.TheVariants as order
 use Rattle.std.proofs.lemmas.Bool.{and_parts, not-true}
 use Rattle.std.proofs.Math.Seq.{take-suc}
-use Rattle.std.proofs.lemmas.List.{drop_more, drop-drop, map-append, take_all}
+use Rattle.std.proofs.lemmas.List.{drop_more, drop-drop, map-append}
 use Rattle.std.proofs.lemmas.List.Sums.{fold-append}
 use Rattle.span_value.specs.declared.value.Value.{Value}
 use Rattle.span_value.specs.declared.value.Value.TheVariants.{Null, Int, Str, Bytes, Bool as Flag}
@@ -23,14 +22,11 @@ use Rattle.span_value.proofs.Total.{value_order_total}
 use Rattle.span_schema.specs.declared.table.Table.{Table}
 use Rattle.span_schema.specs.Fitting.{Fits}
 use Rattle.span_schema.specs.Numbers.{key_places, other_places, other_kinds}
-use Rattle.span_rowcode.specs.Rows.{AreCells, IsCellSkip, cell_code, row_code}
-use Rattle.span_rowcode.specs.Limits.{longest_row}
-use Rattle.span_rowcode.specs.Cells.{IsNoBody, IsBody}
-use Rattle.span_rowcode.proofs.RowReads.{no_cell_nothing, one_cell}
+use Rattle.span_rowcode.specs.Rows.{AreCells, IsCellSkip, row_code}
 use Rattle.span_mutate.specs.declared.row.TableRow.{TableRow}
 use Rattle.span_mutate.specs.Typed.{IsTyped}
 use Rattle.span_expr.specs.declared.expr.Expr.{Expr}
-use Rattle.span_expr.specs.declared.expr.Expr.TheVariants.{And, Between, Column, Compare, Literal, rolls-And, rolls-Between, rolls-Column, rolls-Compare, rolls-Literal}
+use Rattle.span_expr.specs.declared.expr.Expr.TheVariants.{And, Between, Column, Literal, rolls-And, rolls-Between, rolls-Column, rolls-Literal}
 use Rattle.span_expr.specs.declared.expr.Expr.TheFolds.{fold-roll-Expr}
 use Rattle.span_expr.specs.declared.expr.Expr.TheOpen.{Expr-F}
 use Rattle.span_expr.specs.declared.expr.Comparison.{Comparison}
@@ -53,9 +49,6 @@ use Rattle.span_rowreader.proofs.PlacedRows.{others_placed, others_apart}
 abbrev pub RestAt : List Kind → List ℕ → ℕ → ℕ → Type 0
 RestAt ks bs i at = (vs : List Value) → AreCells ks vs → bs ≡ row_code vs → AreCells (drop i ks) (drop i vs) × (drop at bs ≡ row_code (drop i vs))
 
-pub rest_first : (ks : List Kind) (bs : List ℕ) → RestAt ks bs 0 0
-rest_first ks bs vs are code = (are, code)
-
 one_past : (k : Kind) (ks : List Kind) (us : List Value) (rest : List ℕ) (w : ℕ) → IsCellSkip k rest w → AreCells (k ∷ ks) us → rest ≡ row_code us → AreCells ks (drop 1 us) × (drop w rest ≡ row_code (drop 1 us))
 one_past k ks [] rest w skip are code = absurd are
 one_past k ks (v ∷ us) rest w skip are code = (are.1, sym (skip.past v (row_code us) are.0 code))
@@ -68,51 +61,6 @@ rest_more ks bs i at w less skip so vs are code =
     let place : drop 1 (drop i vs) ≡ drop (i + 1) vs = drop-drop 1 i vs in
     let Q : List Value → Type 0 = λ us. AreCells (drop (i + 1) ks) us in
     (subst Q place next.0, sym (drop-drop w at bs) ∙ next.1 ∙ ap row_code place)
-
-pub rest_of : (ks : List Kind) (bs rest : List ℕ) (i at : ℕ) → length rest ≤ length bs → rest ≡ drop at bs → RestAt ks bs i at → IsRestOf ks i bs rest
-rest_of ks bs rest i at within is so = record { within = within; of = λ vs are code. is ∙ (so vs are code).1 }
-
--- ---- the number at the front
-
-one_not_zero : (bs more : List ℕ) (b : ℕ) → get_or bs 0 0 ≡ 0 → bs ≡ 1 ∷ more → ⊥
-one_not_zero bs more b z e = let one : get_or bs 0 0 ≡ 1 = ap (λ (l : List ℕ). get_or l 0 0) e in omega (arith, one, z)
-
-pub nothing_found : (bs : List ℕ) → length bs ≡ 0 → IsNumberFound bs None
-nothing_found [] none = record { of = λ v more f e. absurd ((no_cell_nothing kind.Int).none v more f e) }
-nothing_found (b ∷ bs) none = absurd (omega (arith, none))
-
-pub null_found : (bs : List ℕ) → get_or bs 0 0 ≡ 0 → IsNumberFound bs None
-null_found bs z = record { of = by_value }
-  where
-    by_value : (v : Value) (more : List ℕ) → Fits kind.Int v → bs ≡ cell_code v ++ more → v ≡ Null
-    by_value Null more f e = refl
-    by_value (Int i) more f e = absurd (one_not_zero bs (to_be_bytes w64 (cast_unsigned w64 i) ++ more) 0 z e)
-    by_value (Str cs) more f e = absurd f
-    by_value (Bytes cs) more f e = absurd f
-    by_value (Flag b) more f e = absurd f
-
-pub none_found : (bs : List ℕ) → (get_or bs 0 0 ≡ 0 → ⊥) → IsNoBody kind.Int (drop 1 bs) → IsNumberFound bs None
-none_found bs some against = record { of = by_value }
-  where
-    by_value : (v : Value) (more : List ℕ) → Fits kind.Int v → bs ≡ cell_code v ++ more → v ≡ Null
-    by_value Null more f e = refl
-    by_value (Int i) more f e = absurd (against.none (Int i) more f (ap (λ (l : List ℕ). 1 ∷ drop 1 l) e))
-    by_value (Str cs) more f e = absurd f
-    by_value (Bytes cs) more f e = absurd f
-    by_value (Flag b) more f e = absurd f
-
-pub number_found : (bs : List ℕ) (z : ℤ) → length bs < 2 ^ 32 → (get_or bs 0 0 ≡ 0 → ⊥) → IsBody kind.Int (drop 1 bs) (Int z) 8 → IsNumberFound bs (Some z)
-number_found bs z small some body = record { of = by_value }
-  where
-    by_value : (v : Value) (more : List ℕ) → Fits kind.Int v → bs ≡ cell_code v ++ more → v ≡ Int z
-    by_value Null more f e = absurd (some (ap (λ (l : List ℕ). get_or l 0 0) e))
-    by_value (Int i) more f e =
-        let short : length (cell_code (Int i) ++ more) < 2 ^ 32 = omega (arith, small, ap (length {A = ℕ}) e) in
-        let same : cell_code (Int i) ++ more ≡ cell_code (Int z) ++ drop 8 (drop 1 bs) = sym (ap (λ (l : List ℕ). 1 ∷ drop 1 l) e) ∙ body.code in
-        (one_cell kind.Int (Int i) (Int z) more (drop 8 (drop 1 bs)) f body.fits short same).0
-    by_value (Str cs) more f e = absurd f
-    by_value (Bytes cs) more f e = absurd f
-    by_value (Flag b) more f e = absurd f
 
 -- ---- whether a row passes
 
@@ -149,49 +97,6 @@ cell_met ks bs rest test found met at left number so = record {
 -- those before a place are met
 abbrev pub AreMetBefore : List Kind → List ℕ → List NumberTest → ℕ → Type 0
 AreMetBefore ks bs tests i = IsWhetherPass ks bs (λ cells. list_all (meets cells) (take i tests)) true
-
-pub none_before : (ks : List Kind) (bs : List ℕ) (tests : List NumberTest) → AreMetBefore ks bs tests 0
-none_before ks bs tests = record { of = λ vs row code. refl }
-
-all_more : {X : Type 0} (f : X → Bool) (xs : List X) (i : ℕ) (x : X) → i < length xs → x ≡ get_or xs i x → list_all f (take (suc i) xs) ≡ (list_all f (take i xs) && f x)
-all_more f [] i x less is = absurd (omega arith)
-all_more f (y ∷ xs) zero x less is = by_test (f y) ∙ ap f (sym is)
-  where
-    by_test : (b : Bool) → (b && true) ≡ b
-    by_test true = refl
-    by_test false = refl
-all_more f (y ∷ xs) (suc i) x less is = by_test (f y) (all_more f xs i x (omega arith) is)
-  where
-    by_test : (b : Bool) → list_all f (take (suc i) xs) ≡ (list_all f (take i xs) && f x) → (b && list_all f (take (suc i) xs)) ≡ ((b && list_all f (take i xs)) && f x)
-    by_test true so = so
-    by_test false so = refl
-
-pub one_more_met : (ks : List Kind) (bs : List ℕ) (tests : List NumberTest) (i : ℕ) (test : NumberTest) → i < length tests → test ≡ get_or tests i test → IsWhetherPass ks bs (λ cells. meets cells test) true
-    → AreMetBefore ks bs tests i → AreMetBefore ks bs tests (i + 1)
-one_more_met ks bs tests i test less is met so = record {
-  of = λ vs row code.
-      let place : suc i ≡ i + 1 = omega arith in
-      sym (ap (λ (k : ℕ). list_all (meets vs) (take k tests)) (sym place) ∙ all_more (meets vs) tests i test less is ∙ ap (λ (b : Bool). b && meets vs test) (sym (so.of vs row code)) ∙ sym (met.of vs row code));
-}
-
-one_not : {X : Type 0} (f : X → Bool) (xs : List X) (i : ℕ) (x : X) → i < length xs → x ≡ get_or xs i x → f x ≡ false → list_all f xs ≡ false
-one_not f [] i x less is not_so = absurd (omega arith)
-one_not f (y ∷ xs) zero x less is not_so = ap (λ (b : Bool). b && list_all f xs) (ap f (sym is) ∙ not_so)
-one_not f (y ∷ xs) (suc i) x less is not_so = by_test (f y) (one_not f xs i x (omega arith) is not_so)
-  where
-    by_test : (b : Bool) → list_all f xs ≡ false → (b && list_all f xs) ≡ false
-    by_test true so = so
-    by_test false so = refl
-
-pub one_not_met : (ks : List Kind) (bs : List ℕ) (tests : List NumberTest) (i : ℕ) (test : NumberTest) → i < length tests → test ≡ get_or tests i test → IsWhetherPass ks bs (λ cells. meets cells test) false
-    → IsWhetherPass ks bs (λ cells. list_all (meets cells) tests) false
-one_not_met ks bs tests i test less is met = record { of = λ vs row code. sym (one_not (meets vs) tests i test less is (sym (met.of vs row code))) }
-
-pub all_before : (ks : List Kind) (bs : List ℕ) (tests : List NumberTest) (i : ℕ) → length tests ≤ i → AreMetBefore ks bs tests i → IsWhetherPass ks bs (λ cells. list_all (meets cells) tests) true
-all_before ks bs tests i over so = record { of = λ vs row code. so.of vs row code ∙ ap (list_all (meets vs)) (take_all i tests over) }
-
-pub too_long : (ks : List Kind) (bs : List ℕ) (f : List Value → Bool) → longest_row < length bs → IsWhetherPass ks bs f false
-too_long ks bs f long = record { of = λ vs row code. absurd (omega (arith, row.1, long, ap (length {A = ℕ}) code)) }
 
 -- ---- what a comparison comes to
 
@@ -240,9 +145,6 @@ number_or_null_at [] vs i are at = absurd (omega (arith, at.within))
 number_or_null_at (k ∷ ks) [] i are at = absurd are
 number_or_null_at (k ∷ ks) (v ∷ vs) zero are at = let P : Kind → Type 0 = λ j. Fits j v in subst P at.kind are.0
 number_or_null_at (k ∷ ks) (v ∷ vs) (suc i) are at = number_or_null_at ks vs i are.1 (record { within = omega (arith, at.within); kind = at.kind })
-
-val_compare : (row : Row) (left right : Expr) (c : Comparison) → val row (Compare left c right) ≡ strict (operators.compare_values c) (val row left) (val row right)
-val_compare row left right c = ap (val row) (sym (rolls-Compare left c right)) ∙ fold-roll-Expr Outcome (at_operands row) (Expr-F.Compare left c right)
 
 val_column : (row : Row) (place : ℕ) → val row (Column place) ≡ Val (operators.column_of row place)
 val_column row place = ap (val row) (sym (rolls-Column place)) ∙ fold-roll-Expr Outcome (at_operands row) (Expr-F.Column place)
@@ -452,10 +354,6 @@ one_test_needed schema n of test old new added one = subst (AddsNeeded schema n 
     by_test c d false b not_met first second = not_met_first c d (first refl)
     by_test c d true b not_met first second = not_met_second c d (subst (λ (x : Bool). IsKnown d x) not_met second)
 
--- a condition that is no test
-pub no_test_needed : (schema : List Table) (n : ℕ) (of : TableRow → Condition) (tests : List NumberTest) → AddsNeeded schema n of tests tests
-no_test_needed schema n of tests = record { numbers = λ numbers. numbers; unmet = λ t typed own c known not_met. not_met_first c (of t) (known not_met) }
-
 -- two conditions, of which the AND is a condition
 pub two_added : (schema : List Table) (n : ℕ) (f g : TableRow → Condition) (old now new : List NumberTest) → AddsTests schema n f old now → AddsTests schema n g now new → AddsTests schema n (λ t. both (f t) (g t)) old new
 two_added schema n f g old now new first second = record {
@@ -488,11 +386,6 @@ known_again (condition.Known True) = refl
 known_again (condition.Known Unknown) = refl
 known_again condition.Faulted = refl
 
-pub at_comparison : (schema : List Table) (e left right : Expr) (c : Comparison) → e ≡ Compare left c right → (t : TableRow) → comparison_at schema left c right t ≡ condition_at schema e t
-at_comparison schema e left right c is t =
-    let row : Row = declared_row schema t in
-    ap condition_of (sym (ap (val row) is ∙ val_compare row left right c))
-
 val_between : (row : Row) (operand low high : Expr) → val row (Between operand low high) ≡ between (val row operand) (val row low) (val row high)
 val_between row operand low high = ap (val row) (sym (rolls-Between operand low high)) ∙ fold-roll-Expr Outcome (at_operands row) (Expr-F.Between operand low high)
 
@@ -521,12 +414,6 @@ fold_more row c es i e less is =
     ∙ ap (fold and_also c) (map-append (val row) (take i es) (e ∷ []))
     ∙ fold-append and_also c (map (val row) (take i es)) (val row e ∷ [])
 
-pub no_more_tests : (schema : List Table) (n : ℕ) (es : List Expr) (tests : List NumberTest) → AreMoreTests schema n (take 0 es) tests tests
-no_more_tests schema n es tests = record { judged = λ t typed own c known. known }
-
-pub none_of_more : (schema : List Table) (n : ℕ) (es : List Expr) (tests : List NumberTest) → AreSomeTests schema n (take 0 es) tests tests
-none_of_more schema n es tests = record { numbers = λ numbers. numbers; unmet = λ t typed own c known not_met. known not_met }
-
 pub one_more_added : (schema : List Table) (n : ℕ) (es : List Expr) (i : ℕ) (e : Expr) (old now new : List NumberTest) → i < length es → e ≡ get_or es i e
     → AreMoreTests schema n (take i es) old now → AddsTests schema n (condition_at schema e) now new → AreMoreTests schema n (take (i + 1) es) old new
 one_more_added schema n es i e old now new less is so one = record {
@@ -541,12 +428,6 @@ one_more_needed schema n es i e old now new less is so one = record {
   unmet = λ t typed own c known not_met.
       subst (λ (k : Condition). IsKnown k false) (sym (fold_more (declared_row schema t) c es i e less is)) (one.unmet t typed own (and_all schema c (take i es) t) (so.unmet t typed own c known) not_met);
 }
-
-pub all_more_tests : (schema : List Table) (n : ℕ) (es : List Expr) (i : ℕ) (old new : List NumberTest) → length es ≤ i → AreMoreTests schema n (take i es) old new → AreMoreTests schema n es old new
-all_more_tests schema n es i old new over so = subst (λ (l : List Expr). AreMoreTests schema n l old new) (take_all i es over) so
-
-pub all_of_more : (schema : List Table) (n : ℕ) (es : List Expr) (i : ℕ) (old new : List NumberTest) → length es ≤ i → AreSomeTests schema n (take i es) old new → AreSomeTests schema n es old new
-all_of_more schema n es i old new over so = subst (λ (l : List Expr). AreSomeTests schema n l old new) (take_all i es over) so
 
 -- ---- the tests of a condition
 

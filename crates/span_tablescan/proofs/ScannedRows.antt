@@ -2,13 +2,10 @@
 use Rattle.std.proofs.Common.{◌≡◌, ◌⊎◌, inl, inr, ◌∙◌, ℕ, zero, suc, ◌+◌, ◌==◌, Bool, true, false, cond, List, [], ◌∷◌, ◌++◌, length, map, Option, Some, None, Result, Ok, Err, refl, sym, ap, subst, arith, if◌then◌else◌}
 use Rattle.std.specs.Prelude.{filter}
 use Rattle.std.specs.List.{range_with_len, list_all}
-use Rattle.std.proofs.lemmas.Bool.{eqb-true, eq-eqb, and_parts}
+use Rattle.std.proofs.lemmas.Bool.{eqb-true, eq-eqb}
 use Rattle.std.proofs.lemmas.List.{append-nil}
 use Rattle.std.proofs.lemmas.List.FromFn.{length-map-range_with_len}
-use Rattle.span_value.specs.declared.value.Value.TheVariants.{Null, Int, Str, Bytes, Bool as Flag}
-use Rattle.span_value.specs.declared.truth.Truth.TheVariants.{False, True, Unknown}
 use Rattle.span_value.specs.declared.truth.Outcome.{Outcome}
-use Rattle.span_value.specs.declared.truth.Outcome.TheVariants as outcome
 use Rattle.span_schema.specs.declared.table.Table.{Table}
 use Rattle.span_schema.specs.Numbers.{other_kinds}
 use Rattle.span_rowcode.specs.Rows.{IsRow, row_code}
@@ -22,8 +19,6 @@ use Rattle.span_expr.specs.declared.cell.Failure.{Failure}
 use Rattle.span_expr.specs.declared.cell.Failure.TheVariants.{Fault, OutOfMemory}
 use Rattle.span_expr.specs.declared.expr.Expr.{Expr}
 use Rattle.span_expr.specs.declared.condition.Condition.TheVariants as condition
-use Rattle.span_expr.specs.Meaning.{val}
-use Rattle.span_expr.specs.Outcomes.{condition_of, truth_of}
 use Rattle.span_expr.specs.Places.{is_in, reads_only, moved, rank}
 use Rattle.span_expr.proofs.Places.{reads_only-wider}
 use Rattle.span_query.specs.Rows.{Row, OrFault, Rows, ◌>>=◌, value_of, is_true, append_results, keep_if, holds, filter_rows, filter_where}
@@ -33,9 +28,8 @@ use Rattle.span_rows.proofs.Gathering.{nil-append_results, one_adds, one_fails, 
 use Rattle.span_columns.specs.declared.leaf.Leaf.{Leaf}
 use Rattle.span_columns.specs.declared.leaf.LeafJoin.{LeafJoin}
 use Rattle.span_leaves.specs.Leaves.{width_of}
-use Rattle.span_leaves.specs.Maskable.{IsMaskable}
 use Rattle.span_columns.specs.Picks.{picked, picked_width, pick_rows}
-use Rattle.span_columns.specs.Reads.{has_place, reads_within, condition_reads, leaf_widths, leaf_on_reads, leaf_reads}
+use Rattle.span_columns.specs.Reads.{has_place, reads_within}
 use Rattle.span_leaves.specs.Results.{join_tables, leaf_rows}
 use Rattle.span_leaves.proofs.Picked.{Agrees, agrees, val-picked, pick_rows-append}
 use Rattle.span_rowreader.specs.Meaning.{declared_row, whole_table}
@@ -43,9 +37,9 @@ use Rattle.span_rowreader.specs.Entries.{key_row, AreNoRows, IsWhetherOf}
 use Rattle.span_tablescan.specs.Given.{picked_given, IsGivenOn}
 use Rattle.span_rowreader.specs.Longest.{IsLongest, AreLongest, HaveShortKeys}
 use Rattle.span_tablescan.specs.declared.number_test.NumberTest.{NumberTest}
-use Rattle.span_tablescan.specs.NumberTests.{meets, AreNeededFor, AreTestsOf, IsKnown, IsWhetherPass}
+use Rattle.span_tablescan.specs.NumberTests.{meets, IsWhetherPass}
 use Rattle.span_rowreader.specs.Readers.{ArePickedOf}
-use Rattle.span_tablescan.specs.Scans.{passes, kept_row, AreNeeded, AreTestsWhere, IsMaskOf, IsConditionAt, IsAdded, IsAddedWhere, IsTaken}
+use Rattle.span_tablescan.specs.Scans.{passes, kept_row, AreTestsWhere, IsMaskOf, IsConditionAt, IsAdded, IsAddedWhere, IsTaken}
 use Rattle.span_rowreader.proofs.DeclaredRows.{row_width}
 use Rattle.span_rowreader.proofs.TargetRows.{none_picked}
 use Rattle.span_tablescan.proofs.ShortKeys.{given_on_all, refused_of_all}
@@ -62,19 +56,6 @@ mask_between low high width e ms reads is = record {
   long = ap (length {A = Bool}) is ∙ length-map-range_with_len (is_in low high) 0 width;
   reads = ap (λ (l : List Bool). reads_within l e) is ∙ reads_only-wider (is_in low high) (has_place (map (is_in low high) (range_with_len 0 width))) e (λ k in_it. let same : 0 + k ≡ k = omega arith in has_in_range (is_in low high) 0 width k (ap (is_in low high) same ∙ in_it)) reads;
 }
-
--- the mask of a leaf of one table
-pub whole_mask : (schema : List Table) (leaf : Leaf) (n : ℕ) (e : Expr) → IsMaskable schema leaf → leaf.tables ≡ n ∷ [] → leaf.joins ≡ [] → leaf.filter ≡ Some e → IsMaskOf (width_of schema n) e leaf.reads
-whole_mask schema leaf n e is tables joins filter = record {
-  long = is.reads_len ∙ ap (λ (js : List LeafJoin). width_of schema is.first + leaf_widths js) joins ∙ ap (λ (k : ℕ). k + 0) (ap (width_of schema) (heads is.first n (sym is.tables ∙ tables))) ∙ plus_none (width_of schema n);
-  reads = (and_parts (list_all (leaf_on_reads (has_place leaf.reads)) leaf.joins) (condition_reads (has_place leaf.reads) (Some e)) (ap (λ (f : Option Expr). leaf_reads (has_place leaf.reads) leaf.joins f) (sym filter) ∙ is.own)).1;
-}
-  where
-    heads : (a b : ℕ) {xs ys : List ℕ} → a ∷ xs ≡ b ∷ ys → a ≡ b
-    heads a b same = cc
-
-    plus_none : (k : ℕ) → k + 0 ≡ k
-    plus_none k = omega arith
 
 -- ---- one entry
 
@@ -151,65 +132,8 @@ condition_gives schema n ms w at key row values found of read gives t typed own 
     ∙ ap (λ (o : Option Expr). passes o whole) (sym of.is) in
     subst (λ (o : OrFault Bool). Gives found o) same gives
 
--- whether a row passes, by its cells
-unknown_passes : (b : Bool) → IsKnown (condition.Known Unknown) b → Some false ≡ Some b
-unknown_passes true (inl is) = absurd (let bad : condition.Known Unknown ≡ condition.Known True = is in cc)
-unknown_passes true (inr null) = absurd (let bad : true ≡ false = null.1 in cc)
-unknown_passes false known = refl
-
-known_passes : (o : Outcome) (b : Bool) → IsKnown (condition_of o) b → (value_of o >>= (λ v. Some (is_true v))) ≡ Some b
-known_passes outcome.Fault b (inl is) = absurd (let bad : condition.Faulted ≡ condition.Known (truth_of (Flag b)) = is in cc)
-known_passes outcome.Fault b (inr null) = absurd (let bad : condition.Faulted ≡ condition.Known Unknown = null.0 in cc)
-known_passes (outcome.Val (Flag true)) true known = refl
-known_passes (outcome.Val (Flag true)) false (inl is) = absurd (let bad : condition.Known True ≡ condition.Known False = is in cc)
-known_passes (outcome.Val (Flag true)) false (inr null) = absurd (let bad : condition.Known True ≡ condition.Known Unknown = null.0 in cc)
-known_passes (outcome.Val (Flag false)) true (inl is) = absurd (let bad : condition.Known False ≡ condition.Known True = is in cc)
-known_passes (outcome.Val (Flag false)) true (inr null) = absurd (let bad : true ≡ false = null.1 in cc)
-known_passes (outcome.Val (Flag false)) false known = refl
-known_passes (outcome.Val Null) b known = unknown_passes b known
-known_passes (outcome.Val (Int i)) b known = unknown_passes b known
-known_passes (outcome.Val (Str cs)) b known = unknown_passes b known
-known_passes (outcome.Val (Bytes cs)) b known = unknown_passes b known
-
--- the tests that a condition is tell whether a row passes it
-pub tests_where : (schema : List Table) (n : ℕ) (w : Option Expr) (e : Expr) (tests : List NumberTest) → w ≡ Some e → AreTestsOf schema n e tests → AreTestsWhere schema n w tests
-tests_where schema n w e tests is of = record {
-  numbers = of.numbers;
-  judged = λ t typed own.
-      ap (λ (o : Option Expr). passes o (declared_row schema t)) is ∙ known_passes (val (declared_row schema t) e) (list_all (meets t.cells) tests) (of.judged t typed own);
-}
-
--- each row passes where there is no condition
-pub no_condition : (schema : List Table) (n : ℕ) (w : Option Expr) → w ≡ None → AreTestsWhere schema n w []
-no_condition schema n w none = record { numbers = tt {0}; judged = λ t typed own. ap (λ (o : Option Expr). passes o (declared_row schema t)) none }
-
--- where it is FALSE or NULL at rows that do not meet the tests, these are needed
-pub needed_where : (schema : List Table) (n : ℕ) (w : Option Expr) (e : Expr) (tests : List NumberTest) → w ≡ Some e → AreNeededFor schema n e tests → AreNeeded schema n w tests
-needed_where schema n w e tests is of = record {
-  numbers = of.numbers;
-  unmet = λ t typed own not_met.
-      ap (λ (o : Option Expr). passes o (declared_row schema t)) is ∙ known_passes (val (declared_row schema t) e) false (of.unmet t typed own not_met);
-}
-
-pub none_needed : (schema : List Table) (n : ℕ) (w : Option Expr) (tests : List NumberTest) → tests ≡ [] → AreNeeded schema n w tests
-none_needed schema n w tests is = subst (AreNeeded schema n w) (sym is) (record { numbers = tt {0}; unmet = λ t typed own not_met. absurd (let bad : true ≡ false = not_met in cc) })
-
 cells_fit : (schema : List Table) (n : ℕ) (t : TableRow) → IsTyped schema t → t.table ≡ n → IsRow (other_kinds schema n) t.cells
 cells_fit schema n t typed own = let P : ℕ → Type 0 = λ m. IsRow (other_kinds schema m) t.cells in subst P own typed.1
-
--- a row that does not meet them is not kept, whatever table it is of
-pub unmet_taken : (schema : List Table) (n : ℕ) (ms : List Bool) (w : Option Expr) (key row : List ℕ) (tests : List NumberTest) (rows : List Row) → AreNeeded schema n w tests
-    → IsWhetherPass (other_kinds schema n) row (λ cells. list_all (meets cells) tests) false → IsTaken schema n ms w key row (Ok tt) rows rows
-unmet_taken schema n ms w key row tests rows needed whether = record { of = λ t typed is cells. by_test t typed is cells (t.table == n) refl }
-  where
-    by_test : (t : TableRow) → IsTyped schema t → key ≡ code_of schema t → row ≡ row_code t.cells → (b : Bool) → (t.table == n) ≡ b → Adds (Ok tt) (kept_row schema n ms w t) rows rows
-    by_test t typed is cells true test =
-        let own : t.table ≡ n = eqb-true t.table n test in
-        let none : passes w (declared_row schema t) ≡ Some false = needed.unmet t typed own (sym (whether.of t.cells (cells_fit schema n t typed own) cells)) in
-        let kept : kept_row schema n ms w t ≡ Some [] = kept_own schema n ms w t true test ∙ ap (λ (o : OrFault Bool). o >>= (λ b. Some (keep_if (picked ms (declared_row schema t)) b))) none in
-        subst (λ (o : Rows). Adds (Ok tt) o rows rows) (sym kept) (ap (λ (l : List Row). Some l) (append-nil rows))
-    by_test t typed is cells false test =
-        subst (λ (o : Rows). Adds (Ok tt) o rows rows) (sym (kept_own schema n ms w t false test)) (ap (λ (l : List Row). Some l) (append-nil rows))
 
 -- a row of the table that meets them is kept, where they tell whether it passes
 pub met_added : (schema : List Table) (n : ℕ) (ms : List Bool) (w : Option Expr) (key row : List ℕ) (tests : List NumberTest) (old new : List Row) → AreTestsWhere schema n w tests

@@ -1,13 +1,10 @@
 -- How large a tree is: what falls as the binding goes down.
-use Rattle.std.proofs.Common.{◌≡◌, ℕ, zero, suc, ◌+◌, ◌<◌, List, [], ◌∷◌, length, map, get_or, Option, Some, None, ap, sym, ◌∙◌, refl, arith}
-use Rattle.std.specs.Option.{option_map}
+use Rattle.std.proofs.Common.{◌≡◌, ℕ, zero, suc, ◌+◌, ◌<◌, List, [], ◌∷◌, length, map, get_or, Option, Some, None, ap, arith}
 use Rattle.span_trees.specs.declared.tree.Expr.{Expr}
-use Rattle.span_trees.specs.declared.tree.Arm.{Arm, fold-Arm}
-use Rattle.span_trees.specs.declared.tree.Link.{Link, fold-Link}
-use Rattle.span_trees.specs.declared.tree.Expr.TheVariants as e
-use Rattle.span_trees.specs.declared.tree.Expr.TheVariants.{rolls-Chain, rolls-Case}
+use Rattle.span_trees.specs.declared.tree.Arm.{Arm}
+use Rattle.span_trees.specs.declared.tree.Link.{Link}
 use Rattle.span_trees.specs.declared.tree.Expr.TheOpen.{Expr-F, Arm-F, Link-F}
-use Rattle.span_trees.specs.declared.tree.Expr.TheFolds.{fold-Expr, fold-roll-Expr, fold_out-Arm, fold_out-Link}
+use Rattle.span_trees.specs.declared.tree.Expr.TheFolds.{fold-Expr}
 
 -- more than each is
 abbrev pub all_sizes : List ℕ → ℕ
@@ -47,29 +44,6 @@ arm_size a = (size a.condition + size a.value) + 1
 
 abbrev pub link_size : Link → ℕ
 link_size l = size l.operand + 1
-
-pub link_is : (l : Link) → fold-Link ℕ ℕ ℕ layer arm_at link_at l ≡ link_size l
-link_is l = fold_out-Link ℕ ℕ ℕ layer arm_at link_at l
-
-pub arm_is : (a : Arm) → fold-Arm ℕ ℕ ℕ layer arm_at link_at a ≡ arm_size a
-arm_is a = fold_out-Arm ℕ ℕ ℕ layer arm_at link_at a
-
-pub links_are : (ls : List Link) → map (fold-Link ℕ ℕ ℕ layer arm_at link_at) ls ≡ map link_size ls
-links_are [] = refl
-links_are (l ∷ ls) = ap (λ (n : ℕ). n ∷ map (fold-Link ℕ ℕ ℕ layer arm_at link_at) ls) (link_is l) ∙ ap (λ (ns : List ℕ). link_size l ∷ ns) (links_are ls)
-
-pub arms_are : (arms : List Arm) → map (fold-Arm ℕ ℕ ℕ layer arm_at link_at) arms ≡ map arm_size arms
-arms_are [] = refl
-arms_are (a ∷ arms) = ap (λ (n : ℕ). n ∷ map (fold-Arm ℕ ℕ ℕ layer arm_at link_at) arms) (arm_is a) ∙ ap (λ (ns : List ℕ). arm_size a ∷ ns) (arms_are arms)
-
-pub chain_size : (a : Expr) (ls : List Link) → size (e.Chain a ls) ≡ (size a + all_sizes (map link_size ls)) + 3
-chain_size a ls = ap size (sym (rolls-Chain a ls)) ∙ (fold-roll-Expr ℕ ℕ ℕ layer arm_at link_at (Expr-F.Chain a ls) ∙ ap (λ (ns : List ℕ). (size a + all_sizes ns) + 3) (links_are ls))
-
-pub case_size : (a : Option Expr) (arms : List Arm) (other : Option Expr) → size (e.Case a arms other) ≡ ((or_zero (option_map size a) + all_sizes (map arm_size arms)) + or_zero (option_map size other)) + 3
-case_size None arms None = ap size (sym (rolls-Case None arms None)) ∙ (fold-roll-Expr ℕ ℕ ℕ layer arm_at link_at (Expr-F.Case None arms None) ∙ ap (λ (ns : List ℕ). ((0 + all_sizes ns) + 0) + 3) (arms_are arms))
-case_size (Some a) arms None = ap size (sym (rolls-Case (Some a) arms None)) ∙ (fold-roll-Expr ℕ ℕ ℕ layer arm_at link_at (Expr-F.Case (Some a) arms None) ∙ ap (λ (ns : List ℕ). ((size a + all_sizes ns) + 0) + 3) (arms_are arms))
-case_size None arms (Some b) = ap size (sym (rolls-Case None arms (Some b))) ∙ (fold-roll-Expr ℕ ℕ ℕ layer arm_at link_at (Expr-F.Case None arms (Some b)) ∙ ap (λ (ns : List ℕ). ((0 + all_sizes ns) + size b) + 3) (arms_are arms))
-case_size (Some a) arms (Some b) = ap size (sym (rolls-Case (Some a) arms (Some b))) ∙ (fold-roll-Expr ℕ ℕ ℕ layer arm_at link_at (Expr-F.Case (Some a) arms (Some b)) ∙ ap (λ (ns : List ℕ). ((size a + all_sizes ns) + size b) + 3) (arms_are arms))
 
 -- an item is smaller than the list
 pub smaller_at : {T : Type 0} (f : T → ℕ) (ts : List T) (k : ℕ) (t : T) → k < length ts → t ≡ get_or ts k t → f t < all_sizes (map f ts)

@@ -86,9 +86,6 @@ half_last xs h = ap unescaped (sym (append_nil xs)) ∙ half_clean xs [] h ∙ a
 abbrev pub IsHalvedFrom : List ℕ → List ℕ → List ℕ → Type 0
 IsHalvedFrom text out rest = option_map (λ w. out ++ w) (unescaped rest) ≡ unescaped text
 
-pub half_begin : (text : List ℕ) → IsHalvedFrom text [] text
-half_begin text = put_nil (unescaped text)
-
 pub half_step : (text out front tail rest : List ℕ) → IsHalvedFrom text out rest → rest ≡ front ++ (92 ∷ 92 ∷ tail) → IsClean front → IsHalvedFrom text ((out ++ front) ++ (92 ∷ [])) tail
 half_step text out front tail rest h e clean =
     sym (put_put (out ++ front) (92 ∷ []) (unescaped tail)) ∙ sym (put_put out front (put (92 ∷ []) (unescaped tail)))
@@ -184,9 +181,6 @@ unhexed_one h = refl
 
 abbrev pub IsUnhexedFrom : List ℕ → List ℕ → List ℕ → Type 0
 IsUnhexedFrom digits out rest = option_map (λ w. out ++ w) (decoded_hex rest) ≡ decoded_hex digits
-
-pub unhexed_begin : (digits : List ℕ) → IsUnhexedFrom digits [] digits
-unhexed_begin digits = put_nil (decoded_hex digits)
 
 byte_some : (high low : ℕ) (o : Option (List ℕ)) → byte_of (Some high) (Some low) o ≡ put ((high * 16 + low) ∷ []) o
 byte_some high low None = refl

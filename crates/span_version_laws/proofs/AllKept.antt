@@ -1,9 +1,8 @@
 -- The shards of all slots.
-use Rattle.std.proofs.Common.{◌≡◌, ◌≢◌, ℕ, zero, suc, ◌<◌, true, false, List, [], ◌∷◌, ◌++◌, length, Some, Result, refl, ap, sym, ◌∙◌, subst, inl, inr, ◌⊎◌, arith}
+use Rattle.std.proofs.Common.{◌≡◌, ◌≢◌, ℕ, zero, suc, true, false, List, [], ◌∷◌, ◌++◌, length, Some, Result, refl, ap, sym, ◌∙◌, subst, inl, inr, ◌⊎◌}
 use Rattle.std.specs.Prelude.{slice_get, slice_set}
 use Rattle.std.specs.List.{list_any}
 use Rattle.std.proofs.lemmas.List.{length-set}
-use Rattle.std.proofs.lemmas.Option.{slice_get_within}
 use Rattle.span_value.specs.declared.refusal.Refusal.{Refusal}
 use Rattle.span_schema.specs.declared.table.Table.{Table}
 use Rattle.span_schema.specs.Lineages.{MeetsRules}
@@ -30,17 +29,6 @@ start_all_kept schema = record { count = refl; each = λ slot cs here. by_place 
     by_place : (slot : ℕ) (cs : List KeyVersions) → slice_get ([] ∷ []) slot ≡ Some cs → AreKept schema start slot cs
     by_place zero cs here = subst (AreKept schema start 0) (some_same [] cs here) (start_kept schema)
     by_place (suc slot) cs here = absurd (cc)
-
--- the shard of a slot in use
-pub shard_of : (schema : List Table) (m : Machine) (shards : List (List KeyVersions)) → AreAllKept schema m shards → (slot : ℕ) (slot_state : SlotState) → slice_get m.slots slot ≡ Some slot_state → (cs : List KeyVersions) × (slice_get shards slot ≡ Some cs) × AreKept schema m slot cs
-shard_of schema m shards all slot slot_state here =
-    let there = get_within shards slot (subst (λ (n : ℕ). slot < n) (sym all.count) (slice_get_within m.slots slot slot_state here)) in
-    (there.0, there.1, all.each slot there.0 there.1)
-  where
-    get_within : {A : Type 0} (xs : List A) (i : ℕ) → i < length xs → (x : A) × (slice_get xs i ≡ Some x)
-    get_within [] i low = absurd (let bad : i < 0 = low in omega arith)
-    get_within (x ∷ xs) zero low = (x, refl)
-    get_within (x ∷ xs) (suc i) low = get_within xs i (omega arith)
 
 -- ---- steps that touch no shard
 

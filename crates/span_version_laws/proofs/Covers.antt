@@ -1,5 +1,5 @@
 -- The pieces of open queries: what is read of them stays right, and together they are the tables.
-use Rattle.std.proofs.Common.{◌≡◌, ◌≤◌, ℕ, zero, suc, Bool, true, false, cond, List, [], ◌∷◌, ◌++◌, length, Option, Some, Result, Ok, refl, ap, sym, ◌∙◌, subst}
+use Rattle.std.proofs.Common.{◌≡◌, ◌≤◌, ℕ, zero, suc, Bool, true, false, cond, List, [], ◌∷◌, ◌++◌, Option, Some, Result, Ok, refl, ap, sym, ◌∙◌, subst}
 use Rattle.std.specs.Prelude.{find, filter, map, insert, option_map, slice_get, slice_set}
 use Rattle.std.specs.List.{AllByRecursion, list_all}
 use Rattle.span_value.specs.declared.refusal.Refusal.{Refusal}
@@ -77,21 +77,6 @@ changed_first-queries test change alter same (p ∷ ps) =
       | true ↦ ap (λ q. q ∷ queries_of ps) (sym (same p))
       | false ↦ ap (λ l. p.query ∷ l) (changed_first-queries test change alter same ps)
     ]
-
-pub without_first-queries : (test : OpenQuery → Bool) (ps : List Pieced) → without_first test (queries_of ps) ≡ queries_of (without_first (λ p. test p.query) ps)
-without_first-queries test [] = refl
-without_first-queries test (p ∷ ps) = elim (test p.query) as (λ b. cond b (queries_of ps) (p.query ∷ without_first test (queries_of ps)) ≡ queries_of (cond b ps (p ∷ without_first (λ p. test p.query) ps))) [
-  | true ↦ refl
-  | false ↦ ap (λ l. p.query ∷ l) (without_first-queries test ps)
-]
-
-pub push-queries : (ps : List Pieced) (p : Pieced) → queries_of (ps ++ p ∷ []) ≡ queries_of ps ++ p.query ∷ []
-push-queries [] p = refl
-push-queries (q ∷ ps) p = ap (λ l. q.query ∷ l) (push-queries ps p)
-
-pub length-queries : (ps : List Pieced) → length (queries_of ps) ≡ length ps
-length-queries [] = refl
-length-queries (p ∷ ps) = ap suc (length-queries ps)
 
 -- the query of the piece that is found
 pub found_query : (number : ℕ) (ps : List Pieced) (p : Pieced) → find (λ x. is_query number x.query) ps ≡ Some p → find (is_query number) (queries_of ps) ≡ Some p.query
@@ -192,9 +177,6 @@ module _ (schema : List Table) (rules : MeetsRules schema) (log : List Commit) (
 
 pub no_pieces : (schema : List Table) (m : Machine) → ArePieced schema m []
 no_pieces schema m = tt
-
-pub pieced_same : (schema : List Table) (m n : Machine) (ps : List Pieced) → n.log ≡ m.log → ArePieced schema m ps → ArePieced schema n ps
-pieced_same schema m n ps e pieced = subst (λ l. AllByRecursion (IsPieced schema l) ps) (sym e) pieced
 
 -- a query that is just opened
 pub pieced_push : (schema : List Table) (m : Machine) (ps : List Pieced) (number s : ℕ) (text : List ℕ) (params : List Parameter) (q : Statement) → IsPlannable schema q → ArePieced schema m ps → ArePieced schema m (ps ++ unread schema number s text params q ∷ [])

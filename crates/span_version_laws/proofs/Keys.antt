@@ -123,10 +123,6 @@ prepared_at-with_writes txn (w ∷ ws) cs key up =
 
 -- ---- writes applied
 
-applied_key : (p : Option PreparedWrite) (txn : ℕ) (committed : Option ℕ) (c : KeyVersions) → (applied_write p txn committed c).key ≡ c.key
-applied_key None txn committed c = refl
-applied_key (Some w) txn committed c = elim (w.txn == txn) as (λ b. (cond b (record c { versions = with_version committed w.row c.versions; prepared = None }) c).key ≡ c.key) [ true ↦ refl | false ↦ refl ]
-
 -- a change of each key that leaves the key itself
 abbrev LeavesKey : (KeyVersions → KeyVersions) → Type 0
 LeavesKey change = (c : KeyVersions) → (change c).key ≡ c.key

@@ -46,10 +46,6 @@ pub all_each : {A : Type 0} (P : A → Type 0) (xs : List A) → ((x : A) → Is
 all_each P [] each = tt
 all_each P (x ∷ xs) each = (each x (0, refl), all_each P xs (λ y is. each y (suc is.0, is.1)))
 
-all_front : {A : Type 0} (P : A → Type 0) (xs : List A) (x : A) → AllByRecursion P (xs ++ x ∷ []) → AllByRecursion P xs
-all_front P [] x all = tt
-all_front P (y ∷ ys) x all = (all.0, all_front P ys x all.1)
-
 all_last : {A : Type 0} (P : A → Type 0) (xs : List A) (x : A) → AllByRecursion P (xs ++ x ∷ []) → P x
 all_last P [] x all = all.0
 all_last P (y ∷ ys) x all = all_last P ys x all.1
@@ -68,9 +64,6 @@ all_upto s n (c ∷ cs) high under = ap (λ b. cond b (c ∷ filter (λ d. nat_l
 pub rising_front : (cs : List Commit) (c : Commit) → IsRising (cs ++ c ∷ []) → IsUnder c.timestamp cs
 rising_front [] c up = tt
 rising_front (d ∷ ds) c up = (all_last (λ (e : Commit). d.timestamp < e.timestamp) ds c up.0, rising_front ds c up.1)
-
-pub under_front : (n : ℕ) (cs : List Commit) (c : Commit) → IsUnder n (cs ++ c ∷ []) → IsUnder n cs
-under_front n cs c under = all_front (λ (d : Commit). d.timestamp < n) cs c under
 
 end_is_past : timestamp_end ≤ end_of_time
 end_is_past = omega arith

@@ -5,7 +5,6 @@ use Rattle.std.proofs.lemmas.List.{append-nil}
 use Rattle.std.proofs.lemmas.List.Elements.{filter-append}
 use Rattle.span_value.specs.declared.refusal.Refusal.{Refusal}
 use Rattle.span_value.specs.declared.refusal.Refusal.TheVariants as refusal
-use Rattle.span_truetime.specs.declared.bound.Bound.{Bound}
 use Rattle.span_truetime.specs.declared.interval.Interval.{Interval}
 use Rattle.span_truetime.specs.Limits.{timestamp_end}
 use Rattle.span_store.specs.declared.chain.Version.{Version}
@@ -19,7 +18,6 @@ use Rattle.span_query.specs.declared.query.Statement.{Statement}
 use Rattle.span_machine.specs.declared.slot.SlotState.{SlotState}
 use Rattle.span_machine.specs.declared.step.Step.{Step}
 use Rattle.span_machine.specs.declared.step.Step.TheVariants.{Begin, Prepare, Decide, Apply, Advance, Trim, Open, Scan, Finish, Close, Split}
-use Rattle.span_machine.specs.declared.step.Verdict.{Verdict}
 use Rattle.span_machine.specs.declared.transaction.Commit.{Commit}
 use Rattle.span_machine.specs.declared.transaction.OpenTransaction.{OpenTransaction}
 use Rattle.span_machine.specs.declared.transaction.Decision.{Decision}
@@ -27,9 +25,8 @@ use Rattle.span_machine.specs.declared.transaction.Decision.TheVariants as decis
 use Rattle.span_machine.specs.declared.transaction.Prepared.{Prepared}
 use Rattle.span_machine.specs.Slots.{root_code, slot_of}
 use Rattle.span_checking.specs.RootKeys.{root_key}
-use Rattle.span_params.specs.declared.params.Parameter.{Parameter}
 use Rattle.span_machine_laws.proofs.Splits.{part_below, part_from, split_other}
-use Rattle.span_machine.specs.Machine.{Machine, Answer, answer, start, first_slot, has_key, holds, begin, begun, prepare, prepared, add_prepared, prepare_timestamp, decide, apply_step, applied, applied_at, without_prepared, advance, trim, trimmed, with_horizon, open_query, scan, finish, close, split_in_two, is_transaction, is_undecided, is_prepared_at, is_all_prepared, is_prepared_for, commit_timestamp, commit_of, committed, aborted, with_decision, coordinator_slot, changed_first, without_first, refused}
+use Rattle.span_machine.specs.Machine.{Machine, Answer, answer, start, first_slot, has_key, holds, begun, prepare, prepared, add_prepared, prepare_timestamp, apply_step, applied, applied_at, without_prepared, trim, trimmed, with_horizon, split_in_two, is_transaction, is_undecided, is_prepared_at, is_all_prepared, is_prepared_for, commit_timestamp, commit_of, committed, aborted, with_decision, coordinator_slot, changed_first, without_first, refused}
 use Rattle.span_machine_laws.proofs.Causes.{may_commit, undecided_is}
 use Rattle.span_machine_laws.proofs.Tests.{second_true, both_of}
 use Rattle.span_machine_laws.proofs.Stability.{is_some_of}
@@ -284,28 +281,6 @@ module _ (schema : List Table) (m : Machine) (reached : IsReached schema m) {slo
   -- what is understood of a query text where there is none
   abbrev no_text : Result Statement Refusal
   no_text = Err refusal.Syntax
-
-  -- step by step
-  pub kept_begin : (owner : ℕ) (ms : List CheckedMutation) → AreKept schema (begin m owner ms).1 slot cs
-  kept_begin owner ms = kept_by_step no_text (Begin owner ms)
-
-  pub kept_decide : (owner txn : ℕ) (v : Verdict) (interval : Interval) → AreKept schema (decide schema m owner txn v interval).1 slot cs
-  kept_decide owner txn v interval = kept_by_step no_text (Decide owner txn v interval)
-
-  pub kept_advance : (i : ℕ) (interval : Interval) → AreKept schema (advance m i interval).1 slot cs
-  kept_advance i interval = kept_by_step no_text (Advance i interval)
-
-  pub kept_open : (u : Result Statement Refusal) (text : List ℕ) (params : List Parameter) (bound : Bound) (interval : Interval) → AreKept schema (open_query schema m u text params bound interval).1 slot cs
-  kept_open u text params bound interval = kept_by_step u (Open text params bound interval)
-
-  pub kept_scan : (query leaf i : ℕ) (interval : Interval) → AreKept schema (scan m query leaf i interval).1 slot cs
-  kept_scan query leaf i interval = kept_by_step no_text (Scan query leaf i interval)
-
-  pub kept_finish : (query : ℕ) → AreKept schema (finish schema m query).1 slot cs
-  kept_finish query = kept_by_step no_text (Finish query)
-
-  pub kept_close : (query : ℕ) → AreKept schema (close m query).1 slot cs
-  kept_close query = kept_by_step no_text (Close query)
 
   -- at another slot
   pub kept_prepare_elsewhere : (owner txn i : ℕ) → slot ≢ i → AreKept schema (prepare schema m owner txn i).1 slot cs
