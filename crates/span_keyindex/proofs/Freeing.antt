@@ -108,7 +108,7 @@ freed_cells a b cell unused keeps = record {
   same_length = length-set b.cells cell blank ∙ keeps.same_length;
 }
 
-pub arena_of_used : (es : List Entry) (a b : Content) → IsArenaOf es a → IsWithoutUnused a b → IsArenaOf (in_use a es) b
+pub arena_of_used : (es : List KeyEntry) (a b : Content) → IsArenaOf es a → IsWithoutUnused a b → IsArenaOf (in_use a es) b
 arena_of_used es a b own without = record { each = λ c. holders-filter (λ n. not (is_unused a n)) c es ∙ left (is_unused a c) (holders c es) (get_or a.chains c None) (own.each c) ∙ ap one_if_chain (sym (without.chains c)) }
   where
     left : (b : Bool) (n : ℕ) (o : Option (List ArenaVersion)) → n ≡ one_if_chain o → cond (not b) n 0 ≡ one_if_chain (cond b None o)

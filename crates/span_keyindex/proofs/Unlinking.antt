@@ -39,7 +39,7 @@ held_filter : (p : KeyEntry → Bool) (i : ℕ) (es : List KeyEntry) → holders
 held_filter p i [] = omega arith
 held_filter p i (e ∷ es) = omega (arith, held_head i (p e) e (filter p es), held_filter p i es)
 
-all_head : (P : Entry → Type 0) (b : Bool) (e : Entry) (es : List Entry) → P e → AllByRecursion P es → AllByRecursion P (cond b (e ∷ es) es)
+all_head : (P : KeyEntry → Type 0) (b : Bool) (e : KeyEntry) (es : List KeyEntry) → P e → AllByRecursion P es → AllByRecursion P (cond b (e ∷ es) es)
 all_head P true e es h k = (h, k)
 all_head P false e es h k = k
 

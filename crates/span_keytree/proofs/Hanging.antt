@@ -9,7 +9,7 @@ use Rattle.span_arena.specs.declared.cell.Links.{Links}
 use Rattle.span_arena.specs.Cells.{cell_at, new_cell}
 use Rattle.span_arena.specs.Content.{Content, IsNewChain, with_cells}
 use Rattle.span_arena.specs.Counts.{Count}
-use Rattle.span_keytree.specs.declared.join.Part.{Part}
+use Rattle.span_keytree.specs.declared.join.GrownPart.{GrownPart}
 use Rattle.span_keytree.specs.declared.tree.TreeRoot.{TreeRoot}
 use Rattle.span_keytree.specs.Avl.{grown_height}
 use Rattle.span_keytree.specs.Effects.{links_of, IsInside}

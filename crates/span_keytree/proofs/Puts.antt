@@ -12,7 +12,7 @@ use Rattle.span_keycode.specs.Order.{byte_order}
 use Rattle.span_arena.specs.declared.cell.Cell.{Cell}
 use Rattle.span_arena.specs.declared.cell.Balance.{Balance}
 use Rattle.span_arena.specs.declared.cell.Balance.TheVariants.{LeftHigh, Even, RightHigh}
-use Rattle.span_keytree.specs.declared.join.Part.{Part}
+use Rattle.span_keytree.specs.declared.join.GrownPart.{GrownPart}
 use Rattle.span_keytree.specs.Trees.{Tree, Fork, Grown, root_of, cell_of, IsInCells, one_at, count, joined_left, joined_right, placed, inserted, by_side, search_in}
 use Rattle.span_arena.specs.Cells.{cell_at}
 use Rattle.span_keytree.specs.Effects.{links_of}

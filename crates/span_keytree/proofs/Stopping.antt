@@ -153,7 +153,7 @@ levels_low f (suc n) (Some i) =
     let most = max-le (levels_low f n (f i).links.left) (levels_low f n (f i).links.right) in
     omega (arith, most)
 
-root_grew : (at : Option ℕ) (part : Part) → (with_root at part).grew ≡ part.grew
+root_grew : (at : Option ℕ) (part : GrownPart) → (with_root at part).grew ≡ part.grew
 root_grew None part = refl
 root_grew (Some root) part = refl
 
