@@ -24,7 +24,7 @@ record HasDeep (ms : Marks) : Type 0 where
   pub shallow : Shallow p
   pub over : most_openings < m.1
 
-pub first_deep : (ms : Marks) → Shallow ms ⊎ HasDeep ms
+first_deep : (ms : Marks) → Shallow ms ⊎ HasDeep ms
 first_deep [] = inl tt
 first_deep (n ∷ ms) =
     elim (cases_lt most_openings n.1) [

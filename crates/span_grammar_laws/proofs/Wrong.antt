@@ -17,7 +17,7 @@ use Rattle.span_grammar.proofs.Ending.{ends, inside_ends}
 use Rattle.span_grammar.proofs.Sound.{deeper_sound, words-append}
 use Rattle.span_grammar.proofs.Follow.{Meeting, rest_of, meets_with, deeper_reads, deeper_meets, shallow_left}
 use Rattle.span_grammar.proofs.Verdicts.{wide, good, goal_good, reads, reads_all, wrongs, wrongs_all, deeps, deeps_all}
-use Rattle.span_grammar.proofs.Whole.{length-words, first_deep, goes_along, shallow_at}
+use Rattle.span_grammar.proofs.Whole.{length-words, goes_along, shallow_at}
 use Rattle.span_grammar_laws.specs.Written.{written_inside}
 use Rattle.span_grammar_laws.specs.Laws.{written_rule, HasSomeTree}
 use Rattle.span_grammar_laws.proofs.Tagging.{tag, tags, tag_marks, tag_marks-append, tags-append, words-tag_marks, shallow-tag_marks, tags_by, Kind, Nothing_more, Other, Star_next, All_of_next, example, kind_of, opening_tag, untag, words-untag_marks, ArePlain, plain_left, untag_tags}
@@ -34,6 +34,17 @@ record HasDeep (ms : Marks) : Type 0 where
   pub parts : ms ≡ before ++ ((token, depth) ∷ after)
   pub shallow : Shallow before
   pub over : most_openings < depth
+
+first_deep : (ms : Marks) → Shallow ms ⊎ HasDeep ms
+first_deep [] = inl tt
+first_deep (n ∷ ms) =
+    elim (cases_lt most_openings n.1) [
+      | inl lt ↦ inr (record { before = []; token = n.0; depth = n.1; after = ms; parts = refl; shallow = tt; over = lt })
+      | inr le ↦ elim (first_deep ms) [
+        | inl s ↦ inl (le, s)
+        | inr h ↦ inr (record { before = n ∷ h.before; token = h.token; depth = h.depth; after = h.after; parts = ap (λ (w : Marks). n ∷ w) h.parts; shallow = (le, h.shallow); over = h.over })
+      ]
+    ]
 
 -- marks that begin with some tokens
 record Begins (ms : Marks) (prefix : List Lexeme) : Type 0 where
