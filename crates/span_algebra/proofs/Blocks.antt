@@ -14,19 +14,16 @@ use Rattle.span_sorting.specs.Columns.{AreColumns}
 use Rattle.span_sorting.proofs.TakenColumns.{project_columns}
 use Rattle.span_query.specs.Rows.{Row, Rows, OrFault, ◌>>=◌, filter_where, project_rows}
 use Rattle.span_query.specs.Groups.{groups, group_rows}
+use Rattle.span_query.proofs.Results.{bind-Some}
 use Rattle.span_algebra.specs.BlockMeaning.{GroupsTable, TakesDistinct, project_groups}
 use Rattle.span_algebra.specs.Sources.{HasSameValues}
-
-then_some : {A : Type 0} (o : OrFault A) → (o >>= (λ x. Some x)) ≡ o
-then_some (Some x) = refl
-then_some None = refl
 
 then_then : {A B C : Type 0} (o : OrFault A) (f : A → OrFault B) (g : B → OrFault C) → (o >>= (λ x. f x >>= g)) ≡ (o >>= f >>= g)
 then_then (Some x) f g = refl
 then_then None f g = refl
 
 pub without_groups : (filter : Option Expr) (outputs : List Expr) (rows : List Row) → (filter_where filter rows >>= group_rows None >>= project_rows outputs) ≡ (filter_where filter rows >>= project_rows outputs)
-without_groups filter outputs rows = ap (λ (o : Rows). o >>= project_rows outputs) (then_some (filter_where filter rows))
+without_groups filter outputs rows = ap (λ (o : Rows). o >>= project_rows outputs) (bind-Some (filter_where filter rows))
 
 pub with_groups : (filter : Option Expr) (g : Grouping) (outputs : List Expr) (rows : List Row) → (filter_where filter rows >>= group_rows (Some g) >>= project_rows outputs) ≡ (filter_where filter rows >>= groups g >>= filter_where g.having >>= project_rows outputs)
 with_groups filter g outputs rows = ap (λ (o : Rows). o >>= project_rows outputs) (then_then (filter_where filter rows) (groups g) (filter_where g.having))
@@ -41,7 +38,7 @@ table_grouped f tables b n g o h made =
     ∙ ap (λ (js : List (Join BoundQuery)). out (from tables (item.Table n) (map (map_join f) js)) b.filter b.grouping) h.joins
     ∙ ap (λ (w : Option Expr). out (tables n) w b.grouping) h.filter
     ∙ ap (λ (k : Option Grouping). out (tables n) None k) h.grouping
-    ∙ ap (λ (p : Rows). last (p >>= group_rows (Some g))) (then_some (tables n))
+    ∙ ap (λ (p : Rows). last (p >>= group_rows (Some g))) (bind-Some (tables n))
     ∙ ap last (then_then (tables n) (groups g) (filter_where g.having) ∙ ap (λ (p : Rows). p >>= filter_where g.having) made)
     ∙ after o
   where

@@ -2,12 +2,8 @@
 use Rattle.std.proofs.Common.{◌≡◌, Bool, true, false, List, [], ◌∷◌, Option, Some, None, if◌then◌else◌, refl, ap, sym, ◌∙◌}
 use Rattle.span_expr.specs.declared.expr.Expr.{Expr}
 use Rattle.span_query.specs.Rows.{Row, OrFault, ◌>>=◌, append_results, concat_map, keep_if, filter_where, filter_rows, holds, project_rows}
+use Rattle.span_query.proofs.Results.{append_results-none, nil-append_results}
 use Rattle.span_algebra.specs.Selecting.{project_row}
-use Rattle.span_rows.proofs.Gathering.{nil-append_results}
-
-append_results-none : {A : Type 0} (a : OrFault (List A)) → append_results a None ≡ None
-append_results-none (Some xs) = refl
-append_results-none None = refl
 
 -- to keep and then gather is to gather what is kept
 kept_first : {A B : Type 0} (f : A → OrFault (List B)) (b : OrFault Bool) (x : A) (xs : OrFault (List A)) → (append_results (b >>= (λ t. Some (keep_if x t))) xs >>= concat_map f) ≡ append_results (b >>= (λ t. if t then f x else Some [])) (xs >>= concat_map f)

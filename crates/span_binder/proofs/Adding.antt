@@ -6,6 +6,7 @@ use Rattle.span_value.specs.Results.{and_then}
 use Rattle.span_schema.specs.declared.table.Table.{Table}
 use Rattle.span_params.specs.declared.params.Parameter.{Parameter}
 use Rattle.span_operators.specs.Steps.{Gives}
+use Rattle.span_typing.proofs.Stepping.{not_ok}
 use Rattle.span_blocks.specs.declared.bound.BoundBlock.{BoundBlock}
 use Rattle.span_blocks.specs.declared.bound.BoundBlocks.{BoundBlocks}
 use Rattle.span_blocks.specs.declared.bound.FromItems.{FromItems}
@@ -17,11 +18,8 @@ use Rattle.span_binder.specs.Queries.{JoinStep, BlockStep, next_join, next_block
 abbrev pub paired : {A B : Type 0} → A → Result B Refusal → Result (A × B) Refusal
 paired before found = and_then found (λ after. Ok (before, after))
 
-ok_is : {A : Type 0} (x y : A) → (let o : Result A Refusal = Ok x in o) ≡ Ok y → x ≡ y
+pub ok_is : {A : Type 0} (x y : A) → (let o : Result A Refusal = Ok x in o) ≡ Ok y → x ≡ y
 ok_is x y h = cc
-
-not_ok : {A : Type 0} (why : Refusal) (y : A) → (let o : Result A Refusal = Err why in o) ≡ Ok y → ⊥
-not_ok why y h = absurd cc
 
 -- the leaves that were found are tables
 pub found_tables : {A B : Type 0} (schema : List Table) (before x : A) (found : Result (B × List ℕ) Refusal) (y : B × List ℕ) → paired before found ≡ Ok (x, y) → HasTables schema found → AreTables schema y.1

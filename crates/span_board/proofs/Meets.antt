@@ -4,6 +4,7 @@ use mathlib.Core.Option.{some, some-injective, some-ne-none}
 use lib.ListN.{get_elem?}
 use Rattle.atomic_table.specs.Table.{Me, Splits, Joins}
 use Rattle.atomic_table.proofs.Lists.{at_set, set_else}
+use Rattle.std.proofs.lemmas.Bool.{cond-true, cond-false}
 use Rattle.span_board.specs.declared.board.Role.{Role}
 use Rattle.span_board.specs.declared.board.Role.TheVariants.{Keeper, Holder, Client}
 use Rattle.span_board.specs.declared.board.Change.{Change}
@@ -11,7 +12,6 @@ use Rattle.span_machine.specs.declared.transaction.Commit.{Commit}
 use Rattle.span_shard.specs.KeyVersions.{KeyVersions}
 use Rattle.span_board.specs.Known.{Known}
 use Rattle.span_board.specs.Rule.{name_of, FitAll, first_of, others_of, number_of, versions_of, known_at, seen_of, mine_of}
-use Rattle.span_value.proofs.Choices.{if_true, if_false}
 use Rattle.span_board.proofs.Steps.{Holds, fit_again}
 
 -- a seat other than the changed one, or the changed one
@@ -28,10 +28,10 @@ abbrev moved : ℕ → ℕ → (ℕ → ℕ) → ℕ → ℕ
 moved name id seat k = if k == name then id else seat k
 
 moved_here : (name id : ℕ) (seat : ℕ → ℕ) → moved name id seat name ≡ id
-moved_here name id seat = if_true (name == name) id (seat name) (eq-eqb name name refl)
+moved_here name id seat = cond-true (name == name) id (seat name) (eq-eqb name name refl)
 
 moved_else : (name id : ℕ) (seat : ℕ → ℕ) (k : ℕ) → k ≢ name → moved name id seat k ≡ seat k
-moved_else name id seat k ne = if_false (k == name) id (seat k) (ne_eqb k name ne)
+moved_else name id seat k ne = cond-false (k == name) id (seat k) (ne_eqb k name ne)
 
 if_both : (b : Bool) (x y z : ℕ) → x ≡ z → y ≡ z → (if b then x else y) ≡ z
 if_both true x y z p q = p

@@ -2,7 +2,7 @@
 use Rattle.std.proofs.Common.{◌≡◌, ◌≢◌, ℕ, ◌==◌, Bool, true, false, List, [], ◌∷◌, ◌++◌, refl, sym, ap, ◌∙◌, if◌then◌else◌, ne_eqb, eq-eqb, append_assoc}
 use Rattle.std.proofs.lemmas.List.{append-nil}
 use mathlib.Core.List.{IsPrefix}
-use Rattle.span_value.proofs.Choices.{if_true, if_false}
+use Rattle.std.proofs.lemmas.Bool.{cond-true, cond-false}
 use Rattle.span_machine.specs.declared.transaction.Commit.{Commit}
 use Rattle.span_board.specs.Known.{owned}
 
@@ -15,10 +15,10 @@ owned_append o [] ys = refl
 owned_append o (x ∷ xs) ys = if_append (x.owner == o) x (owned o (xs ++ ys)) (owned o xs) (owned o ys) (owned_append o xs ys)
 
 pub owned_this : (o : ℕ) (xs : List Commit) (c : Commit) → c.owner ≡ o → owned o (xs ++ c ∷ []) ≡ owned o xs ++ c ∷ []
-owned_this o xs c e = owned_append o xs (c ∷ []) ∙ ap (λ l. owned o xs ++ l) (if_true (c.owner == o) (c ∷ []) [] (eq-eqb c.owner o e))
+owned_this o xs c e = owned_append o xs (c ∷ []) ∙ ap (λ l. owned o xs ++ l) (cond-true (c.owner == o) (c ∷ []) [] (eq-eqb c.owner o e))
 
 pub owned_other : (o : ℕ) (xs : List Commit) (c : Commit) → c.owner ≢ o → owned o (xs ++ c ∷ []) ≡ owned o xs
-owned_other o xs c ne = owned_append o xs (c ∷ []) ∙ (ap (λ l. owned o xs ++ l) (if_false (c.owner == o) (c ∷ []) [] (ne_eqb c.owner o ne)) ∙ append-nil (owned o xs))
+owned_other o xs c ne = owned_append o xs (c ∷ []) ∙ (ap (λ l. owned o xs ++ l) (cond-false (c.owner == o) (c ∷ []) [] (ne_eqb c.owner o ne)) ∙ append-nil (owned o xs))
 
 -- what follows a list without making it longer is nothing
 pub nothing_after : {A : Type 0} (xs ys : List A) → xs ++ ys ≡ xs → ys ≡ []

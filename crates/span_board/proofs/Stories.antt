@@ -5,9 +5,9 @@ use Rattle.std.proofs.lemmas.Option.{none-some, slice_get-get_or}
 use Rattle.std.proofs.lemmas.List.Quantifiers.{position-Some}
 use Rattle.span_value.specs.declared.refusal.Refusal.{Refusal}
 use mathlib.Core.List.{IsPrefix}
+use Rattle.std.proofs.lemmas.Bool.{eq-eqb, eqb-true}
 use Rattle.span_machine.specs.declared.transaction.Commit.{Commit}
 use Rattle.span_machine.proofs.Places.{none_by_position}
-use Rattle.span_machine_laws.proofs.Tests.{equal_number, number_same}
 use Rattle.span_board.specs.declared.begun.Begun.{Begun}
 use Rattle.span_board.specs.declared.board.Role.{Role}
 use Rattle.span_board.specs.declared.board.Role.TheVariants.{Client}
@@ -70,11 +70,11 @@ none_at test (y ∷ ys) (suc i) x none here passes = by (test y) none (λ e. non
 pub begun_there : (v : SessionHistory) (number : ℕ) (r : Option ℕ) → r ≡ position (λ (b : Begun). b.number == number) v.begun → MatchOption r (HasNotBegun v number) (IsBegunAt v number)
 begun_there v number None e = λ place at.
     let test : Begun → Bool = λ b. b.number == number in
-    none_at test v.begun place at.begun (none_by_position test v.begun (sym e)) at.there (equal_number at.begun.number number at.numbered)
+    none_at test v.begun place at.begun (none_by_position test v.begun (sym e)) at.there (eq-eqb at.begun.number number at.numbered)
 begun_there v number (Some at) e =
     let none : Begun = record { number = 0; mutations = [] } in
     let says = position-Some (λ (b : Begun). b.number == number) v.begun at none (sym e) in
-    record { begun = get_or v.begun at none; there = slice_get-get_or v.begun at none says.0; numbered = number_same (get_or v.begun at none).number number says.1 }
+    record { begun = get_or v.begun at none; there = slice_get-get_or v.begun at none says.0; numbered = eqb-true (get_or v.begun at none).number number says.1 }
 
 -- what was removed at a place is what was read there
 pub begun_same : (xs ys : List Begun) (place : ℕ) (b r : Begun) → ys ≡ xs → ((d : Begun) → b ≡ get_or ys place d) → r ≡ get_or xs place r → b ≡ r

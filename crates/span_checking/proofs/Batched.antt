@@ -8,6 +8,7 @@ use Rattle.std.proofs.lemmas.List.{append-nil}
 use Rattle.span_value.specs.Results.{first_cause}
 use Rattle.span_value.specs.declared.value.Value.{Value}
 use Rattle.span_value.specs.declared.refusal.Refusal.{Refusal}
+use Rattle.span_value.proofs.Results.{ok_same}
 use Rattle.span_schema.specs.declared.table.Table.{Table}
 use Rattle.span_schema.specs.declared.table.Column.{Column}
 use Rattle.span_schema.specs.Lineages.{MeetsRules}
@@ -165,9 +166,6 @@ module _ (tables : List Table) (rules : MeetsRules tables) (n : ℕ) (t : Table)
 
 -- ---- batches one after another
 
-of_ok : (x y : List CheckedMutation) (r : Result (List CheckedMutation) Refusal) → r ≡ Ok x → r ≡ Ok y → x ≡ y
-of_ok x y r e f = cc
-
 not_both : (x : List CheckedMutation) (why : Refusal) (r : Result (List CheckedMutation) Refusal) → r ≡ Ok x → r ≡ Err why → ⊥
 not_both x why r e f = cc
 
@@ -175,7 +173,7 @@ not_both x why r e f = cc
 pub front_batch : (tables : List Table) (ms rest : List Mutation) (front done : List CheckedMutation) → with_front front (checked_all tables ms) ≡ Ok done
     → with_front done (checked_all tables rest) ≡ with_front front (checked_all tables (ms ++ rest))
 front_batch tables [] rest front done e =
-    let same = of_ok (front ++ []) done (with_front front (checked_all tables [])) refl e in
+    let same = ok_same (with_front front (checked_all tables [])) (front ++ []) done refl e in
     ap (λ (l : List CheckedMutation). with_front l (checked_all tables rest)) (sym same ∙ append-nil front)
 front_batch tables (m ∷ ms) rest front done e = cases (checked tables m) refl (λ longer f. front_batch tables ms rest longer done f)
   where

@@ -9,7 +9,8 @@ use Rattle.span_schema.specs.Tables.{is_same_name}
 use Rattle.span_schema.specs.Lineages.{MeetsRules}
 use Rattle.span_schema.specs.Numbers.{IsTable, table_at, number_named, number_of}
 use Rattle.span_schema.proofs.Judged.{passes_at}
-use Rattle.span_checking.proofs.NamedKinds.{lower_same, none_placed}
+use Rattle.span_schema.proofs.Names.{lower_same}
+use Rattle.span_checking.proofs.NamedKinds.{none_placed}
 
 first_place : {X : Type 0} (p : X → Bool) (xs : List X) (i : ℕ) (x : X) → slice_get xs i ≡ Some x → p x ≡ true → AllByRecursion (λ y. p y ≡ false) (take i xs) → position_or_len p xs ≡ i
 first_place p [] i x at hit none = absurd (let f : None ≡ Some x = at in cc)

@@ -1,7 +1,7 @@
 -- Cells that name the columns outside the key in their order, and keys by the places of their columns.
 use Rattle.std.proofs.Common.{◌≡◌, ℕ, zero, suc, ◌+◌, ◌-◌, ◌<◌, ◌≤◌, ◌==◌, ◌≢◌, Bool, true, false, ◌&&◌, ◌||◌, not, cond, List, [], ◌∷◌, ◌++◌, Option, Some, None, is_none, is_some, length, drop, get_or, min, map, refl, sym, ap, subst, ◌∙◌, arith, append_assoc, length-append}
 use Rattle.std.specs.Prelude.{slice_get, bytes_eq}
-use Rattle.std.specs.List.{AllByRecursion, find, filter, cons_option, list_any}
+use Rattle.std.specs.List.{AllByRecursion, find, cons_option, list_any}
 use Rattle.std.specs.Option.{option_or, option_map}
 use Rattle.std.proofs.lemmas.Bool.{and_parts, or_parts, or_from, and_left, and_right}
 use Rattle.std.proofs.lemmas.Option.{slice_get-get_or}
@@ -11,6 +11,7 @@ use Rattle.span_value.specs.Results.{first_cause}
 use Rattle.span_value.specs.declared.value.Value.{Value}
 use Rattle.span_value.specs.declared.refusal.Refusal.{Refusal}
 use Rattle.span_value.specs.declared.refusal.Refusal.TheVariants.{NoColumn, NullNotAllowed}
+use Rattle.span_value.proofs.Lists.{all_filter, all_weaker}
 use Rattle.span_schema.specs.declared.table.Table.{Table}
 use Rattle.span_schema.specs.declared.table.Column.{Column}
 use Rattle.span_schema.specs.declared.table.KeyColumn.{KeyColumn}
@@ -20,6 +21,7 @@ use Rattle.span_schema.specs.Lineages.{MeetsRules}
 use Rattle.span_schema.specs.Numbers.{table_at, key_in, columns_in, key_places, other_places}
 use Rattle.span_schema.specs.Rules.{has_repeated_column, has_bad_column, has_unknown_key, has_repeated_key, has_bad_lengths}
 use Rattle.span_schema.proofs.Judged.{passes_at}
+use Rattle.span_schema.proofs.Names.{lower_same, not_other_way}
 use Rattle.span_mutate.specs.declared.mutation.NamedValue.{NamedValue}
 use Rattle.span_mutate.specs.declared.mutation.Mutation.{Mutation}
 use Rattle.span_mutate.specs.declared.mutation.MutationKind.{MutationKind}
@@ -27,8 +29,7 @@ use Rattle.span_checking.specs.Columns.{column_named, cell_column, key_breaks, i
 use Rattle.span_mutate.specs.Kinds.{is_delete, may_insert}
 use Rattle.span_checking.specs.Checking.{cell_causes, cells_cause, lack_causes}
 use Rattle.span_checking.specs.InOrder.{is_cell_of, are_cells_at, value_causes, are_in_order, values_cause, places_break}
-use Rattle.span_checking.proofs.NamedKinds.{IsNamedSelf, same_lower, lower_same, none_placed, names_apart, columns_differ}
-use Rattle.span_mutate.proofs.Runs.{all_map}
+use Rattle.span_checking.proofs.NamedKinds.{IsNamedSelf, none_placed, names_apart, columns_differ}
 use Rattle.span_checking.proofs.Taking.{find_first}
 
 -- ---- the columns at places
@@ -39,7 +40,7 @@ AreAt columns [] (c ∷ cs) = ⊥
 AreAt columns (p ∷ ps) [] = ⊥
 AreAt columns (p ∷ ps) (c ∷ cs) = (slice_get columns p ≡ Some c) × AreAt columns ps cs
 
-at_seam : {X : Type 0} (front rest : List X) (x : X) → slice_get (front ++ x ∷ rest) (length front) ≡ Some x
+pub at_seam : {X : Type 0} (front rest : List X) (x : X) → slice_get (front ++ x ∷ rest) (length front) ≡ Some x
 at_seam [] rest x = refl
 at_seam (f ∷ fs) rest x = at_seam fs rest x
 
@@ -80,29 +81,14 @@ abbrev pub Apart : List Column → Type 0
 Apart [] = Unit {0}
 Apart (c ∷ cs) = AllByRecursion (λ (d : Column). is_same_name c.name d.name ≡ false) cs × Apart cs
 
-other_way : (a b : List ℕ) → is_same_name a b ≡ false → is_same_name b a ≡ false
-other_way a b h = cases (is_same_name b a) refl
-  where
-    cases : (t : Bool) → is_same_name b a ≡ t → t ≡ false
-    cases true e = absurd (let f : true ≡ false = sym (lower_same a b (sym (same_lower b a e))) ∙ h in cc)
-    cases false e = refl
-
 pub apart_from : (cs : List Column) → has_repeated_column cs ≡ false → Apart cs
 apart_from [] h = tt
 apart_from (c ∷ cs) h =
     let parts = or_parts (is_some (column_place cs c.name)) (has_repeated_column cs) h in (
-      all_map (λ (d : Column). is_same_name d.name c.name ≡ false) (λ (d : Column). is_same_name c.name d.name ≡ false) (λ d e. other_way d.name c.name e) cs
+      all_weaker (λ (d : Column). is_same_name d.name c.name ≡ false) (λ (d : Column). is_same_name c.name d.name ≡ false) (λ d e. not_other_way d.name c.name e) cs
           (none_placed (λ (d : Column). is_same_name d.name c.name) cs parts.0),
       apart_from cs parts.1,
     )
-
-all_filter : {X : Type 0} (P : X → Type 0) (q : X → Bool) (xs : List X) → AllByRecursion P xs → AllByRecursion P (filter q xs)
-all_filter P q [] h = tt
-all_filter {X} P q (x ∷ xs) h = cases (q x) (all_filter P q xs h.1)
-  where
-    cases : (b : Bool) → AllByRecursion P (filter q xs) → AllByRecursion P (cond b (x ∷ filter q xs) (filter q xs))
-    cases true more = (h.0, more)
-    cases false more = more
 
 pub apart_others : (key : List KeyColumn) (cs : List Column) → Apart cs → Apart (other_columns key cs)
 apart_others key [] h = tt
@@ -185,7 +171,7 @@ all_named columns (p ∷ ps) (c ∷ cs) [] at e = absurd (let f : false ≡ true
 all_named columns (p ∷ ps) (c ∷ cs) (x ∷ xs) at e =
     let parts = heads columns p ps x xs c at.0 e in (
       ap (λ (b : Bool). b || is_named xs c.name) (same_self x.column c.name parts.name),
-      all_map (λ (d : Column). is_named xs d.name ≡ true) (λ (d : Column). is_named (x ∷ xs) d.name ≡ true) (λ d h. or_true (is_same_name x.column d.name) (is_named xs d.name) h) cs
+      all_weaker (λ (d : Column). is_named xs d.name ≡ true) (λ (d : Column). is_named (x ∷ xs) d.name ≡ true) (λ d h. or_true (is_same_name x.column d.name) (is_named xs d.name) h) cs
           (all_named columns ps cs xs at.1 parts.rest),
     )
   where

@@ -6,7 +6,6 @@ use Rattle.std.specs.List.{AllByRecursion, find, position, position_or_len}
 use Rattle.std.specs.Option.{option_or, option_map}
 use Rattle.std.specs.Str.{bytes_eq, str_to_ascii_lowercase}
 use Rattle.std.proofs.lemmas.Bool.Decides.{nat_tests}
-use Rattle.std.proofs.lemmas.Slice.Eq.{bytes_eq-Decides}
 use Rattle.span_value.specs.declared.value.Value.{Value}
 use Rattle.span_value.specs.declared.value.Kind.{Kind}
 use Rattle.span_value.specs.declared.refusal.Refusal.{Refusal}
@@ -29,8 +28,9 @@ use Rattle.span_mutate.specs.Kinds.{is_delete}
 use Rattle.span_checking.specs.Checking.{key_causes, cell_causes, cells_cause, lack_causes, mutation_cause}
 use Rattle.span_mutate.specs.Typed.{AreNamed, is_named_kind, are_named_kinds}
 use Rattle.span_mutate.proofs.Causes.{first_none, or_none, rest_none}
-use Rattle.span_mutate.proofs.Runs.{all_map}
 use Rattle.std.proofs.lemmas.Bool.{not-false, or_parts, and_from}
+use Rattle.span_value.proofs.Lists.{all_weaker, all_both}
+use Rattle.span_schema.proofs.Names.{same_lower, lower_same}
 
 -- ---- the test of kinds, one after another
 
@@ -54,18 +54,7 @@ named_fits_step (a ∷ ks) [] i k v h g f here below = absurd (let less : i < 0 
 named_fits_step (a ∷ ks) (b ∷ vs) zero k v h g f here below = (subst (λ (x : Option Value). IfSome x (Fits a)) f here, below)
 named_fits_step (a ∷ ks) (b ∷ vs) (suc i) k v h g f here below = named_fits_step ks vs i k v (omega arith) (omega arith) f here below
 
--- one more at the end
-pub all_push : {X : Type 0} (P : X → Type 0) (xs : List X) (x : X) → AllByRecursion P xs → P x → AllByRecursion P (xs ++ x ∷ [])
-all_push P [] x all here = (here, tt)
-all_push P (y ∷ ys) x all here = (all.0, all_push P ys x all.1 here)
-
 -- ---- names
-
-pub same_lower : (a b : List ℕ) → is_same_name a b ≡ true → str_to_ascii_lowercase a ≡ str_to_ascii_lowercase b
-same_lower a b e = (bytes_eq-Decides (str_to_ascii_lowercase a) (str_to_ascii_lowercase b)).0 e
-
-pub lower_same : (a b : List ℕ) → str_to_ascii_lowercase a ≡ str_to_ascii_lowercase b → is_same_name a b ≡ true
-lower_same a b e = (bytes_eq-Decides (str_to_ascii_lowercase a) (str_to_ascii_lowercase b)).1 e
 
 -- no item passes where none has a place
 none_passes : {X : Type 0} (p : X → Bool) (ys : List X) → length ys ≤ position_or_len p ys → AllByRecursion (λ x. p x ≡ false) ys
@@ -87,10 +76,6 @@ none_placed p xs h = none_passes p xs (below (position_or_len p xs) (length xs) 
         split true f g = absurd (let k : true ≡ false = g in cc)
         split false f g = grind (arith, nat_tests)
 
-all_both : {X : Type 0} (P Q : X → Type 0) (xs : List X) → AllByRecursion P xs → AllByRecursion Q xs → AllByRecursion (λ x. P x × Q x) xs
-all_both P Q [] h g = tt
-all_both P Q (x ∷ xs) h g = ((h.0, g.0), all_both P Q xs h.1 g.1)
-
 -- the column with the name of a column is that column
 abbrev pub IsNamedSelf : List Column → Column → Type 0
 IsNamedSelf columns c = column_named columns c.name ≡ Some c
@@ -101,7 +86,7 @@ names_apart (c ∷ cs) h =
     let parts = or_parts (is_some (column_place cs c.name)) (has_repeated_column cs) h in
     let apart = none_placed (λ (d : Column). is_same_name d.name c.name) cs parts.0 in (
       ap (λ (b : Bool). cond b (Some c) (column_named cs c.name)) (lower_same c.name c.name refl),
-      all_map (λ (d : Column). (is_same_name d.name c.name ≡ false) × IsNamedSelf cs d) (IsNamedSelf (c ∷ cs)) later cs
+      all_weaker (λ (d : Column). (is_same_name d.name c.name ≡ false) × IsNamedSelf cs d) (IsNamedSelf (c ∷ cs)) later cs
           (all_both (λ (d : Column). is_same_name d.name c.name ≡ false) (IsNamedSelf cs) cs apart (names_apart cs parts.1)),
     )
   where

@@ -3,14 +3,16 @@ use Rattle.std.proofs.Common.{◌≡◌, ◌≢◌, ℕ, zero, suc, ◌+◌, ◌
 use Rattle.std.specs.Prelude.{slice_get, position, IfSome}
 use Rattle.std.specs.List.{AllByRecursion, find, list_any, position_or_len}
 use Rattle.std.specs.Option.{option_map, option_or}
-use Rattle.std.proofs.lemmas.Bool.{and_parts, or_parts, or_from}
+use Rattle.std.proofs.lemmas.Bool.{and_parts, or_parts, or_from, not-true}
 use Rattle.std.proofs.lemmas.List.{drop_more}
 use Rattle.std.proofs.lemmas.List.Folds.{find_at}
 use Rattle.std.proofs.lemmas.List.Quantifiers.{position-Some}
+use Rattle.std.proofs.Math.Bool.{and-true, and-false}
 use Rattle.span_value.specs.Results.{first_cause}
 use Rattle.span_value.specs.declared.value.Value.{Value}
 use Rattle.span_value.specs.declared.refusal.Refusal.{Refusal}
 use Rattle.span_value.specs.declared.refusal.Refusal.TheVariants.{NoColumn}
+use Rattle.span_value.proofs.Lists.{all_weaker}
 use Rattle.span_schema.specs.declared.table.Table.{Table}
 use Rattle.span_schema.specs.declared.table.Column.{Column}
 use Rattle.span_schema.specs.declared.table.KeyColumn.{KeyColumn}
@@ -18,6 +20,7 @@ use Rattle.span_schema.specs.Tables.{is_same_name, is_key_name}
 use Rattle.span_schema.specs.Layouts as layout
 use Rattle.span_schema.specs.Lineages.{MeetsRules}
 use Rattle.span_schema.specs.Numbers.{table_at, key_in, columns_in, other_places, other_kinds}
+use Rattle.span_schema.proofs.Names.{same_lower, lower_same}
 use Rattle.span_mutate.specs.declared.mutation.NamedValue.{NamedValue}
 use Rattle.span_mutate.specs.declared.mutation.MutationKind.{MutationKind}
 use Rattle.span_mutate.specs.declared.batch.Heading.{Heading}
@@ -32,14 +35,9 @@ use Rattle.span_checking.specs.InOrder.{row_cause, value_causes}
 use Rattle.span_checking.specs.NamedBatches.{AreApart, IsNamed, are_new_names, has_name, is_left_out, is_new_name, lacks_value, name_of, place_named, value_at}
 use Rattle.span_mutate.specs.Typed.{are_named_kinds}
 use Rattle.span_checking.proofs.InOrder.{Apart, AreAt, apart_from, apart_others, named_more, other_places_of, others_at}
-use Rattle.span_mutate.proofs.Runs.{all_map}
-use Rattle.span_checking.proofs.NamedKinds.{columns_apart, lower_same, mutation_kinds, none_placed, same_lower}
+use Rattle.span_checking.proofs.NamedKinds.{columns_apart, mutation_kinds, none_placed}
 
 -- ---- names, each once
-
-not_true : (b : Bool) → not b ≡ true → b ≡ false
-not_true true e = absurd (let f : false ≡ true = e in cc)
-not_true false e = refl
 
 name_kept : (names : List (List ℕ)) (n m : List ℕ) → has_name (names ++ n ∷ []) m ≡ false → has_name names m ≡ false
 name_kept [] n m h = refl
@@ -60,7 +58,7 @@ new_parts : (t : Table) (before : List (List ℕ)) (n : List ℕ) (ns : List (Li
 new_parts t before n ns e =
     let parts = and_parts (is_new_name t before n) (are_new_names t (before ++ n ∷ []) ns) e in
     let here = and_parts (is_some (cell_column t n)) (not (has_name before n)) parts.0 in
-    record { there = here.0; fresh = not_true (has_name before n) here.1; rest = parts.1 }
+    record { there = here.0; fresh = not-true (has_name before n) here.1; rest = parts.1 }
 
 -- a name that is not that of a name has another name
 differs : (n m name : List ℕ) → is_same_name n name ≡ true → is_same_name n m ≡ false → is_same_name m name ≡ false
@@ -177,7 +175,7 @@ under_named t seen (n ∷ ns) (v ∷ vs) name e =
   where
     cases : (o : Option Value) (b : Bool) → is_same_name n name ≡ b → AllByRecursion (λ (m : List ℕ). is_same_name n m ≡ false) ns → value_under ns vs name ≡ value_named (named_cells vs ns) name
         → cond b o (value_under ns vs name) ≡ value_named (with_cell n o (named_cells vs ns)) name
-    cases None true e far again = sym (unnamed ns vs name (all_map (λ (m : List ℕ). is_same_name n m ≡ false) (λ (m : List ℕ). is_same_name m name ≡ false) (λ m f. differs n m name e f) ns far))
+    cases None true e far again = sym (unnamed ns vs name (all_weaker (λ (m : List ℕ). is_same_name n m ≡ false) (λ (m : List ℕ). is_same_name m name ≡ false) (λ m f. differs n m name e f) ns far))
     cases None false e far again = again
     cases (Some x) true e far again =
         sym (ap (λ (b : Bool). option_map (λ (y : NamedValue). y.value) (cond b (Some (record { column = n; value = x })) (find (λ (y : NamedValue). is_same_name y.column name) (named_cells vs ns)))) e)
@@ -222,14 +220,6 @@ lacks_there t names vs e (p ∷ ps) (c ∷ cs) at =
     ∙ ap (λ (b : Bool). (c.not_null && b) || rest) (none_named (named_cells vs names) c.name)
     ∙ ap (λ (b : Bool). (c.not_null && not (is_named (named_cells vs names) c.name)) || b) (lacks_there t names vs e ps cs at.1)
 
-and_true : (b : Bool) → (b && true) ≡ b
-and_true true = refl
-and_true false = refl
-
-and_false : (b : Bool) → (b && false) ≡ false
-and_false true = refl
-and_false false = refl
-
 lacks_outside : (key : List KeyColumn) (cells : List NamedValue) (cs : List Column) → list_any (λ (c : Column). c.not_null && not (is_named cells c.name)) (other_columns key cs) ≡ lacks_cell key cells cs
 lacks_outside key cells [] = refl
 lacks_outside key cells (c ∷ cs) = cases (is_key_name key c.name) (lacks_outside key cells cs)
@@ -237,10 +227,10 @@ lacks_outside key cells (c ∷ cs) = cases (is_key_name key c.name) (lacks_outsi
     cases : (b : Bool) → list_any (λ (d : Column). d.not_null && not (is_named cells d.name)) (other_columns key cs) ≡ lacks_cell key cells cs
         → list_any (λ (d : Column). d.not_null && not (is_named cells d.name)) (cond (not b) (c ∷ other_columns key cs) (other_columns key cs))
         ≡ ((c.not_null && not b && not (is_named cells c.name)) || list_any (is_lacking key cells) cs)
-    cases true again = again ∙ sym (ap (λ (b : Bool). (b && not (is_named cells c.name)) || list_any (is_lacking key cells) cs) (and_false c.not_null))
+    cases true again = again ∙ sym (ap (λ (b : Bool). (b && not (is_named cells c.name)) || list_any (is_lacking key cells) cs) (and-false c.not_null))
     cases false again =
         ap (λ (b : Bool). (c.not_null && not (is_named cells c.name)) || b) again
-        ∙ sym (ap (λ (b : Bool). (b && not (is_named cells c.name)) || list_any (is_lacking key cells) cs) (and_true c.not_null))
+        ∙ sym (ap (λ (b : Bool). (b && not (is_named cells c.name)) || list_any (is_lacking key cells) cs) (and-true c.not_null))
 
 -- ---- no two columns have one name
 

@@ -11,9 +11,10 @@ use Rattle.span_schema.specs.Tables.{is_same_name, is_key_name, column_place}
 use Rattle.span_schema.specs.Rules.{has_repeated_column}
 use Rattle.span_mutate.specs.declared.mutation.NamedValue.{NamedValue}
 use Rattle.span_checking.specs.Columns.{value_named, other_columns, values_named}
-use Rattle.span_checking.proofs.NamedKinds.{same_lower, lower_same, none_placed}
-use Rattle.span_mutate.proofs.Runs.{item_first}
+use Rattle.span_checking.proofs.NamedKinds.{none_placed}
 use Rattle.std.proofs.lemmas.Bool.{or_parts}
+use Rattle.span_value.proofs.Lists.{drop_read}
+use Rattle.span_schema.proofs.Names.{same_lower, lower_same}
 
 -- ---- what is found, once an item is taken out
 
@@ -78,7 +79,7 @@ other_names key left rest name same (d ∷ ds) h = cases (is_key_name key d.name
 
 pub once_more : (columns : List Column) (i : ℕ) (c : Column) → i < length columns → c ≡ get_or columns i c → has_repeated_column (drop i columns) ≡ false → has_repeated_column (drop (i + 1) columns) ≡ false
 once_more columns i c lt is once =
-    let here : has_repeated_column (c ∷ drop (i + 1) columns) ≡ false = subst (λ (l : List Column). has_repeated_column l ≡ false) (item_first columns i c lt is) once in
+    let here : has_repeated_column (c ∷ drop (i + 1) columns) ≡ false = subst (λ (l : List Column). has_repeated_column l ≡ false) (drop_read columns i c lt is) once in
     (or_parts (is_some (column_place (drop (i + 1) columns) c.name)) (has_repeated_column (drop (i + 1) columns)) here).1
 
 -- a column outside the key takes its value, and those after it find theirs
@@ -87,7 +88,7 @@ pub take_more : (key : List KeyColumn) (left rest : List NamedValue) (columns : 
     → ((other : List ℕ) → is_same_name other c.name ≡ false → value_named rest other ≡ value_named left other)
     → value_named left c.name ∷ values_named key rest (drop (i + 1) columns) ≡ values_named key left (drop i columns)
 take_more key left rest columns i c lt is once outside same =
-    let split = item_first columns i c lt is in
+    let split = drop_read columns i c lt is in
     let after = drop (i + 1) columns in
     let here : has_repeated_column (c ∷ after) ≡ false = subst (λ (l : List Column). has_repeated_column l ≡ false) split once in
     let apart = none_placed (λ (d : Column). is_same_name d.name c.name) after (or_parts (is_some (column_place after c.name)) (has_repeated_column after) here).0 in
@@ -101,7 +102,7 @@ take_more key left rest columns i c lt is once outside same =
 -- a column of the key takes none
 pub skip_more : (key : List KeyColumn) (left : List NamedValue) (columns : List Column) (i : ℕ) (c : Column) → i < length columns → c ≡ get_or columns i c → is_key_name key c.name ≡ true
     → values_named key left (drop (i + 1) columns) ≡ values_named key left (drop i columns)
-skip_more key left columns i c lt is inside = cases (drop (i + 1) columns) (is_key_name key c.name) inside ∙ ap (values_named key left) (sym (item_first columns i c lt is))
+skip_more key left columns i c lt is inside = cases (drop (i + 1) columns) (is_key_name key c.name) inside ∙ ap (values_named key left) (sym (drop_read columns i c lt is))
   where
     cases : (ds : List Column) (b : Bool) → b ≡ true → values_named key left ds ≡ map (λ (d : Column). value_named left d.name) (cond (not b) (c ∷ other_columns key ds) (other_columns key ds))
     cases ds true e = refl

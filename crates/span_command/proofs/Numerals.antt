@@ -1,17 +1,15 @@
 -- Numbers as the library reads them and as they are written: the same where no plus and no zero begins them.
 use Rattle.std.proofs.Common.{◌≡◌, ℕ, zero, suc, ◌^◌, ◌<◌, true, List, get_or, length, drop, Result, Ok, sym, ap, ◌∙◌, subst, arith, inl, inr}
 use Rattle.std.specs.Fmt.{decimal}
-use Rattle.std.specs.Str.Parse.{ParsesUnsigned, AllDigits, IsNumeral, digits_value, without_leading_plus}
-use Rattle.std.proofs.lemmas.Str.Parse.{IsNumeralModel, numerals_by_value, tells_digits, without_leading_plus_none, without_leading_plus_plus}
+use Rattle.std.specs.Str.Parse.{ParsesUnsigned, IsNumeral, digits_value, without_leading_plus}
+use Rattle.std.proofs.lemmas.Str.Parse.{without_leading_plus_none, without_leading_plus_plus}
 use Rattle.std.proofs.lemmas.Result.{OkIff-at_ok}
 use Rattle.std.proofs.lemmas.List.{length-drop}
 use Rattle.std.proofs.lemmas.Bool.{cases_eq}
 use Rattle.std.proofs.lemmas.Bool.Decides.{nat_tests}
 use Rattle.std.proofs.lemmas.Fmt.{decimal-digits_value, decimal_digit, first_decimal}
+use Rattle.span_value.proofs.IntCells.{model}
 use Rattle.span_command.specs.Words.{IsNumber, begins_plainly}
-
-model : IsNumeralModel (AllDigits 10) (digits_value 10)
-model = numerals_by_value (AllDigits 10) tells_digits
 
 no_plus : (bs : List ℕ) → begins_plainly bs ≡ true → get_or bs 0 0 ≡ 43 → length bs < 2
 no_plus bs e h = grind (arith, nat_tests)

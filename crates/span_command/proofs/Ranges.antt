@@ -1,18 +1,10 @@
 -- Parts of a buffer, and the LFs in them.
-use Rattle.std.proofs.Common.{◌≡◌, ◌∙◌, ℕ, zero, suc, ◌+◌, ◌-◌, ◌<◌, ◌≤◌, ◌==◌, List, [], ◌∷◌, ◌++◌, Contains, refl, sym, ap, subst, get_or, length, take, drop, slice_index, slice_range, arith, take-take, drop-drop, take-append-drop}
-use Rattle.std.proofs.lemmas.List.{drop-take, drop_more, get_or_default}
+use Rattle.std.proofs.Common.{◌≡◌, ◌∙◌, ℕ, zero, suc, ◌+◌, ◌-◌, ◌<◌, ◌≤◌, ◌==◌, List, [], ◌∷◌, ◌++◌, Contains, refl, sym, ap, subst, get_or, length, take, drop, slice_index, slice_range, arith, take-take, drop-drop, take-add}
+use Rattle.std.proofs.lemmas.List.{drop_more, get_or_default}
 use Rattle.std.proofs.lemmas.List.Edits.{length-between, get_or-between}
 use Rattle.std.proofs.lemmas.Slice.{between_is}
 use Rattle.memchr.specs.Find.{Nowhere, Passes, is_byte}
 use Rattle.span_command.specs.Texts.{HasNoLf}
-
--- two takes one after the other
-two_takes : (xs : List ℕ) (a b : ℕ) → take (a + b) xs ≡ take a xs ++ take b (drop a xs)
-two_takes xs a b =
-    let front : take a (take (a + b) xs) ≡ take a xs = take-take a (a + b) xs (omega arith) in
-    sym (take-append-drop a (take (a + b) xs))
-    ∙ ap (λ (w : List ℕ). w ++ drop a (take (a + b) xs)) front
-    ∙ ap (λ (w : List ℕ). take a xs ++ w) (drop-take a b xs)
 
 -- a part is cut at a place
 pub joined : (xs : List ℕ) (i k j : ℕ) → i ≤ k → k ≤ j → slice_range xs i j ≡ slice_range xs i k ++ slice_range xs k j
@@ -20,7 +12,7 @@ joined xs i k j p q =
     let long : j - i ≡ (k - i) + (j - k) = omega arith in
     let place : i + (k - i) ≡ k = omega arith in
     ap (λ (n : ℕ). take n (drop i xs)) long
-    ∙ two_takes (drop i xs) (k - i) (j - k)
+    ∙ take-add (k - i) (j - k) (drop i xs)
     ∙ ap (λ (w : List ℕ). take (k - i) (drop i xs) ++ take (j - k) w) (drop-drop (k - i) i xs ∙ ap (λ (n : ℕ). drop n xs) place)
 
 -- a part begins with its first byte

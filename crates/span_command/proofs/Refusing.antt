@@ -2,6 +2,7 @@
 use Rattle.std.proofs.Common.{◌≡◌, ◌≢◌, ℕ, zero, suc, ◌<◌, ◌==◌, ◌&&◌, ◌||◌, Bool, true, false, cond, nat_le, List, [], ◌∷◌, ◌++◌, length, Option, Some, None, refl, sym, ap, ◌∙◌, subst, arith, codes}
 use Rattle.std.specs.Fmt.{decimal}
 use Rattle.std.specs.List.{list_all}
+use Rattle.std.proofs.lemmas.Bool.{and_parts}
 use Rattle.span_lexer.specs.Characters.{begins, is_letter, is_digit, is_word}
 use Rattle.span_lexer.specs.Lexing.{longest_word}
 use Rattle.span_truetime.specs.declared.bound.Bound.{Bound}
@@ -101,25 +102,17 @@ word_byte : (b : ℕ) → is_word b ≡ true → b ≢ 32
 unfolding is_word is_letter is_digit
 word_byte b e same = let f : is_word 32 ≡ true = subst (λ n. is_word n ≡ true) same e in cc f
 
-first_of : (a b : Bool) → (a && b) ≡ true → a ≡ true
-first_of true b e = refl
-first_of false b e = absurd (cc e)
-
-second_of : (a b : Bool) → (a && b) ≡ true → b ≡ true
-second_of true b e = e
-second_of false b e = absurd (cc e)
-
 word_bytes : (w : List ℕ) → list_all is_word w ≡ true → HasNoSpace w
 word_bytes [] all i l same = absurd (omega arith)
-word_bytes (b ∷ w) all zero l same = word_byte b (first_of (is_word b) (list_all is_word w) all) same
-word_bytes (b ∷ w) all (suc i) l same = word_bytes w (second_of (is_word b) (list_all is_word w) all) i (omega arith) same
+word_bytes (b ∷ w) all zero l same = word_byte b ((and_parts (is_word b) (list_all is_word w) all).0) same
+word_bytes (b ∷ w) all (suc i) l same = word_bytes w ((and_parts (is_word b) (list_all is_word w) all).1) i (omega arith) same
 
 name_word : (w : List ℕ) → is_name_text w ≡ true → IsWord w
 name_word w e =
-    let short : (begins is_letter w && nat_le (length w) longest_word && list_all is_word w) ≡ true = first_of _ _ e in
-    let letter : (begins is_letter w && nat_le (length w) longest_word) ≡ true = first_of _ (list_all is_word w) short in
-    let begun : begins is_letter w ≡ true = first_of _ (nat_le (length w) longest_word) letter in
-    ((λ none. absurd (cc (ap (begins is_letter) none, begun))), word_bytes w (second_of (begins is_letter w && nat_le (length w) longest_word) _ short))
+    let short : (begins is_letter w && nat_le (length w) longest_word && list_all is_word w) ≡ true = (and_parts _ _ e).0 in
+    let letter : (begins is_letter w && nat_le (length w) longest_word) ≡ true = (and_parts _ (list_all is_word w) short).0 in
+    let begun : begins is_letter w ≡ true = (and_parts _ (nat_le (length w) longest_word) letter).0 in
+    ((λ none. absurd (cc (ap (begins is_letter) none, begun))), word_bytes w ((and_parts (begins is_letter w && nat_le (length w) longest_word) _ short).1))
 
 -- ---- words that are not split
 

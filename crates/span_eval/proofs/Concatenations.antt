@@ -1,11 +1,11 @@
 -- Memory runs out in an operand that has a `||`, or at a `||`.
-use Rattle.std.proofs.Common.{◌≡◌, refl, ap, ◌∙◌, sym, List, [], ◌∷◌, ℕ, zero, suc, ◌<◌, ◌+◌, map, drop, length, get_or, arith, Bool, true, false, ◌||◌, Option, Some, None}
+use Rattle.std.proofs.Common.{◌≡◌, refl, ap, ◌∙◌, sym, List, [], ◌∷◌, ℕ, zero, suc, ◌<◌, ◌+◌, map, drop, length, get_or, Bool, true, false, ◌||◌, Option, Some, None}
 use Rattle.std.specs.List.{fold, list_any}
 use Rattle.std.specs.Option.{option_map}
-use Rattle.std.proofs.Math.Seq.{drop-cons}
 use Rattle.std.proofs.lemmas.Bool.{or_left, or_right}
 use Rattle.span_value.specs.declared.value.Value.{Value}
 use Rattle.span_value.specs.declared.truth.Outcome.{Outcome}
+use Rattle.span_value.proofs.Lists.{list_any-map, drop_read}
 use Rattle.span_expr.specs.declared.expr.Comparison.{Comparison}
 use Rattle.span_expr.specs.declared.expr.Expr.{Expr}
 use Rattle.span_expr.specs.declared.expr.Expr.TheVariants as e
@@ -32,22 +32,15 @@ by_three whole p q o r s t u is apart one two three ran = by_two whole (p || q) 
 
 -- ---- one of a list
 
-at_item : {X : Type 0} (xs : List X) (i : ℕ) (x : X) → i < length xs → x ≡ get_or xs i x → drop i xs ≡ x ∷ drop (i + 1) xs
-at_item xs i x below is = drop-cons xs i x below ∙ ap (λ y. y ∷ drop (suc i) xs) (sym is) ∙ ap (λ (n : ℕ). x ∷ drop n xs) {x = suc i} {y = i + 1} (omega arith)
-
 any_after : {X : Type 0} (p : X → Bool) (xs : List X) (i : ℕ) → list_any p (drop i xs) ≡ true → list_any p xs ≡ true
 any_after p [] zero is = is
 any_after p [] (suc i) is = is
 any_after p (x ∷ xs) zero is = is
 any_after p (x ∷ xs) (suc i) is = or_right (p x) (list_any p xs) (any_after p xs i is)
 
-any_map : {X Y : Type 0} (p : Y → Bool) (f : X → Y) (xs : List X) → list_any p (map f xs) ≡ list_any (λ x. p (f x)) xs
-any_map p f [] = refl
-any_map p f (x ∷ xs) = ap (λ (b : Bool). p (f x) || b) (any_map p f xs)
-
 any_at : {X Y : Type 0} (p : Y → Bool) (f : X → Y) (xs : List X) (i : ℕ) (x : X) → i < length xs → x ≡ get_or xs i x → p (f x) ≡ true → list_any p (map f xs) ≡ true
 any_at p f xs i x below is holds =
-    any_map p f xs ∙ any_after (λ y. p (f y)) xs i (ap (list_any (λ y. p (f y))) (at_item xs i x below is) ∙ or_left (p (f x)) (list_any (λ y. p (f y)) (drop (i + 1) xs)) holds)
+    list_any-map p f xs ∙ any_after (λ y. p (f y)) xs i (ap (list_any (λ y. p (f y))) (drop_read xs i x below is) ∙ or_left (p (f x)) (list_any (λ y. p (f y)) (drop (i + 1) xs)) holds)
 
 pub operand_has : (xs : List Expr) (i : ℕ) (x : Expr) → i < length xs → x ≡ get_or xs i x → has_concatenation x ≡ true → any_concatenation xs ≡ true
 operand_has xs i x below is has = any_at (λ b. b) has_concatenation xs i x below is has
@@ -120,4 +113,4 @@ match_has expr a x arms read otherwise is same also =
 
 pub folded_step : {S : Type 0} (f : S → Outcome → S) (row : List Value) (xs : List Expr) (i : ℕ) (x : Expr) (s : S) → i < length xs → x ≡ get_or xs i x
     → fold f s (map (val row) (drop i xs)) ≡ fold f (f s (val row x)) (map (val row) (drop (i + 1) xs))
-folded_step f row xs i x s below is = ap (λ (all : List Expr). fold f s (map (val row) all)) (at_item xs i x below is)
+folded_step f row xs i x s below is = ap (λ (all : List Expr). fold f s (map (val row) all)) (drop_read xs i x below is)

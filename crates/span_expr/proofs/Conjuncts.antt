@@ -3,6 +3,7 @@ use Rattle.std.proofs.Common.{◌≡◌, ◌∙◌, sym, ap, refl, subst, Bool, 
 use Rattle.std.specs.Prelude.{flat_map}
 use Rattle.std.specs.List.{fold, list_all, list_any}
 use Rattle.std.proofs.lemmas.List.Folds.{flat_map-map, list_all-append, list_any-append, list_all-map}
+use Rattle.std.proofs.Math.Bool.{and-true, or-false}
 use Rattle.span_value.specs.declared.value.Value.{Value}
 use Rattle.span_value.specs.declared.value.Value.TheVariants as value
 use Rattle.span_value.specs.declared.truth.Truth.TheVariants.{False, True, Unknown}
@@ -55,14 +56,6 @@ conjuncts-other y is =
 
 -- ---- tests that an AND passes where each operand does, or where one does
 
-and_true : (b : Bool) → b ≡ (b && true)
-and_true true = refl
-and_true false = refl
-
-or_false : (b : Bool) → b ≡ (b || false)
-or_false true = refl
-or_false false = refl
-
 -- a test that an AND passes where each of its operands does
 abbrev pub IsOfEach : (Expr → Bool) → Type 0
 IsOfEach test = (first : Expr) (more : List Expr) → test (roll-Expr (Expr-F.And first more)) ≡ (test first && list_all test more)
@@ -91,14 +84,14 @@ module _ (test : Expr → Bool) (each : IsOfEach test) where
       ∙ sym (ap (list_all test) (conjuncts-And first.0 others) ∙ list_all-append test (conjuncts first.0) (flat_map conjuncts others))
   layer_each y =
       let e : Expr-F Expr = map-Expr ((e : Expr) × OfEach e) Expr (λ e. e.0) y in
-      and_true (test (roll-Expr e)) ∙ sym (ap (list_all test) (conjuncts-other e refl))
+      sym (and-true (test (roll-Expr e))) ∙ sym (ap (list_all test) (conjuncts-other e refl))
 
   pub test-conjuncts_each : (e : Expr) → test e ≡ list_all test (conjuncts e)
   test-conjuncts_each = ind-Expr OfEach (λ x y is. subst (λ (z : Expr-F Expr). OfEach (roll-Expr z)) is (layer_each y))
 
   pub test-all_true_each : (es : List Expr) (e : Expr) → all_true es ≡ Some e → test e ≡ list_all test es
   test-all_true_each [] e is = absurd (let q : None ≡ Some e = is in cc)
-  test-all_true_each (a ∷ []) e is = let same : a ≡ e = cc in ap test (sym same) ∙ and_true (test a)
+  test-all_true_each (a ∷ []) e is = let same : a ≡ e = cc in ap test (sym same) ∙ sym (and-true (test a))
   test-all_true_each (a ∷ b ∷ more) e is = let same : roll-Expr (Expr-F.And a (b ∷ more)) ≡ e = cc in ap test (sym same) ∙ each a (b ∷ more)
 
 module _ (test : Expr → Bool) (one : IsOfOne test) where
@@ -121,14 +114,14 @@ module _ (test : Expr → Bool) (one : IsOfOne test) where
       ∙ sym (ap (list_any test) (conjuncts-And first.0 others) ∙ list_any-append test (conjuncts first.0) (flat_map conjuncts others))
   layer_one y =
       let e : Expr-F Expr = map-Expr ((e : Expr) × OfOne e) Expr (λ e. e.0) y in
-      or_false (test (roll-Expr e)) ∙ sym (ap (list_any test) (conjuncts-other e refl))
+      sym (or-false (test (roll-Expr e))) ∙ sym (ap (list_any test) (conjuncts-other e refl))
 
   pub test-conjuncts_one : (e : Expr) → test e ≡ list_any test (conjuncts e)
   test-conjuncts_one = ind-Expr OfOne (λ x y is. subst (λ (z : Expr-F Expr). OfOne (roll-Expr z)) is (layer_one y))
 
   pub test-all_true_one : (es : List Expr) (e : Expr) → all_true es ≡ Some e → test e ≡ list_any test es
   test-all_true_one [] e is = absurd (let q : None ≡ Some e = is in cc)
-  test-all_true_one (a ∷ []) e is = let same : a ≡ e = cc in ap test (sym same) ∙ or_false (test a)
+  test-all_true_one (a ∷ []) e is = let same : a ≡ e = cc in ap test (sym same) ∙ sym (or-false (test a))
   test-all_true_one (a ∷ b ∷ more) e is = let same : roll-Expr (Expr-F.And a (b ∷ more)) ≡ e = cc in ap test (sym same) ∙ one a (b ∷ more)
 
 -- ---- total, and what is read
@@ -195,7 +188,7 @@ or_assoc true b c = refl
 or_assoc false b c = refl
 
 refuses-fold : (row : List Value) (c : Condition) (es : List Expr) → refuses (fold and_also c (map (val row) es)) ≡ (refuses c || list_any (λ e. is_refused (val row e)) es)
-refuses-fold row c [] = or_false (refuses c)
+refuses-fold row c [] = sym (or-false (refuses c))
 refuses-fold row c (e ∷ es) =
     let rest : Bool = list_any (λ e. is_refused (val row e)) es in
     refuses-fold row (and_also c (val row e)) es

@@ -1,5 +1,5 @@
 -- What an expression comes to depends on the columns that it reads alone, and moved columns are read where they are now.
-use Rattle.std.proofs.Common.{◌≡◌, ◌∙◌, sym, ap, refl, subst, ℕ, Bool, true, ◌&&◌, List, [], ◌∷◌, map, Some, None}
+use Rattle.std.proofs.Common.{◌≡◌, ◌∙◌, sym, ap, refl, subst, ℕ, Bool, true, ◌&&◌, List, [], ◌∷◌, map, Some, None, zero, suc, ◌++◌, ◌<◌, length, arith}
 use Rattle.std.specs.List.{list_all}
 use Rattle.std.proofs.lemmas.Bool.{and_parts}
 use Rattle.span_value.specs.declared.value.Value.{Value}
@@ -210,3 +210,9 @@ reads_at-agree test wider follows y passes = refl
 -- what reads only places that pass a test reads only places that pass a wider one
 pub reads_only-wider : (test wider : ℕ → Bool) (e : Expr) → ((k : ℕ) → test k ≡ true → wider k ≡ true) → reads_only test e ≡ true → reads_only wider e ≡ true
 reads_only-wider test wider e follows reads = fold-reads test Bool (reads_at wider) (reads_at test) (reads_at-agree test wider follows) e reads ∙ reads
+
+-- the columns of the first of two rows
+pub column_of-append : (l r : List Value) (k : ℕ) → k < length l → column_of (l ++ r) k ≡ column_of l k
+column_of-append [] r k inside = absurd (omega arith)
+column_of-append (v ∷ l) r zero inside = refl
+column_of-append (v ∷ l) r (suc k) inside = column_of-append l r k (omega arith)

@@ -1,5 +1,6 @@
 -- Tokens with their classes, one after the other.
 use Rattle.std.proofs.Common.{◌≡◌, ℕ, List, [], ◌∷◌, ◌++◌, refl, sym, ap, ◌∙◌, append_assoc}
+use Rattle.std.proofs.lemmas.List.{append-nil}
 use Rattle.span_lexer.specs.declared.token.Token.{Token}
 use Rattle.span_grammar.specs.declared.class.Lexeme.{Lexeme}
 use Rattle.span_grammar.specs.Classes.{class_at, lexemes_of}
@@ -15,10 +16,6 @@ nil_is : (text : List ℕ) → lexemes_of text [] ≡ []
 unfolding lexemes_of
 nil_is text = refl
 
-append_nil : (out : List Lexeme) → out ++ [] ≡ out
-append_nil [] = refl
-append_nil (t ∷ out) = ap (λ (w : List Lexeme). t ∷ w) (append_nil out)
-
 pub lexeme_added : (text : List ℕ) (out new : List Lexeme) (t : Token) (rest tail tokens : List Token) → out ++ lexemes_of text rest ≡ lexemes_of text tokens → rest ≡ t ∷ tail → new ≡ out ++ (lexeme_at text t tail ∷ [])
     → new ++ lexemes_of text tail ≡ lexemes_of text tokens
 lexeme_added text out new t rest tail tokens h e n =
@@ -26,4 +23,4 @@ lexeme_added text out new t rest tail tokens h e n =
     ∙ ap (λ (w : List Lexeme). out ++ w) (sym (cons_is text t tail) ∙ ap (lexemes_of text) (sym e)) ∙ h
 
 pub lexemes_over : (text : List ℕ) (out : List Lexeme) (rest tokens : List Token) → out ++ lexemes_of text rest ≡ lexemes_of text tokens → rest ≡ [] → out ≡ lexemes_of text tokens
-lexemes_over text out rest tokens h e = sym (append_nil out) ∙ ap (λ (w : List Lexeme). out ++ w) (sym (nil_is text) ∙ ap (lexemes_of text) (sym e)) ∙ h
+lexemes_over text out rest tokens h e = sym (append-nil out) ∙ ap (λ (w : List Lexeme). out ++ w) (sym (nil_is text) ∙ ap (lexemes_of text) (sym e)) ∙ h

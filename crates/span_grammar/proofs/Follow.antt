@@ -1,8 +1,7 @@
 -- Where the text has a tree the parser reads it, and it never stops at a token that some tree has there.
 use Rattle.std.proofs.Common.{◌≡◌, ℕ, zero, suc, ◌+◌, ◌<◌, ◌≤◌, ◌⊎◌, inl, inr, Bool, true, false, List, [], ◌∷◌, ◌++◌, length, refl, sym, ap, subst, ◌∙◌, append_assoc, arith, length-append}
-use Rattle.std.specs.Prelude.{if◌then◌else◌, ◌||◌, ◌&&◌}
-use Rattle.std.proofs.lemmas.Bool.{or_left, or_right, and_from, or_parts}
-use Rattle.span_value.proofs.Choices.{if_true, if_false}
+use Rattle.std.specs.Prelude.{◌||◌, ◌&&◌}
+use Rattle.std.proofs.lemmas.Bool.{or_left, or_right, and_from, or_parts, false_from_ne_true, cond-true, cond-false}
 use Rattle.span_grammar.specs.declared.class.Lexeme.{Lexeme}
 use Rattle.span_grammar.specs.declared.class.Sort.{Sort}
 use Rattle.span_grammar.specs.declared.grammar.Place.{Place}
@@ -17,10 +16,6 @@ and_false false y e f = absurd cc
 
 abbrev pub Apart : (Lexeme → Bool) → (Lexeme → Bool) → Type 0
 Apart f g = (t : Lexeme) → f t ≡ true → g t ≡ true → ⊥
-
-apart_at : (b : Bool) → (b ≡ true → ⊥) → b ≡ false
-apart_at true h = absurd (h refl)
-apart_at false h = refl
 
 -- ---- a grammar in which one token decides the way
 
@@ -62,7 +57,7 @@ empty_both : (a b : Marks) → a ++ b ≡ [] → (a ≡ []) × (b ≡ [])
 empty_both [] b e = (refl, e)
 empty_both (m ∷ a) b e = absurd cc
 
-shallow_left : (a b : Marks) → Shallow (a ++ b) → Shallow a
+pub shallow_left : (a b : Marks) → Shallow (a ++ b) → Shallow a
 shallow_left [] b h = tt
 shallow_left (m ∷ a) b h = (h.0, shallow_left a b h.1)
 
@@ -149,7 +144,7 @@ module _ (inside : Place → Rule) (st : Place → Lexeme → Bool) where
   stops_over a b (t ∷ k) h n = and_false (is_nullable b) (goes_on st a t) n (or_parts (goes_on st b t) (is_nullable b && goes_on st a t) h).1
 
   stops_first : (a b : Rule) (d : ℕ) (y : Tree) (k : List Lexeme) → Apart (goes_on st a) (first b) → Fits inside y b → (is_nullable b ≡ true → Stops st a k) → Stops st a (words (marks d y) ++ k)
-  stops_first a b d y k ap_ h n = stops_at a k (marks d y) (λ e. n (none_of y b d h e)) (λ m q e. apart_at (goes_on st a m.0) (λ g. ap_ m.0 g (first_of y b d h m q e)))
+  stops_first a b d y k ap_ h n = stops_at a k (marks d y) (λ e. n (none_of y b d h e)) (λ m q e. false_from_ne_true (goes_on st a m.0) (λ g. ap_ m.0 g (first_of y b d h m q e)))
 
   stops_many : (a : Rule) (k : List Lexeme) → Stops st (Many a) k → Stops st a k
   stops_many a [] h = tt
@@ -196,7 +191,7 @@ module _ (inside : Place → Rule) (st : Place → Lexeme → Bool) where
 
   many_reads : (d : ℕ) (a : Rule) (f : List Lexeme → Answer) → Reads d a f → is_nullable a ≡ false → Apart (goes_on st a) (first a) → (n : ℕ) (x : Tree) → Fits inside x (Many a) → Shallow (marks d x) → (k : List Lexeme) → Stops st (Many a) k → length (words (marks d x) ++ k) ≤ n → read_many f a n (words (marks d x) ++ k) ≡ Read x k
   many_reads d a f all nn apart zero End h s k stop le = refl
-  many_reads d a f all nn apart (suc n) End h s k stop le = if_false (starts a k) (bind (f k) (λ x k3. bind (read_many f a n k3) (λ more k2. Read (More x more) k2))) (Read End k) (starts_many a k stop)
+  many_reads d a f all nn apart (suc n) End h s k stop le = cond-false (starts a k) (bind (f k) (λ x k3. bind (read_many f a n k3) (λ more k2. Read (More x more) k2))) (Read End k) (starts_many a k stop)
   many_reads d a f all nn apart zero (More x more) h s k stop le =
       let g = longer (words (marks d more) ++ k) (marks d x) (never_none x a d h.0 nn) in
       absurd (omega (arith, g, ap length (regroup (marks d x) (marks d more) k)))
@@ -209,7 +204,7 @@ module _ (inside : Place → Rule) (st : Place → Lexeme → Bool) where
       let stop1 : Stops st a rest = stops_first a (Many a) d more k apart h.1 (λ _. stops_many a k stop) in
       let e1 : f ts ≡ Read x rest = ap f i ∙ all x h.0 (shallow_left (marks d x) (marks d more) s) rest stop1 in
       let e2 : read_many f a n rest ≡ Read more k = many_reads d a f all nn apart n more h.1 (shallow_right (marks d x) (marks d more) s) k stop (omega (arith, ap length i)) in
-      if_true (starts a ts) (bind (f ts) (λ x2 k3. bind (read_many f a n k3) (λ more2 k2. Read (More x2 more2) k2))) (Read End ts) st1
+      cond-true (starts a ts) (bind (f ts) (λ x2 k3. bind (read_many f a n k3) (λ more2 k2. Read (More x2 more2) k2))) (Read End ts) st1
       ∙ ap (λ (w : Answer). bind w (λ x2 k3. bind (read_many f a n k3) (λ more2 k2. Read (More x2 more2) k2))) e1
       ∙ ap (λ (w : Answer). bind w (λ more2 k2. Read (More x more2) k2)) e2
   many_reads d a f all nn apart _ _ h s k stop le = absurd h
@@ -228,11 +223,11 @@ module _ (inside : Place → Rule) (st : Place → Lexeme → Bool) where
 
   stops_in : Stretches → (s : Sort) (p : Place) (k : List Lexeme) → Stops st (Open s p) k → Stops st (inside p) k
   stops_in all s p [] h = tt
-  stops_in all s p (t ∷ k) h = apart_at (goes_on st (inside p) t) (λ g. let i = all p t g in cc)
+  stops_in all s p (t ∷ k) h = false_from_ne_true (goes_on st (inside p) t) (λ g. let i = all p t g in cc)
 
   pub reads_with : Stretches → (d : ℕ) (g : Deeper) → ReadsIn d g → (a : Rule) → Good st a → Reads d a (λ ts. parse_with g a ts)
   reads_with wide d g r Empty good Nothing h s k stop = refl
-  reads_with wide d g r (One o) good (Leaf t) h s k stop = if_true (is_of o t) (Read (Leaf t) k) (Wrong (t ∷ k)) h
+  reads_with wide d g r (One o) good (Leaf t) h s k stop = cond-true (is_of o t) (Read (Leaf t) k) (Wrong (t ∷ k)) h
   reads_with wide d g r (Then a b) good (Pair x y) h s k stop =
       let rest : List Lexeme = words (marks d y) ++ k in
       let ts : List Lexeme = words (marks d x ++ marks d y) ++ k in
@@ -244,15 +239,15 @@ module _ (inside : Place → Rule) (st : Place → Lexeme → Bool) where
       ∙ ap (λ (w : Answer). bind w (λ y2 k2. Read (Pair x y2) k2)) e2
   reads_with wide d g r (Or a b) good (Left x) h s k stop =
       let ts : List Lexeme = words (marks d x) ++ k in
-      if_true (starts a ts) (bind (parse_with g a ts) (λ x2 k2. Read (Left x2) k2)) (bind (parse_with g b ts) (λ y2 k2. Read (Right y2) k2)) (starts_with a k (marks d x) (never_none x a d h good.2) (first_of x a d h))
+      cond-true (starts a ts) (bind (parse_with g a ts) (λ x2 k2. Read (Left x2) k2)) (bind (parse_with g b ts) (λ y2 k2. Read (Right y2) k2)) (starts_with a k (marks d x) (never_none x a d h good.2) (first_of x a d h))
       ∙ ap (λ (w : Answer). bind w (λ x2 k2. Read (Left x2) k2)) (reads_with wide d g r a good.0 x h s k (stops_left a b k stop))
   reads_with wide d g r (Or a b) good (Right y) h s k stop =
       let ts : List Lexeme = words (marks d y) ++ k in
-      if_false (starts a ts) (bind (parse_with g a ts) (λ x2 k2. Read (Left x2) k2)) (bind (parse_with g b ts) (λ y2 k2. Read (Right y2) k2)) (starts_not a k (marks d y) (λ e. starts_right a b k stop (none_of y b d h e)) (λ m q e. apart_at (first a m.0) (λ f. good.3 m.0 f (first_of y b d h m q e))))
+      cond-false (starts a ts) (bind (parse_with g a ts) (λ x2 k2. Read (Left x2) k2)) (bind (parse_with g b ts) (λ y2 k2. Read (Right y2) k2)) (starts_not a k (marks d y) (λ e. starts_right a b k stop (none_of y b d h e)) (λ m q e. false_from_ne_true (first a m.0) (λ f. good.3 m.0 f (first_of y b d h m q e))))
       ∙ ap (λ (w : Answer). bind w (λ x2 k2. Read (Right x2) k2)) (reads_with wide d g r b good.1 y h s k (stops_right a b k stop))
   reads_with wide d g r (Many a) good x h s k stop = many_reads d a (λ ts. parse_with g a ts) (reads_with wide d g r a good.0) good.1 good.2 (length (words (marks d x) ++ k)) x h s k stop (omega arith)
   reads_with wide d g r (Open o p) good (Nest t x) h s k stop =
-      if_true (is_of o t) (enter_place g p t (words (marks (suc d) x) ++ k)) (Wrong (t ∷ (words (marks (suc d) x) ++ k))) h.0
+      cond-true (is_of o t) (enter_place g p t (words (marks (suc d) x) ++ k)) (Wrong (t ∷ (words (marks (suc d) x) ++ k))) h.0
       ∙ go_in_reads d g r p t x h.1 s k (stops_in wide o p k stop)
   reads_with wide d g r _ good _ h s k stop = absurd h
 
@@ -291,7 +286,7 @@ module _ (inside : Place → Rule) (st : Place → Lexeme → Bool) where
             let ts : List Lexeme = words p ++ (m.0 ∷ r) in
             let s2 : Shallow (marks d x ++ i.0) = subst Shallow i.1 s in
             let j : ts ≡ words (marks d x) ++ rest = ap (λ (w : Marks). words w ++ (m.0 ∷ r)) i.1 ∙ regroup (marks d x) i.0 (m.0 ∷ r) in
-            let stop : Stops st a rest = stops_begun a i.0 [] r (marks d y) m q i.2 (λ n t g. apart_at (goes_on st a n.0) (λ go. apart n.0 go (first_of y b d hy n t g))) in
+            let stop : Stops st a rest = stops_begun a i.0 [] r (marks d y) m q i.2 (λ n t g. false_from_ne_true (goes_on st a n.0) (λ go. apart n.0 go (first_of y b d hy n t g))) in
             let e1 : f ts ≡ Read x rest = ap f j ∙ rd x hx (shallow_left (marks d x) i.0 s2) rest stop in
             meets_is m.1 m.0 r (bind (f ts) (λ x2 k3. bind (f2 k3) (λ y2 k2. Read (mk x2 y2) k2))) (bind (f2 rest) (λ y2 k2. Read (mk x y2) k2))
             (ap (λ (w : Answer). bind w (λ x2 k3. bind (f2 k3) (λ y2 k2. Read (mk x2 y2) k2))) e1)
@@ -312,7 +307,7 @@ module _ (inside : Place → Rule) (st : Place → Lexeme → Bool) where
       let ts : List Lexeme = words p ++ (m.0 ∷ r) in
       let st1 : starts a ts ≡ true = starts_begun a true p r (marks d (More x more)) m q e (λ l t g. first_of (More x more) (Many a) d h l t g) in
       meets_is m.1 m.0 r (read_many f a (suc n) ts) (bind (f ts) (λ x2 k3. bind (read_many f a n k3) (λ more2 k2. Read (More x2 more2) k2)))
-      (if_true (starts a ts) (bind (f ts) (λ x2 k3. bind (read_many f a n k3) (λ more2 k2. Read (More x2 more2) k2))) (Read End ts) st1)
+      (cond-true (starts a ts) (bind (f ts) (λ x2 k3. bind (read_many f a n k3) (λ more2 k2. Read (More x2 more2) k2))) (Read End ts) st1)
       (pair_meets d a (Many a) More f (λ k. read_many f a n k) rd mt (λ k. many_sound inside d a f snd n k) apart x more h.0 h.1 p m q e s r
       (λ i j g s2. many_meets d a f rd mt snd nn apart n more h.1 i m q g s2 r (shorter (marks d x) p i (m.0 ∷ r) n j (never_none x a d h.0 nn) le)))
   many_meets d a f rd mt snd nn apart n _ h p m q e s r le = absurd h
@@ -325,19 +320,19 @@ module _ (inside : Place → Rule) (st : Place → Lexeme → Bool) where
   open_meets d No k o l t x i h [] m q e s r =
       let j : (t, suc d) ≡ m = cc in
       subst (λ (w : Lexeme × ℕ). Meets w.1 w.0 r (opening No o l (w.0 ∷ r))) j
-      (meets_is (suc d) t r (opening No o l (t ∷ r)) (Deep (t ∷ r)) (if_true (is_of o t) (Deep (t ∷ r)) (Wrong (t ∷ r)) i) (record { passes = λ le. absurd (omega arith); stops = λ lt. refl }))
+      (meets_is (suc d) t r (opening No o l (t ∷ r)) (Deep (t ∷ r)) (cond-true (is_of o t) (Deep (t ∷ r)) (Wrong (t ∷ r)) i) (record { passes = λ le. absurd (omega arith); stops = λ lt. refl }))
   open_meets d No k o l t x i h (n ∷ p) m q e s r = let j : (t, suc d) ≡ n = cc in absurd (omega (arith, ap (λ (w : Lexeme × ℕ). w.1) j, s.0))
   open_meets d (Yes f) k o l t x i h [] m q e s r =
       let j : (t, suc d) ≡ m = cc in
       subst (λ (w : Lexeme × ℕ). Meets w.1 w.0 r (opening (Yes f) o l (w.0 ∷ r))) j
-      (meets_is (suc d) t r (opening (Yes f) o l (t ∷ r)) (bind (f l r) (λ y k2. Read (Nest t y) k2)) (if_true (is_of o t) (bind (f l r) (λ y k2. Read (Nest t y) k2)) (Wrong (t ∷ r)) i)
+      (meets_is (suc d) t r (opening (Yes f) o l (t ∷ r)) (bind (f l r) (λ y k2. Read (Nest t y) k2)) (cond-true (is_of o t) (bind (f l r) (λ y k2. Read (Nest t y) k2)) (Wrong (t ∷ r)) i)
       (record { passes = λ le. past_mk (suc d) (inside l) (f l) (λ y. Nest t y) (k.1 l) r; stops = λ lt. absurd (omega (arith, k.0)) }))
   open_meets d (Yes f) k o l t x i h (n ∷ p) m q e s r =
       let j : (t, suc d) ≡ n = cc in
       let j2 : marks (suc d) x ≡ p ++ (m ∷ q) = cc in
       let us : List Lexeme = words p ++ (m.0 ∷ r) in
       subst (λ (w : Lexeme × ℕ). Meets m.1 m.0 r (opening (Yes f) o l (w.0 ∷ us))) j
-      (meets_is m.1 m.0 r (opening (Yes f) o l (t ∷ us)) (bind (f l us) (λ y k2. Read (Nest t y) k2)) (if_true (is_of o t) (bind (f l us) (λ y k2. Read (Nest t y) k2)) (Wrong (t ∷ us)) i)
+      (meets_is m.1 m.0 r (opening (Yes f) o l (t ∷ us)) (bind (f l us) (λ y k2. Read (Nest t y) k2)) (cond-true (is_of o t) (bind (f l us) (λ y k2. Read (Nest t y) k2)) (Wrong (t ∷ us)) i)
       (meets_bind m.1 m.0 r (f l us) (λ y k2. Read (Nest t y) k2) (λ y k2. omega arith) (k.2 l x h p m q j2 s.1 r)))
 
   pub meets_with : Stretches → (d : ℕ) (g : Deeper) → SoundIn inside d g → ReadsIn d g → MeetsIn d g → (a : Rule) → Ends inside a → Good st a → Meeting d a (λ ts. parse_with g a ts)
@@ -346,7 +341,7 @@ module _ (inside : Place → Rule) (st : Place → Lexeme → Bool) where
   meets_with wide d g so rd mt (One o) en good (Leaf t) h [] m q e s r =
       let j : (t, d) ≡ m = cc in
       subst (λ (w : Lexeme × ℕ). Meets w.1 w.0 r (one o (w.0 ∷ r))) j
-      (meets_is d t r (one o (t ∷ r)) (Read (Leaf t) r) (if_true (is_of o t) (Read (Leaf t) r) (Wrong (t ∷ r)) h) (record { passes = λ le. omega arith; stops = λ lt. absurd (omega (arith, depth_in inside d g so)) }))
+      (meets_is d t r (one o (t ∷ r)) (Read (Leaf t) r) (cond-true (is_of o t) (Read (Leaf t) r) (Wrong (t ∷ r)) h) (record { passes = λ le. omega arith; stops = λ lt. absurd (omega (arith, depth_in inside d g so)) }))
   meets_with wide d g so rd mt (One o) en good (Leaf t) h (n ∷ []) m q e s r = absurd cc
   meets_with wide d g so rd mt (One o) en good (Leaf t) h (n ∷ n2 ∷ p) m q e s r = absurd cc
   meets_with wide d g so rd mt (Then a b) en good (Pair x y) h p m q e s r =
@@ -355,12 +350,12 @@ module _ (inside : Place → Rule) (st : Place → Lexeme → Bool) where
   meets_with wide d g so rd mt (Or a b) en good (Left x) h p m q e s r =
       let ts : List Lexeme = words p ++ (m.0 ∷ r) in
       let st1 : starts a ts ≡ true = starts_begun a true p r (marks d x) m q e (λ l t k. first_of x a d h l t k) in
-      meets_is m.1 m.0 r (parse_with g (Or a b) ts) (bind (parse_with g a ts) (λ x2 k2. Read (Left x2) k2)) (if_true (starts a ts) (bind (parse_with g a ts) (λ x2 k2. Read (Left x2) k2)) (bind (parse_with g b ts) (λ y2 k2. Read (Right y2) k2)) st1)
+      meets_is m.1 m.0 r (parse_with g (Or a b) ts) (bind (parse_with g a ts) (λ x2 k2. Read (Left x2) k2)) (cond-true (starts a ts) (bind (parse_with g a ts) (λ x2 k2. Read (Left x2) k2)) (bind (parse_with g b ts) (λ y2 k2. Read (Right y2) k2)) st1)
       (meets_bind m.1 m.0 r (parse_with g a ts) (λ x2 k2. Read (Left x2) k2) (λ y k2. omega arith) (meets_with wide d g so rd mt a en.0 good.0 x h p m q e s r))
   meets_with wide d g so rd mt (Or a b) en good (Right y) h p m q e s r =
       let ts : List Lexeme = words p ++ (m.0 ∷ r) in
-      let st1 : starts a ts ≡ false = starts_begun a false p r (marks d y) m q e (λ l t k. apart_at (first a l.0) (λ f. good.3 l.0 f (first_of y b d h l t k))) in
-      meets_is m.1 m.0 r (parse_with g (Or a b) ts) (bind (parse_with g b ts) (λ x2 k2. Read (Right x2) k2)) (if_false (starts a ts) (bind (parse_with g a ts) (λ x2 k2. Read (Left x2) k2)) (bind (parse_with g b ts) (λ y2 k2. Read (Right y2) k2)) st1)
+      let st1 : starts a ts ≡ false = starts_begun a false p r (marks d y) m q e (λ l t k. false_from_ne_true (first a l.0) (λ f. good.3 l.0 f (first_of y b d h l t k))) in
+      meets_is m.1 m.0 r (parse_with g (Or a b) ts) (bind (parse_with g b ts) (λ x2 k2. Read (Right x2) k2)) (cond-false (starts a ts) (bind (parse_with g a ts) (λ x2 k2. Read (Left x2) k2)) (bind (parse_with g b ts) (λ y2 k2. Read (Right y2) k2)) st1)
       (meets_bind m.1 m.0 r (parse_with g b ts) (λ x2 k2. Read (Right x2) k2) (λ y k2. omega arith) (meets_with wide d g so rd mt b en.1 good.1 y h p m q e s r))
   meets_with wide d g so rd mt (Many a) en good x h p m q e s r =
       many_meets d a (λ ts. parse_with g a ts) (reads_with wide d g rd a good.0) (meets_with wide d g so rd mt a en good.0) (λ ts. sound_with inside d g so a en ts) good.1 good.2 (length (words p ++ (m.0 ∷ r))) x h p m q e s r (omega arith)

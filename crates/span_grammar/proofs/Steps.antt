@@ -1,6 +1,7 @@
 -- How each shape of part is read, step by step.
 use Rattle.std.proofs.Common.{◌≡◌, ℕ, zero, suc, ◌-◌, ◌<◌, ◌≤◌, Bool, true, false, List, [], ◌∷◌, length, refl, sym, ap, subst, ◌∙◌, arith, Ok, Err}
 use Rattle.std.specs.Prelude.{if◌then◌else◌, ◌||◌, ◌&&◌}
+use Rattle.std.proofs.lemmas.Bool.{cond-true, cond-false}
 use Rattle.span_grammar.specs.declared.class.Class.{Class}
 use Rattle.span_grammar.specs.declared.class.Lexeme.{Lexeme}
 use Rattle.span_grammar.specs.declared.class.Sort.{Sort}
@@ -16,7 +17,6 @@ use Rattle.span_grammar.specs.Grammar.{inside, rule_of}
 use Rattle.span_grammar.specs.Reading.{ReadResult, read_result, part_read, sort_read}
 use Rattle.span_grammar.proofs.Shaped.{IsShaped, shaped, inside_is}
 use Rattle.span_grammar.proofs.Follow.{never_none, longer}
-use Rattle.span_value.proofs.Choices.{if_true, if_false}
 use Rattle.span_grammar.proofs.Sound.{Is, Sound, parse_sound}
 use Rattle.span_grammar.proofs.Ending.{ends, inside_ends}
 use Rattle.span_grammar.proofs.Repeated.{repeated_full}
@@ -150,12 +150,12 @@ read_then_err n p a b ts e h i = by_rule n p (Then (rule_of a) (rule_of b)) ts (
 pub read_or_first : (n : ℕ) (p a b : Part) (ts : List Lexeme) → shape.Or a b ≡ shape_of p → starts (rule_of a) ts ≡ true → part_read n p ts ≡ part_read n a ts
 unfolding part_read
 read_or_first n p a b ts h i =
-    by_rule n p (Or (rule_of a) (rule_of b)) ts (rule_is p (shape.Or a b) h) ∙ ap read_result (if_true (starts (rule_of a) ts) (bind (parse inside n (rule_of a) ts) (λ x k. Read (Left x) k)) (bind (parse inside n (rule_of b) ts) (λ y k. Read (Right y) k)) i) ∙ kept Left (parse inside n (rule_of a) ts)
+    by_rule n p (Or (rule_of a) (rule_of b)) ts (rule_is p (shape.Or a b) h) ∙ ap read_result (cond-true (starts (rule_of a) ts) (bind (parse inside n (rule_of a) ts) (λ x k. Read (Left x) k)) (bind (parse inside n (rule_of b) ts) (λ y k. Read (Right y) k)) i) ∙ kept Left (parse inside n (rule_of a) ts)
 
 pub read_or_second : (n : ℕ) (p a b : Part) (ts : List Lexeme) → shape.Or a b ≡ shape_of p → starts (rule_of a) ts ≡ false → part_read n p ts ≡ part_read n b ts
 unfolding part_read
 read_or_second n p a b ts h i =
-    by_rule n p (Or (rule_of a) (rule_of b)) ts (rule_is p (shape.Or a b) h) ∙ ap read_result (if_false (starts (rule_of a) ts) (bind (parse inside n (rule_of a) ts) (λ x k. Read (Left x) k)) (bind (parse inside n (rule_of b) ts) (λ y k. Read (Right y) k)) i) ∙ kept Right (parse inside n (rule_of b) ts)
+    by_rule n p (Or (rule_of a) (rule_of b)) ts (rule_is p (shape.Or a b) h) ∙ ap read_result (cond-false (starts (rule_of a) ts) (bind (parse inside n (rule_of a) ts) (λ x k. Read (Left x) k)) (bind (parse inside n (rule_of b) ts) (λ y k. Read (Right y) k)) i) ∙ kept Right (parse inside n (rule_of b) ts)
 
 -- ---- many
 
@@ -198,7 +198,7 @@ many_at n p a ts h = by_rule n p (Many (rule_of a)) ts (rule_is p (shape.Many a)
 
 many_none : (f : List Lexeme → Answer) (a : Rule) (n : ℕ) (ts : List Lexeme) → starts a ts ≡ false → read_many f a n ts ≡ Read End ts
 many_none f a zero ts h = refl
-many_none f a (suc n) ts h = if_false (starts a ts) (once f a n ts) (Read End ts) h
+many_none f a (suc n) ts h = cond-false (starts a ts) (once f a n ts) (Read End ts) h
 
 pub read_many_end : (n : ℕ) (p a : Part) (ts : List Lexeme) → shape.Many a ≡ shape_of p → starts (rule_of a) ts ≡ false → part_read n p ts ≡ Ok ts
 read_many_end n p a ts h i = many_at n p a ts h ∙ ap read_result (many_none (λ us. parse inside n (rule_of a) us) (rule_of a) (length ts) ts i)
@@ -207,7 +207,7 @@ pub read_many_err : (n : ℕ) (p a : Part) (ts : List Lexeme) (e : Stop) → sha
 unfolding part_read
 read_many_err n p a [] e h i j = absurd cc
 read_many_err n p a (t ∷ ts) e h i j =
-    many_at n p a (t ∷ ts) h ∙ ap read_result (if_true (starts (rule_of a) (t ∷ ts)) (once (λ us. parse inside n (rule_of a) us) (rule_of a) (length ts) (t ∷ ts)) (Read End (t ∷ ts)) i)
+    many_at n p a (t ∷ ts) h ∙ ap read_result (cond-true (starts (rule_of a) (t ∷ ts)) (once (λ us. parse inside n (rule_of a) us) (rule_of a) (length ts) (t ∷ ts)) (Read End (t ∷ ts)) i)
     ∙ bind_err (parse inside n (rule_of a) (t ∷ ts)) e _ j
 
 pub read_many_ok : (n : ℕ) (p a : Part) (ts k : List Lexeme) → shape.Many a ≡ shape_of p → starts (rule_of a) ts ≡ true → part_read n a ts ≡ Ok k → n ≤ most_openings → part_read n p ts ≡ part_read n p k
@@ -217,7 +217,7 @@ read_many_ok n p a (t ∷ ts) k h i j le =
     let f : List Lexeme → Answer = λ us. parse inside n (rule_of a) us in
     let full = repeated_full p a h in
     let short = many_shorter n p a (t ∷ ts) k h le j in
-    many_at n p a (t ∷ ts) h ∙ ap read_result (if_true (starts (rule_of a) (t ∷ ts)) (once f (rule_of a) (length ts) (t ∷ ts)) (Read End (t ∷ ts)) i)
+    many_at n p a (t ∷ ts) h ∙ ap read_result (cond-true (starts (rule_of a) (t ∷ ts)) (once f (rule_of a) (length ts) (t ∷ ts)) (Read End (t ∷ ts)) i)
     ∙ bind_ok (f (t ∷ ts)) k (λ x k3. bind (read_many f (rule_of a) (length ts) k3) (λ more k2. Read (More x more) k2)) (λ us. read_result (read_many f (rule_of a) (length ts) us)) (λ x us. kept (λ more. More x more) (read_many f (rule_of a) (length ts) us)) j
     ∙ ap read_result (many_fuel (rule_of a) f (λ us us2 x e. shrinks n a full le us us2 x e) (length ts) (length k) k (omega (arith, short)) (omega arith))
     ∙ sym (many_at n p a k h)

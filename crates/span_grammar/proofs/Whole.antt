@@ -1,12 +1,13 @@
 -- The result for a whole text is the one that the grammar defines, both ways.
 use Rattle.std.proofs.Common.{◌≡◌, ℕ, zero, suc, ◌<◌, ◌≤◌, ◌⊎◌, inl, inr, Bool, List, [], ◌∷◌, ◌++◌, length, refl, sym, ap, subst, ◌∙◌, append_assoc, arith, length-append}
 use Rattle.std.proofs.lemmas.Bool.{cases_lt}
+use Rattle.std.proofs.lemmas.List.{append-nil}
 use Rattle.span_grammar.specs.declared.class.Lexeme.{Lexeme}
 use Rattle.span_grammar.specs.declared.grammar.Place.{Place}
 use Rattle.span_grammar.specs.Rules.{Rule, Tree, Marks, marks, words, most_openings, Shallow, Fits, Answer, Read, Wrong, Deep, parse, deeper}
 use Rattle.span_grammar.specs.Texts.{HasTree, NoneGoesOn, IsWrong, IsTooDeep}
 use Rattle.span_grammar.proofs.Sound.{words-append, Sound, Is, Ends, parse_sound, deeper_sound}
-use Rattle.span_grammar.proofs.Follow.{Good, Stretches, rest_of, Past, Reads, Meeting, reads_with, meets_with, deeper_reads, deeper_meets}
+use Rattle.span_grammar.proofs.Follow.{Good, Stretches, rest_of, Past, Reads, Meeting, reads_with, meets_with, deeper_reads, deeper_meets, shallow_left}
 
 -- what is left over is a fault at its first token
 abbrev pub whole : Answer → Answer
@@ -46,28 +47,16 @@ cut n [] h = absurd (omega arith)
 cut zero (m ∷ ms) h = record { p = []; m = m; q = ms; parts = refl; len = refl }
 cut (suc n) (m ∷ ms) h = let c = cut n ms (omega arith) in record { p = m ∷ c.p; m = c.m; q = c.q; parts = ap (λ (w : Marks). m ∷ w) c.parts; len = ap (λ (k : ℕ). suc k) c.len }
 
-shallow_front : (a b : Marks) → Shallow (a ++ b) → Shallow a
-shallow_front [] b h = tt
-shallow_front (m ∷ a) b h = (h.0, shallow_front a b h.1)
-
-shallow_at : (a : Marks) (m : Lexeme × ℕ) (b : Marks) → Shallow (a ++ (m ∷ b)) → m.1 ≤ most_openings
+pub shallow_at : (a : Marks) (m : Lexeme × ℕ) (b : Marks) → Shallow (a ++ (m ∷ b)) → m.1 ≤ most_openings
 shallow_at [] m b h = h.0
 shallow_at (n ∷ a) m b h = shallow_at a m b h.1
 
-length-words : (a : Marks) → length (words a) ≡ length a
+pub length-words : (a : Marks) → length (words a) ≡ length a
 length-words [] = refl
 length-words (m ∷ a) = ap (λ (k : ℕ). suc k) (length-words a)
 
 words_at : (p : Marks) (m : Lexeme × ℕ) (q : Marks) (r : List Lexeme) → words (p ++ (m ∷ q)) ++ r ≡ words p ++ (m.0 ∷ (words q ++ r))
 words_at p m q r = ap (λ (w : List Lexeme). w ++ r) (words-append p (m ∷ q)) ∙ append_assoc (words p) (m.0 ∷ words q) r
-
-append-nil : (a : List Lexeme) → a ++ [] ≡ a
-append-nil [] = refl
-append-nil (t ∷ a) = ap (λ (w : List Lexeme). t ∷ w) (append-nil a)
-
-append-marks : (a : Marks) → a ++ [] ≡ a
-append-marks [] = refl
-append-marks (t ∷ a) = ap (λ (w : Marks). t ∷ w) (append-marks a)
 
 -- the marks of a text that begins with some tokens and then a token
 record MarkAt (ms : Marks) (prefix : List Lexeme) (t : Lexeme) : Type 0 where
@@ -89,7 +78,7 @@ mark_at (f ∷ prefix) t more (m ∷ ms) e =
     record { p = m ∷ h.p; m = h.m; q = h.q; parts = ap (λ (w : Marks). m ∷ w) h.parts; same = ap (λ (w : List Lexeme). m.0 ∷ w) h.same ∙ ap (λ (y : Lexeme). y ∷ prefix) i; here = h.here }
 
 -- a longer beginning goes on as the shorter one
-goes_along : (b a : List Lexeme) (x y : Lexeme) (c c2 c3 : List Lexeme) → a ++ (x ∷ c) ≡ b ++ (y ∷ c2) → length b ≤ length a → (more : List Lexeme) × (a ++ (x ∷ c3) ≡ b ++ (y ∷ more))
+pub goes_along : (b a : List Lexeme) (x y : Lexeme) (c c2 c3 : List Lexeme) → a ++ (x ∷ c) ≡ b ++ (y ∷ c2) → length b ≤ length a → (more : List Lexeme) × (a ++ (x ∷ c3) ≡ b ++ (y ∷ more))
 goes_along [] [] x y c c2 c3 e le = let i : x ≡ y = cc in (c3, ap (λ (t : Lexeme). t ∷ c3) i)
 goes_along [] (z ∷ a) x y c c2 c3 e le = let i : z ≡ y = cc in (a ++ (x ∷ c3), ap (λ (t : Lexeme). t ∷ (a ++ (x ∷ c3))) i)
 goes_along (w ∷ b) [] x y c c2 c3 e le = absurd (omega arith)
@@ -135,7 +124,7 @@ module _ (inside : Place → Rule) (st : Place → Lexeme → Bool) (wide : Stre
   no_end y h =
       elim (first_deep (marks 0 y)) [
         | inl s ↦ inl (all_reads y h s [] tt)
-        | inr d ↦ inr (deep_there y h (marks 0 y) [] (sym (append-marks (marks 0 y))) d [])
+        | inr d ↦ inr (deep_there y h (marks 0 y) [] (sym (append-nil (marks 0 y))) d [])
       ]
 
   -- no tree goes on where a run stopped that is neither deep nor at the end of a tree
@@ -168,7 +157,7 @@ module _ (inside : Place → Rule) (st : Place → Lexeme → Bool) (wide : Stre
     after = [];
     rest = t ∷ k;
     fits = h.fits;
-    parts = sym (append-marks (marks 0 x));
+    parts = sym (append-nil (marks 0 x));
     shallow = h.shallow;
     spells = h.prefix;
     none = stops_right ts (words (marks 0 x)) (t ∷ k) h.prefix (Read x (t ∷ k)) i refl (λ j e. cc) (λ y e. cc);
@@ -220,7 +209,7 @@ module _ (inside : Place → Rule) (st : Place → Lexeme → Bool) (wide : Stre
       let s : Shallow (c.p ++ (c.m ∷ c.q)) = subst Shallow c.parts w.shallow in
       let e : marks 0 w.tree ≡ c.p ++ (c.m ∷ (c.q ++ w.after)) = w.parts ∙ ap (λ (m : Marks). m ++ w.after) c.parts ∙ append_assoc c.p (c.m ∷ c.q) w.after in
       let ts_is : ts ≡ words c.p ++ (c.m.0 ∷ r) = w.spells ∙ ap (λ (m : Marks). words m ++ w.rest) c.parts ∙ words_at c.p c.m c.q w.rest in
-      let past : Past r (run (words c.p ++ (c.m.0 ∷ r))) = (all_meets w.tree w.fits c.p c.m (c.q ++ w.after) e (shallow_front c.p (c.m ∷ c.q) s) r).passes (shallow_at c.p c.m c.q s) in
+      let past : Past r (run (words c.p ++ (c.m.0 ∷ r))) = (all_meets w.tree w.fits c.p c.m (c.q ++ w.after) e (shallow_left c.p (c.m ∷ c.q) s) r).passes (shallow_at c.p c.m c.q s) in
       let stop : run (words d.before ++ (d.token ∷ d.rest)) ≡ Deep (d.token ∷ d.rest) = (all_meets d.tree d.fits d.before (d.token, d.depth) d.after d.parts d.shallow d.rest).stops d.over in
       let same : run (words c.p ++ (c.m.0 ∷ r)) ≡ Deep (d.token ∷ d.rest) = ap run (sym ts_is ∙ d.spells) ∙ stop in
       let short : length (d.token ∷ d.rest) ≤ length r = subst (λ (x : Answer). length (rest_of x) ≤ length r) same past in

@@ -1,7 +1,7 @@
 -- A rule over plain tokens and one over classes that look ahead whose trees have the same marks, with each token as what follows it makes it.
 use Rattle.std.proofs.Common.{◌≡◌, ℕ, suc, ◌<◌, ◌≤◌, inl, inr, Bool, true, false, Option, Some, None, List, [], ◌∷◌, ◌++◌, length, refl, sym, ap, subst, ◌∙◌, arith, length-append, rules}
 use Rattle.std.specs.Prelude.{if◌then◌else◌, ◌&&◌}
-use Rattle.std.proofs.lemmas.Bool.{cases_lt}
+use Rattle.std.proofs.lemmas.Bool.{cases_lt, and_right, and_from}
 use denote.Enum.Bare.{same_true}
 use Rattle.span_lexer.specs.declared.token.Sign.TheVariants as sign
 use Rattle.span_lexer.specs.contracts.token.Sign.{the_type as sign_type}
@@ -228,14 +228,6 @@ name_no_star class.Name h = refl
 name_no_star (class.Context w) h = refl
 name_no_star _ h = absurd cc
 
-second_false : (a b : Bool) → b ≡ false → (a && b) ≡ false
-second_false true b e = e
-second_false false b e = refl
-
-both_true : (a b : Bool) → a ≡ true → b ≡ true → (a && b) ≡ true
-both_true true b e f = f
-both_true false b e f = absurd cc
-
 -- "." name
 pub alike_qualifier : Alike (Then dot name) (Then dot name)
 alike_qualifier = record {
@@ -245,7 +237,7 @@ alike_qualifier = record {
       let y = one_out written_inside sort.Name d s.right s.second in
       let r = tagged_one sort.Name d y.lexeme k (calm_tagged sort.Name y.lexeme k refl y.is c) (calm_clear y.lexeme k (calm_of sort.Name y.lexeme.class refl y.is)) in
       let l = tagged_one (sort.Sign sign.Dot) d x.lexeme (y.lexeme ∷ k) (sign_tagged (sort.Sign sign.Dot) x.lexeme.class (class.Sign sign.Dot) (y.lexeme ∷ k) (is_dot x.lexeme.class x.is) dot_is)
-      (second_false (dot_class x.lexeme.class) (star_class y.lexeme.class) (name_no_star y.lexeme.class y.is)) in
+      (and_right (dot_class x.lexeme.class) (star_class y.lexeme.class) (name_no_star y.lexeme.class y.is)) in
       let e : (x.lexeme, d) ∷ (y.lexeme, d) ∷ [] ≡ s.left ++ s.right = ap (λ (w : Marks). w ++ ((y.lexeme, d) ∷ [])) x.parts ∙ ap (λ (w : Marks). s.left ++ w) y.parts in
       tagged_is (Then dot name) d ((x.lexeme, d) ∷ (y.lexeme, d) ∷ []) ms k (e ∙ s.parts) (tagged_then dot name d ((x.lexeme, d) ∷ []) ((y.lexeme, d) ∷ []) k l r);
   from = λ text n below d ms lt h.
@@ -313,7 +305,7 @@ alike_all_of = record {
         let clear : begins_all_of (x ∷ y ∷ z ∷ k) ≡ false = calm_clear x (y ∷ z ∷ k) (calm_of sort.Name x.class refl hx) in
         record {
           has = then_in inside (One sort.AllOf) (Then dot star) d ((tag x (y ∷ z ∷ k), d) ∷ []) ((tag y (z ∷ k), d) ∷ (tag z k, d) ∷ [])
-              (one_in inside sort.AllOf d (tag x (y ∷ z ∷ k)) (name_all_of x.class (y ∷ z ∷ k) hx (both_true (dot_class y.class) (star_class z.class) dot_here star_here)))
+              (one_in inside sort.AllOf d (tag x (y ∷ z ∷ k)) (name_all_of x.class (y ∷ z ∷ k) hx (and_from (dot_class y.class) (star_class z.class) dot_here star_here)))
               (then_in inside dot star d ((tag y (z ∷ k), d) ∷ []) ((tag z k, d) ∷ [])
               (one_in inside (sort.Sign sign.Dot) d (tag y (z ∷ k)) (sign_tagged (sort.Sign sign.Dot) y.class (class.Sign sign.Dot) (z ∷ k) (is_dot y.class hy) dot_is))
               (one_in inside (sort.Sign sign.Star) d (tag z k) (sign_tagged (sort.Sign sign.Star) z.class (class.Sign sign.Star) k (is_star z.class hz) star_is)));

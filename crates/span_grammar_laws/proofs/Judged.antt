@@ -1,5 +1,6 @@
 -- Trees and openings that are too deep, over plain tokens and over classes that look ahead.
 use Rattle.std.proofs.Common.{◌≡◌, ℕ, ◌<◌, inl, inr, true, List, [], ◌∷◌, ◌++◌, map, refl, sym, ap, subst, ◌∙◌, arith}
+use Rattle.std.proofs.lemmas.List.{map-append}
 use Rattle.span_grammar.specs.declared.class.Lexeme.{Lexeme}
 use Rattle.span_grammar.specs.declared.judge.Goal.{Goal}
 use Rattle.span_grammar.specs.Rules.{Marks, marks, words, most_openings, Shallow}
@@ -9,7 +10,7 @@ use Rattle.span_grammar.specs.Goals.{goal_rule}
 use Rattle.span_grammar_laws.specs.Written.{written_inside}
 use Rattle.span_grammar_laws.specs.Laws.{written_rule, HasSomeTree}
 use Rattle.span_grammar_laws.proofs.Languages.{In}
-use Rattle.span_grammar_laws.proofs.Tagging.{tag, tags, tag_marks, tag_marks-append, tags-append, words-tag_marks, shallow-tag_marks, tags_by, opening, opening_tag, opening_sees, OpensFirst, untag, untag_marks, untag_marks-append, words-untag_marks, shallow-untag_marks, map-append}
+use Rattle.span_grammar_laws.proofs.Tagging.{tag, tags, tag_marks, tag_marks-append, tags-append, words-tag_marks, shallow-tag_marks, tags_by, opening, opening_tag, opening_sees, OpensFirst, untag, untag_marks, untag_marks-append, words-untag_marks, shallow-untag_marks}
 use Rattle.span_grammar_laws.proofs.Roots.{goal_root}
 
 -- ---- trees

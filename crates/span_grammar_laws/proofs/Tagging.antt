@@ -3,6 +3,7 @@ use Rattle.std.proofs.Common.{◌≡◌, ℕ, ◌≤◌, ◌<◌, ◌⊎◌, inl
 use Rattle.std.proofs.Math.Bool.{and-false}
 use Rattle.std.specs.Prelude.{if◌then◌else◌, ◌&&◌}
 use denote.Enum.Bare.{same_true}
+use Rattle.std.proofs.lemmas.List.{append-nil}
 use Rattle.span_lexer.specs.declared.token.Sign.{Sign}
 use Rattle.span_lexer.specs.declared.token.Sign.TheVariants as sign
 use Rattle.span_lexer.specs.declared.token.Token.{Token}
@@ -18,6 +19,7 @@ use Rattle.span_grammar.specs.declared.class.Sort.TheVariants as sort
 use Rattle.span_grammar.specs.Contexts.{context_word}
 use Rattle.span_grammar.specs.Classes.{is_dot, is_star, starts_all_of, name_class, semicolon_class, sign_class, kind_class, lexemes_of, token_bytes}
 use Rattle.span_grammar.specs.Rules.{is_class, Marks, words, most_openings, Shallow}
+use Rattle.span_grammar.proofs.Sound.{words-append}
 use Rattle.span_grammar_laws.specs.PlainTokens.{plain_class, plain_lexemes}
 
 -- ---- what follows a token
@@ -65,14 +67,6 @@ tags (t ∷ ts) k = tag t (ts ++ k) ∷ tags ts k
 abbrev pub tag_marks : Marks → List Lexeme → Marks
 tag_marks [] k = []
 tag_marks (m ∷ ms) k = (tag m.0 (words ms ++ k), m.1) ∷ tag_marks ms k
-
-pub append_nil : (ts : List Lexeme) → ts ++ [] ≡ ts
-append_nil [] = refl
-append_nil (t ∷ ts) = ap (λ (w : List Lexeme). t ∷ w) (append_nil ts)
-
-pub words-append : (a b : Marks) → words (a ++ b) ≡ words a ++ words b
-words-append [] b = refl
-words-append (m ∷ a) b = ap (λ (w : List Lexeme). m.0 ∷ w) (words-append a b)
 
 -- the tokens of two rows of marks and what follows
 pub regroup : (a b : Marks) (k : List Lexeme) → words (a ++ b) ++ k ≡ words a ++ (words b ++ k)
@@ -297,10 +291,6 @@ pub shallow-untag_marks : (text : List ℕ) (ms : Marks) → Shallow ms → Shal
 shallow-untag_marks text [] h = tt
 shallow-untag_marks text (m ∷ ms) h = (h.0, shallow-untag_marks text ms h.1)
 
-pub map-append : (f : Lexeme → Lexeme) (a b : List Lexeme) → map f (a ++ b) ≡ map f a ++ map f b
-map-append f [] b = refl
-map-append f (t ∷ a) b = ap (λ (w : List Lexeme). f t ∷ w) (map-append f a b)
-
 pub calm_untagged : (o : Option Context) (c : Class) → calm c ≡ true → untag_class o c ≡ c
 calm_untagged o class.AllOf h = absurd cc
 calm_untagged o class.LastSemicolon h = absurd cc
@@ -361,7 +351,7 @@ unfolding lexemes_of
 tags_of_text text [] = refl
 tags_of_text text (t ∷ ts) =
     ap₂ (λ (c : Class) (w : List Lexeme). let u : Lexeme = record { class = c; token = t } in u ∷ w)
-    (class_by t.kind (token_bytes text t) text ts ∙ ap (tag_class (plain_class t.kind (token_bytes text t))) (sym (append_nil (plain_lexemes text ts))))
+    (class_by t.kind (token_bytes text t) text ts ∙ ap (tag_class (plain_class t.kind (token_bytes text t))) (sym (append-nil (plain_lexemes text ts))))
     (tags_of_text text ts)
 
 -- tokens that are what they are by themselves

@@ -1,6 +1,7 @@
 -- Tokens with which no tree goes on, over plain tokens and over classes that look ahead.
-use Rattle.std.proofs.Common.{◌≡◌, ℕ, zero, suc, ◌<◌, ◌≤◌, ◌⊎◌, inl, inr, List, [], ◌∷◌, ◌++◌, map, length, Result, Ok, Err, refl, sym, ap, ap₂, subst, ◌∙◌, append_assoc, arith, length-append}
+use Rattle.std.proofs.Common.{◌≡◌, ℕ, zero, suc, ◌<◌, ◌≤◌, inl, inr, List, [], ◌∷◌, ◌++◌, map, length, Result, Ok, Err, refl, sym, ap, ap₂, subst, ◌∙◌, append_assoc, arith, length-append}
 use Rattle.std.proofs.lemmas.Bool.{cases_lt}
+use Rattle.std.proofs.lemmas.List.{append-nil, map-append}
 use Rattle.span_grammar.specs.declared.class.Lexeme.{Lexeme}
 use Rattle.span_grammar.specs.declared.grammar.Place.{Place}
 use Rattle.span_grammar.specs.declared.judge.Goal.{Goal}
@@ -13,24 +14,17 @@ use Rattle.span_grammar.specs.Goals.{goal_rule, goal_part}
 use Rattle.span_grammar.specs.Reading.{text_read}
 use Rattle.span_grammar.proofs.Apart.{st}
 use Rattle.span_grammar.proofs.Ending.{ends, inside_ends}
-use Rattle.span_grammar.proofs.Sound.{deeper_sound}
-use Rattle.span_grammar.proofs.Follow.{Meeting, rest_of, meets_with, deeper_reads, deeper_meets}
+use Rattle.span_grammar.proofs.Sound.{deeper_sound, words-append}
+use Rattle.span_grammar.proofs.Follow.{Meeting, rest_of, meets_with, deeper_reads, deeper_meets, shallow_left}
 use Rattle.span_grammar.proofs.Verdicts.{wide, good, goal_good, reads, reads_all, wrongs, wrongs_all, deeps, deeps_all}
+use Rattle.span_grammar.proofs.Whole.{length-words, goes_along, shallow_at}
 use Rattle.span_grammar_laws.specs.Written.{written_inside}
 use Rattle.span_grammar_laws.specs.Laws.{written_rule, HasSomeTree}
-use Rattle.span_grammar_laws.proofs.Tagging.{tag, tags, tag_marks, append_nil, words-append, tag_marks-append, tags-append, words-tag_marks, shallow-tag_marks, tags_by, Kind, Nothing_more, Other, Star_next, All_of_next, example, kind_of, opening_tag, untag, words-untag_marks, ArePlain, plain_left, untag_tags, map-append}
+use Rattle.span_grammar_laws.proofs.Tagging.{tag, tags, tag_marks, tag_marks-append, tags-append, words-tag_marks, shallow-tag_marks, tags_by, Kind, Nothing_more, Other, Star_next, All_of_next, example, kind_of, opening_tag, untag, words-untag_marks, ArePlain, plain_left, untag_tags}
 use Rattle.span_grammar_laws.proofs.Roots.{goal_root}
 use Rattle.span_grammar_laws.proofs.Judged.{tree_written, tree_read, deep_written, deep_read, deep_read_at, words_to_opening}
 
 -- ---- marks and tokens
-
-append-marks : (a : Marks) → a ++ [] ≡ a
-append-marks [] = refl
-append-marks (t ∷ a) = ap (λ (w : Marks). t ∷ w) (append-marks a)
-
-length-words : (a : Marks) → length (words a) ≡ length a
-length-words [] = refl
-length-words (m ∷ a) = ap (λ (k : ℕ). suc k) (length-words a)
 
 record HasDeep (ms : Marks) : Type 0 where
   pub before : Marks
@@ -81,14 +75,6 @@ cut n [] h = absurd (omega arith)
 cut zero (m ∷ ms) h = record { before = []; token = m.0; depth = m.1; after = ms; parts = refl; len = refl }
 cut (suc n) (m ∷ ms) h = let c = cut n ms (omega arith) in record { before = m ∷ c.before; token = c.token; depth = c.depth; after = c.after; parts = ap (λ (w : Marks). m ∷ w) c.parts; len = ap (λ (k : ℕ). suc k) c.len }
 
-shallow_front : (a b : Marks) → Shallow (a ++ b) → Shallow a
-shallow_front [] b h = tt
-shallow_front (m ∷ a) b h = (h.0, shallow_front a b h.1)
-
-shallow_at : (a : Marks) (m : Lexeme × ℕ) (b : Marks) → Shallow (a ++ (m ∷ b)) → m.1 ≤ most_openings
-shallow_at [] m b h = h.0
-shallow_at (n ∷ a) m b h = shallow_at a m b h.1
-
 -- two rows of the same tokens, cut at one length
 same_cut : (a b : List Lexeme) (x y : Lexeme) (c e : List Lexeme) → a ++ (x ∷ c) ≡ b ++ (y ∷ e) → length a ≡ length b → (a ≡ b) × (x ≡ y)
 same_cut [] [] x y c e h l = (refl, cc)
@@ -99,17 +85,6 @@ same_cut (z ∷ a) (w ∷ b) x y c e h l =
     let j : a ++ (x ∷ c) ≡ b ++ (y ∷ e) = cc in
     let r = same_cut a b x y c e j (omega arith) in
     (ap₂ (λ (u : Lexeme) (v : List Lexeme). u ∷ v) i r.0, r.1)
-
--- a longer beginning goes on as the shorter one
-goes_along : (b a : List Lexeme) (x y : Lexeme) (c c2 c3 : List Lexeme) → a ++ (x ∷ c) ≡ b ++ (y ∷ c2) → length b ≤ length a → (more : List Lexeme) × (a ++ (x ∷ c3) ≡ b ++ (y ∷ more))
-goes_along [] [] x y c c2 c3 e le = let i : x ≡ y = cc in (c3, ap (λ (t : Lexeme). t ∷ c3) i)
-goes_along [] (z ∷ a) x y c c2 c3 e le = let i : z ≡ y = cc in (a ++ (x ∷ c3), ap (λ (t : Lexeme). t ∷ (a ++ (x ∷ c3))) i)
-goes_along (w ∷ b) [] x y c c2 c3 e le = absurd (omega arith)
-goes_along (w ∷ b) (z ∷ a) x y c c2 c3 e le =
-    let i : z ≡ w = cc in
-    let j : a ++ (x ∷ c) ≡ b ++ (y ∷ c2) = cc in
-    let h = goes_along b a x y c c2 c3 j (omega arith) in
-    (h.0, ap (λ (l : List Lexeme). z ∷ l) h.1 ∙ ap (λ (t : Lexeme). t ∷ (b ++ (y ∷ h.0))) i)
 
 -- ---- what is read of tokens decides
 
@@ -138,7 +113,7 @@ one_depth g x y hx hy p q r s t d e i j same sp sr le lt =
 -- ---- the written grammar refuses in one way
 
 none_at : (a : Rule) (ps prefix rest : List Lexeme) → NoneGoesOn written_inside a prefix rest → (x : Tree) → Fits written_inside x a → ps ≡ words (marks 0 x) → ps ≡ prefix ++ rest → ⊥
-none_at a ps prefix [] none x h e f = none x h (sym e ∙ f ∙ append_nil prefix)
+none_at a ps prefix [] none x h e f = none x h (sym e ∙ f ∙ append-nil prefix)
 none_at a ps prefix (t ∷ r) none x h e f = none x r h (sym e ∙ f)
 
 written_tree_not_wrong : (g : Goal) (ps : List Lexeme) → HasSomeTree written_inside (written_rule g) ps → IsWrong written_inside (written_rule g) ps → ⊥
@@ -173,7 +148,7 @@ early_deep g ps h w lt =
     one_depth g x.0 deep.has.0 x.1 deep.has.1 (tag_marks c.before (h.token ∷ k)) (tag_marks q []) (tag_marks h.before (h.token ∷ j)) (tag_marks h.after []) (tag h.token j) c.depth h.depth
     at (deep.has.2 ∙ deep.parts)
     (words_to_opening c.before h.token k j deep.opens ∙ ap (λ (v : List Lexeme). tags v (h.token ∷ j)) same.0 ∙ sym (words-tag_marks h.before (h.token ∷ j)))
-    (shallow-tag_marks c.before (h.token ∷ k) (shallow_front c.before ((c.token, c.depth) ∷ c.after) s)) (shallow-tag_marks h.before (h.token ∷ j) h.shallow)
+    (shallow-tag_marks c.before (h.token ∷ k) (shallow_left c.before ((c.token, c.depth) ∷ c.after) s)) (shallow-tag_marks h.before (h.token ∷ j) h.shallow)
     (shallow_at c.before (c.token, c.depth) c.after s) h.over
 
 written_deep_not_wrong : (g : Goal) (ps : List Lexeme) → IsTooDeep written_inside (written_rule g) ps → IsWrong written_inside (written_rule g) ps → ⊥
@@ -208,12 +183,12 @@ data Going (i : Place → Rule) (a : Rule) (ts : List Lexeme) : Type 0 where
 
 wrong_goes : (g : Goal) (ts : List Lexeme) (tree : Tree) (before after : Marks) (rest : List Lexeme) → Fits inside tree (goal_rule g) → marks 0 tree ≡ before ++ after → ts ≡ words before ++ rest → NoneGoesOn inside (goal_rule g) (words before) rest → Going inside (goal_rule g) ts
 wrong_goes g ts tree before after [] fits parts spells none =
-    Goes (tree, words after, fits, ap words parts ∙ words-append before after ∙ ap (λ (w : List Lexeme). w ++ words after) (sym (append_nil (words before)) ∙ sym spells))
+    Goes (tree, words after, fits, ap words parts ∙ words-append before after ∙ ap (λ (w : List Lexeme). w ++ words after) (sym (append-nil (words before)) ∙ sym spells))
 wrong_goes g ts tree before after (t ∷ r) fits parts spells none =
     Never (λ y. none y.0 (r ++ y.1) y.2 (y.3 ∙ ap (λ (w : List Lexeme). w ++ y.1) spells ∙ append_assoc (words before) (t ∷ r) y.1))
 
 going_by : (g : Goal) (ts : List Lexeme) (r : Verdict) → text_read (goal_part g) ts ≡ r → Going inside (goal_rule g) ts
-going_by g ts (Ok u) e = let t = reads g ts e in Goes (t.0, [], t.1.fits, sym t.1.spells ∙ sym (append_nil ts))
+going_by g ts (Ok u) e = let t = reads g ts e in Goes (t.0, [], t.1.fits, sym t.1.spells ∙ sym (append-nil ts))
 going_by g ts (Err stop.Syntax) e = let w = wrongs g ts e in wrong_goes g ts w.tree w.before w.after w.rest w.fits w.parts w.spells w.none
 going_by g ts (Err stop.TooDeep) e = TooDeep (deeps g ts e)
 
@@ -308,10 +283,10 @@ longer_deep a ps q rest e h = record {
 module _ (g : Goal) (text : List ℕ) (ps : List Lexeme) (plain : ArePlain text ps) (no_tree : HasSomeTree written_inside (written_rule g) ps → ⊥) (not_deep : IsTooDeep written_inside (written_rule g) ps → ⊥) where
   at_end : (before : Marks) → ps ≡ words before ++ [] → NoneGoesOn written_inside (written_rule g) (words before) []
   at_end before e = λ x h s.
-      let same : ps ≡ words (marks 0 x) = e ∙ append_nil (words before) ∙ sym s in
+      let same : ps ≡ words (marks 0 x) = e ∙ append-nil (words before) ∙ sym s in
       elim (first_deep (marks 0 x)) [
         | inl i ↦ no_tree (x, record { fits = h; spells = same; shallow = i })
-        | inr i ↦ not_deep (deep_of (written_rule g) ps x (marks 0 x) [] [] h (sym (append-marks (marks 0 x))) (same ∙ sym (append_nil (words (marks 0 x)))) i)
+        | inr i ↦ not_deep (deep_of (written_rule g) ps x (marks 0 x) [] [] h (sym (append-nil (marks 0 x))) (same ∙ sym (append-nil (words (marks 0 x)))) i)
       ]
 
   shift : (before : Marks) (t : Lexeme) (rest : List Lexeme) → ps ≡ words before ++ (t ∷ rest) → ps ≡ (words before ++ (t ∷ [])) ++ rest

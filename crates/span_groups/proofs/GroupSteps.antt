@@ -1,17 +1,15 @@
 -- The group of the key of a row: it is there, or it is added after the others.
-use Rattle.std.proofs.Common.{◌≡◌, ◌≢◌, ℕ, zero, suc, Result, Ok, Err, IfOk, OnOk, ◌+◌, ◌*◌, ◌<◌, ◌≤◌, ◌^◌, Bool, true, false, cond, not, ◌||◌, List, [], ◌∷◌, ◌++◌, length, set, get_or, drop, refl, sym, ap, ◌∙◌, subst, inl, inr, arith}
-use Rattle.std.specs.List.{list_any}
+use Rattle.std.proofs.Common.{◌≡◌, ◌≢◌, ℕ, Result, Ok, Err, IfOk, OnOk, ◌+◌, ◌*◌, ◌<◌, ◌≤◌, ◌^◌, Bool, true, false, cond, not, List, [], ◌∷◌, ◌++◌, length, set, get_or, drop, refl, sym, ap, ◌∙◌, subst, inl, inr, arith}
 use Rattle.std.proofs.lemmas.Bool.{cases_eq}
 use Rattle.std.proofs.lemmas.List.{length_push, length-map, map-append, get_or-map}
 use denote.Ref.{Bor}
 use Rattle.span_query.specs.declared.query.Aggregate.{Aggregate}
 use Rattle.span_query.specs.declared.query.Grouping.{Grouping}
 use Rattle.span_query.specs.Rows.{Row}
-use Rattle.span_query.specs.Groups.{are_equal, columns_at, group_keys, rows_with}
+use Rattle.span_query.specs.Groups.{columns_at, group_keys, rows_with}
 use Rattle.span_rows.specs.Keys.{contains_row, with_new, place_of}
 use Rattle.span_rows.specs.LentRows.{lent_rows}
 use Rattle.span_rows.specs.RowPlaces.{rows_at}
-use Rattle.span_rows.proofs.Alike.{are_equal-reversed}
 use Rattle.span_rows.proofs.Places.{place_known, place_most, place_tells, group_keys-more}
 use Rattle.span_groups.specs.declared.aggregate.AggregateState.{AggregateState}
 use Rattle.span_groups.specs.declared.group.GroupLists.{GroupLists}
@@ -25,14 +23,6 @@ use Rattle.span_groups.proofs.MergedGroups.{groups_are_whole, group_merged, has_
 use Rattle.span_groups.proofs.StateLists.{keys_in, count_in, room_at, group_found, changed_at, added_last, added_long}
 
 -- ---- the key among the keys
-
-pub any_equal : (keys : List Row) (k : Row) → list_any (are_equal k) keys ≡ contains_row keys k
-any_equal [] k = refl
-any_equal (x ∷ keys) k = ap (λ b. b || list_any (are_equal k) keys) (are_equal-reversed k x) ∙ ap (λ b. are_equal x k || b) (any_equal keys k)
-
-pub no_places : (places : List ℕ) → length places ≡ 0 → places ≡ []
-no_places [] none = refl
-no_places (p ∷ places) none = absurd (omega (arith, none))
 
 -- where there are no key columns, the one key is there
 pub record IsOneKey (keys : List Row) (key : Row) : Type 0 where
@@ -290,9 +280,6 @@ count_by_places places width rows firsts states =
 pub lists_of_groups : (g : Grouping) (keys : List Row) (states : List AggregateState) (ks rows : List Row) → AreWholeGroups g ks rows (groups_by g keys states) → keys ≡ ks
 lists_of_groups g keys states ks rows h = sym (keys_in (length g.aggregates) keys states) ∙ h.are.keyed
 
-pub lent_at : (rows : List (Bor Row)) (at : ℕ) (row : Bor Row) → at < length rows → row ≡ get_or rows at row → row.now ≡ get_or (lent_rows rows) at row.now
-lent_at rows at row within is = sym (get_or-map (λ (r : Bor Row). r.now) rows at row row.now within ∙ ap (λ (r : Bor Row). r.now) (sym is))
-
 -- ---- as many states as the groups have
 
 pub held_whole : (g : Grouping) (all taken : List Row) (x : GroupLists) → HoldGroups g all taken x → length x.states.items ≡ length x.firsts.items * length g.aggregates
@@ -302,11 +289,6 @@ held_whole g all taken x h =
 pub lent_count : (rows : List Row) (lent : List (Bor Row)) (places : List ℕ) → lent_rows lent ≡ rows_at rows places → length lent ≡ length places
 lent_count rows lent places is =
     sym (length-map lent (λ (r : Bor Row). r.now)) ∙ ap (λ (l : List Row). length l) is ∙ length-map places (λ (p : ℕ). get_or rows p [])
-
-pub read_there : (rows : List Row) (at : ℕ) (row d : Row) → at < length rows → row ≡ get_or rows at row → get_or rows at d ≡ row
-read_there [] at row d within is = absurd (omega arith)
-read_there (x ∷ rows) zero row d within is = sym is
-read_there (x ∷ rows) (suc at) row d within is = read_there rows at row d (omega arith) is
 
 pub if_ok_both : {T E : Type 0} {P R : T → Type 0} {Q : Type 0} (r : Result T E) → ((done : T) → P done → Q → R done) → IfOk r P → OnOk r Q → IfOk r R
 if_ok_both (Ok done) both p q = both done p q

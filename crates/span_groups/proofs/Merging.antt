@@ -16,6 +16,7 @@ use Rattle.std.proofs.lemmas.Option.{slice_get_within, slice_get-get_or, get_or_
 use Rattle.span_value.specs.declared.value.Value.{Value}
 use Rattle.span_value.specs.Orders.{value_order}
 use Rattle.span_value.proofs.Total.{value_order_total}
+use Rattle.span_value.proofs.Comparisons.{is_greater, is_less}
 use Rattle.span_expr.specs.Meaning.{val}
 use Rattle.span_expr.specs.Outcomes.{is_null}
 use Rattle.span_query.specs.declared.query.Aggregate.{Aggregate}
@@ -24,11 +25,11 @@ use Rattle.span_query.specs.declared.query.Function.{Function}
 use Rattle.span_query.specs.declared.query.Function.TheVariants as function
 use Rattle.span_query.specs.Rows.{Row, OrFault, value_of, append_results, singleton, each}
 use Rattle.span_query.specs.Groups.{int_of, total, without_nulls, lesser, greater}
+use Rattle.span_query.proofs.Results.{concat_map-append}
 use Rattle.span_groups.specs.declared.sum.Sum.{Sum}
 use Rattle.span_groups.specs.declared.aggregate.AggregateState.{AggregateState}
 use Rattle.span_groups.specs.declared.aggregate.AggregateState.TheVariants as state
 use Rattle.span_groups.specs.States.{best, better_of, HasCounted, HasTaken, IsStateOf, AreStatesOf}
-use Rattle.span_rows.proofs.Gathering.{concat_map-append}
 
 -- ---- sums
 
@@ -68,16 +69,6 @@ module _ (is_better : Value → Value → Bool)
   best-append (v ∷ vs) (w ∷ ws) =
       ap (λ (u : Value). Some u) (fold-append better v vs (w ∷ ws) ∙ fold-better (fold better v vs) w ws)
 
-less_is : (o : Ordering) → is_lt o ≡ true → o ≡ Less
-less_is Less e = refl
-less_is Equal e = absurd cc
-less_is Greater e = absurd cc
-
-greater_is : (o : Ordering) → is_gt o ≡ true → o ≡ Greater
-greater_is Greater e = refl
-greater_is Less e = absurd cc
-greater_is Equal e = absurd cc
-
 not_less : (o : Ordering) → is_lt o ≡ false → is_le (ordering_reverse o) ≡ true
 not_less Less e = absurd cc
 not_less Equal e = refl
@@ -92,24 +83,24 @@ turned : (x y : Value) (o : Ordering) → value_order x y ≡ o → value_order 
 turned x y o e = value_order_total.antisymm y x ∙ ap ordering_reverse e
 
 lesser_onward : (x y z : Value) → is_lt (value_order z y) ≡ true → is_lt (value_order y x) ≡ true → is_lt (value_order z x) ≡ true
-lesser_onward x y z a b = ap is_lt (value_order_total.trans z y x (less_is _ a) (less_is _ b))
+lesser_onward x y z a b = ap is_lt (value_order_total.trans z y x (is_less _ a) (is_less _ b))
 
 lesser_over : (x y z : Value) → is_lt (value_order z x) ≡ true → is_lt (value_order y x) ≡ false → is_lt (value_order z y) ≡ true
 lesser_over x y z a b = elim (is_lt (value_order z y)) as (λ d. is_lt (value_order z y) ≡ d → d ≡ true) [
   | true ↦ λ e. refl
   | false ↦ λ e.
       let not_after : is_le (value_order y z) ≡ true = ap is_le (turned z y (value_order z y) refl) ∙ not_less (value_order z y) e in
-      let less : value_order y x ≡ Less = le_lt_trans value_order_total y z x not_after (less_is _ a) in
+      let less : value_order y x ≡ Less = le_lt_trans value_order_total y z x not_after (is_less _ a) in
       sym b ∙ ap is_lt less
 ] refl
 
 greater_onward : (x y z : Value) → is_gt (value_order z y) ≡ true → is_gt (value_order y x) ≡ true → is_gt (value_order z x) ≡ true
 greater_onward x y z a b =
-    ap is_gt (turned x z Less (value_order_total.trans x y z (turned y x Greater (greater_is _ b)) (turned z y Greater (greater_is _ a))))
+    ap is_gt (turned x z Less (value_order_total.trans x y z (turned y x Greater (is_greater _ b)) (turned z y Greater (is_greater _ a))))
 
 greater_over : (x y z : Value) → is_gt (value_order z x) ≡ true → is_gt (value_order y x) ≡ false → is_gt (value_order z y) ≡ true
 greater_over x y z a b =
-    ap is_gt (turned y z Less (le_lt_trans value_order_total y x z (not_greater _ b) (turned z x Greater (greater_is _ a))))
+    ap is_gt (turned y z Less (le_lt_trans value_order_total y x z (not_greater _ b) (turned z x Greater (is_greater _ a))))
 
 least-append : (vs ws : List Value) → best lesser (vs ++ ws) ≡ better_of lesser (best lesser vs) (best lesser ws)
 least-append = best-append (λ w v. is_lt (value_order w v)) lesser_onward lesser_over

@@ -2,20 +2,22 @@
 use Rattle.std.proofs.Common.{◌≡◌, ℕ, ◌+◌, ◌<◌, ◌≤◌, ◌^◌, true, false, List, [], ◌∷◌, ◌++◌, length, get_or, drop, Any, Option, Some, None, Result, Err, refl, sym, ap, ◌∙◌, subst, append_assoc, arith}
 use Rattle.std.proofs.lemmas.List.{append-nil, drop_all, length-append}
 use Rattle.std.proofs.lemmas.Option.{same_Some}
+use Rattle.span_value.proofs.Lists.{drop_read}
 use Rattle.span_expr.specs.declared.expr.Expr.{Expr}
 use Rattle.span_expr.specs.declared.cell.Failure.{Failure}
 use Rattle.span_expr.specs.declared.cell.Failure.TheVariants as failure
 use Rattle.span_query.specs.declared.query.Grouping.{Grouping}
 use Rattle.span_query.specs.Rows.{Row, Rows, ◌>>=◌, append_results, keep_if, holds, filter_where}
 use Rattle.span_query.specs.Groups.{groups}
-use Rattle.span_groups.specs.declared.aggregate.AggregateState.{AggregateState}
+use Rattle.span_query.proofs.Results.{filter_where-nil, nil-append_results}
+use Rattle.span_groups.specs.declared.aggregate.State.{State}
 use Rattle.span_groups.specs.declared.group.GroupLists.{GroupLists}
 use Rattle.span_rows.specs.RowPlaces.{rows_at}
 use Rattle.span_rows.specs.Answers.{Gives}
 use Rattle.span_rows.specs.Filtering.{holds_where}
 use Rattle.span_groups.specs.States.{operand_at}
 use Rattle.span_groups.specs.GroupStates.{keys_at, AreGroupLists, AreGroupsWhere, CanCountRow, HaveKeys}
-use Rattle.span_rows.proofs.Gathering.{drop_at, gathered_at, nil-append_results, one_more, one_less, one_fails, then_fails}
+use Rattle.span_rows.proofs.Gathering.{gathered_at, one_more, one_less, one_fails, then_fails}
 use Rattle.span_groups.proofs.Shown.{groups-fault}
 
 -- before row i, where these are the groups so far
@@ -30,14 +32,10 @@ abbrev judged : Option Expr → Row → Rows
 judged filter row = holds_where filter row >>= (λ b. Some (keep_if row b))
 
 kept_at : (filter : Option Expr) (rows : List Row) (i : ℕ) (row : Row) → i < length rows → row ≡ get_or rows i row → filter_where filter (drop i rows) ≡ append_results (judged filter row) (filter_where filter (drop (i + 1) rows))
-kept_at None rows i row inside is = ap (λ (l : List Row). Some l) (drop_at rows i row inside is)
+kept_at None rows i row inside is = ap (λ (l : List Row). Some l) (drop_read rows i row inside is)
 kept_at (Some e) rows i row inside is = gathered_at (λ row. holds e row >>= (λ b. Some (keep_if row b))) rows i row inside is
 
-kept_nil : (filter : Option Expr) → filter_where filter [] ≡ Some []
-kept_nil None = refl
-kept_nil (Some e) = refl
-
-module _ (filter : Option Expr) (g : Grouping) (rows : List Row) (i : ℕ) (keys : List Row) (states : List AggregateState) (passed : HavePassed filter g rows i keys states) where
+module _ (filter : Option Expr) (g : Grouping) (rows : List Row) (i : ℕ) (keys : List Row) (states : List State) (passed : HavePassed filter g rows i keys states) where
   module _ (row : Row) (inside : i < length rows) (is : row ≡ get_or rows i row) where
     next : filter_where filter (drop i rows) ≡ append_results (judged filter row) (filter_where filter (drop (i + 1) rows))
     next = kept_at filter rows i row inside is
@@ -82,7 +80,7 @@ module _ (filter : Option Expr) (g : Grouping) (rows : List Row) (i : ℕ) (keys
   kept_all past =
       passed.all
       ∙ ap (λ (l : List Row). append_results (Some passed.kept) (filter_where filter l)) (drop_all i rows past)
-      ∙ ap (append_results (Some passed.kept)) (kept_nil filter)
+      ∙ ap (append_results (Some passed.kept)) (filter_where-nil filter)
       ∙ ap (λ (l : List Row). Some l) (append-nil passed.kept)
 
   pub groups_passed : (x : GroupLists) → x.states.items ≡ states → HaveKeys g (rows_at rows x.firsts.items) keys → length rows ≤ i → AreGroupsWhere filter g rows x

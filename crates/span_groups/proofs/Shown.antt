@@ -12,13 +12,14 @@ use Rattle.span_query.specs.declared.query.Aggregate.TheVariants.{CountRows, Of}
 use Rattle.span_query.specs.declared.query.Grouping.{Grouping}
 use Rattle.span_query.specs.Rows.{Row, Rows, OrFault, ◌>>=◌, value_of, append_results, concat_map, each, singleton}
 use Rattle.span_query.specs.Groups.{are_equal, columns_at, group_keys, rows_with, of_values, without_nulls, aggregate, group_row, groups}
+use Rattle.span_query.proofs.Results.{append_results-none, concat_map-append}
 use Rattle.span_groups.specs.StateLists.{Group}
 use Rattle.span_rows.specs.Answers.{Gives, Puts}
 use Rattle.span_rows.specs.Keys.{place_of}
 use Rattle.span_groups.specs.declared.aggregate.AggregateState.{AggregateState}
 use Rattle.span_groups.specs.States.{AreStatesOf, operand_at}
 use Rattle.span_groups.specs.GroupStates.{keys_of, HasTakenRows, AreGroupsOf}
-use Rattle.span_rows.proofs.Gathering.{concat_map-append, one_more, one_fails}
+use Rattle.span_rows.proofs.Gathering.{one_more, one_fails}
 use Rattle.span_rows.proofs.Alike.{are_equal-itself}
 use Rattle.span_rows.proofs.Places.{place_found, place_known, has_key}
 
@@ -77,22 +78,18 @@ module _ (g : Grouping) (rows : List Row) where
 
 -- ---- faults
 
-after_fault : {A : Type 0} (a : OrFault (List A)) → append_results a None ≡ None
-after_fault (Some xs) = refl
-after_fault None = refl
-
 -- where one of them is the fault, all are
 each-fault : {A B : Type 0} (f : A → OrFault B) (before : List A) (x : A) (later : List A) → f x ≡ None → each f (before ++ x ∷ later) ≡ None
 each-fault f before x later fault =
     concat_map-append (λ x. option_map singleton (f x)) before (x ∷ later)
     ∙ ap (λ o. append_results (each f before) (append_results (option_map singleton o) (each f later))) fault
-    ∙ after_fault (each f before)
+    ∙ append_results-none (each f before)
 
 each-any : {A B : Type 0} (f : A → OrFault B) (xs : List A) (k : ℕ) (x : A) → k < length xs → get_or xs k x ≡ x → f x ≡ None → each f xs ≡ None
 each-any f [] k x inside is fault = absurd (omega arith)
 each-any f (y ∷ xs) zero x inside is fault = ap (λ o. append_results (option_map singleton o) (each f xs)) (ap f is ∙ fault)
 each-any f (y ∷ xs) (suc k) x inside is fault =
-    ap (append_results (option_map singleton (f y))) (each-any f xs k x (omega arith) is fault) ∙ after_fault (option_map singleton (f y))
+    ap (append_results (option_map singleton (f y))) (each-any f xs k x (omega arith) is fault) ∙ append_results-none (option_map singleton (f y))
 
 aggregate-fault : (a : Aggregate) (before : List Row) (row : Row) (later : List Row) → operand_at row a ≡ None → aggregate (before ++ row ∷ later) a ≡ None
 aggregate-fault CountRows before row later fault = absurd cc

@@ -14,11 +14,11 @@ use Rattle.span_query.specs.declared.query.Function.{Function}
 use Rattle.span_query.specs.declared.query.Function.TheVariants as function
 use Rattle.span_query.specs.Rows.{Row, OrFault, value_of, append_results, concat_map, singleton, each}
 use Rattle.span_query.specs.Groups.{int_of, total, without_nulls}
+use Rattle.span_query.proofs.Results.{concat_map-append}
 use Rattle.span_groups.specs.declared.sum.Sum.{Sum}
 use Rattle.span_groups.specs.declared.aggregate.AggregateState.{AggregateState}
 use Rattle.span_groups.specs.declared.aggregate.AggregateState.TheVariants as state
 use Rattle.span_groups.specs.States.{HasCounted, HasTaken, IsStateOf}
-use Rattle.span_rows.proofs.Gathering.{concat_map-append}
 
 total-push : (vs : List Value) (v : Value) → total (vs ++ v ∷ []) ≡ total vs +ℤ int_of v
 total-push [] v = omega (arith, ints)

@@ -1,8 +1,8 @@
 -- Why a transaction is not committed, by what was looked at.
-use Rattle.std.proofs.Common.{◌≡◌, ℕ, ◌+◌, ◌<◌, ◌≤◌, max, Bool, true, false, not, ◌&&◌, ◌||◌, ◌==◌, nat_le, List, [], ◌∷◌, length, Some, None, refl, ap, ◌∙◌, arith}
+use Rattle.std.proofs.Common.{◌≡◌, ℕ, ◌+◌, ◌<◌, ◌≤◌, max, Bool, true, false, not, ◌&&◌, ◌||◌, ◌==◌, nat_le, List, [], ◌∷◌, length, Some, None, refl, ap, ◌∙◌}
 use Rattle.std.specs.Prelude.{slice_get}
 use Rattle.std.specs.List.{list_any, list_all}
-use Rattle.std.proofs.lemmas.Bool.Decides.{nat_tests}
+use Rattle.std.proofs.lemmas.Bool.{le-leb, lt-leb}
 use Rattle.span_value.specs.declared.refusal.Refusal.TheVariants as refusal
 use Rattle.span_value.specs.Results.{first_cause}
 use Rattle.span_schema.specs.declared.table.Table.{Table}
@@ -22,12 +22,6 @@ ready_in schema slots t = not (length t.prepared == 0) && list_all (λ m. list_a
 abbrev pub stamp_in : List SlotState → List Prepared → ℕ → ℕ
 stamp_in slots ps latest = max (greatest ps) (max (latest + 1) (if_some (slice_get slots (coordinator_slot ps)) 0 (λ slot_state. slot_state.last) + 1))
 
-late_test : (n : ℕ) → timestamp_end ≤ n → nat_le timestamp_end n ≡ true
-late_test n h = grind (arith, nat_tests)
-
-early_test : (n : ℕ) → n < timestamp_end → nat_le timestamp_end n ≡ false
-early_test n h = grind (arith, nat_tests)
-
 module _ (schema : List Table) (m : Machine) (t : OpenTransaction) (interval : Interval) (still : is_undecided t ≡ true) where
   by_tests : (ready late : Bool) → ready_in schema m.slots t ≡ ready → nat_le timestamp_end (commit_timestamp m t interval) ≡ late
       → commit_refusal schema m t interval ≡ first_cause ((not ready, refusal.WrongState) ∷ (late, refusal.TimestampRange) ∷ [])
@@ -40,7 +34,7 @@ module _ (schema : List Table) (m : Machine) (t : OpenTransaction) (interval : I
   refused_unready unready = by_tests false _ unready refl
 
   pub refused_late : ready_in schema m.slots t ≡ true → timestamp_end ≤ stamp_in m.slots t.prepared interval.latest → commit_refusal schema m t interval ≡ Some refusal.TimestampRange
-  refused_late ready late = by_tests true true ready (late_test (commit_timestamp m t interval) late)
+  refused_late ready late = by_tests true true ready (le-leb timestamp_end (commit_timestamp m t interval) late)
 
   pub accepted_commit : ready_in schema m.slots t ≡ true → stamp_in m.slots t.prepared interval.latest < timestamp_end → commit_refusal schema m t interval ≡ None
-  accepted_commit ready early = by_tests true false ready (early_test (commit_timestamp m t interval) early)
+  accepted_commit ready early = by_tests true false ready (lt-leb timestamp_end (commit_timestamp m t interval) early)

@@ -2,6 +2,7 @@ use Rattle.std.proofs.Common.{◌≡◌, ℕ, ◌<◌, ◌≤◌, ◌^◌, Bool,
 use Rattle.std.specs.Prelude.{filter, find, slice_get}
 use Rattle.std.specs.List.{list_any}
 use Rattle.std.proofs.lemmas.Bool.Decides.{nat_tests}
+use Rattle.std.proofs.lemmas.Bool.{not-true, not-false}
 use Rattle.span_value.specs.declared.refusal.Refusal.{Refusal}
 use Rattle.span_value.specs.declared.refusal.Refusal.TheVariants as refusal
 use Rattle.span_schema.specs.declared.table.Table.{Table}
@@ -10,6 +11,7 @@ use Rattle.span_truetime.specs.Limits.{timestamp_end}
 use Rattle.span_machine.specs.declared.slot.SlotState.{SlotState}
 use Rattle.span_machine.specs.declared.transaction.OpenTransaction.{OpenTransaction}
 use Rattle.span_value.specs.Results.{first_cause}
+use Rattle.span_value.proofs.Lists.{list_any-filter}
 use Rattle.span_machine.specs.Machine.{Machine, refused, unless_refused, if_some, is_transaction, is_undecided, is_prepared_at, has_conflict, have_common_root, mutations_in, mutations_refusal, prepare, prepare_transaction, prepare_refusal, prepare_timestamp, prepared, for_slot, capacity_refusal}
 use Rattle.span_machine.specs.Slots.{holds, root_at, is_at}
 use Rattle.span_transactions.specs.Places.{share_directory_in}
@@ -20,25 +22,9 @@ use Rattle.span_journal.specs.Judged.{MayPrepare, note_cause, note_refusal}
 abbrev pub timestamp_refusal : SlotState → Option Refusal
 timestamp_refusal slot_state = first_cause ((nat_le timestamp_end (prepare_timestamp slot_state), refusal.TimestampRange) ∷ [])
 
-pub not_true : (b : Bool) → not b ≡ true → b ≡ false
-not_true true e = cc
-not_true false e = refl
-
-pub not_false : (b : Bool) → not b ≡ false → b ≡ true
-not_false true e = refl
-not_false false e = cc
-
 -- ---- lists that are filtered
 
 module _ {A : Type 0} (h g : A → Bool) where
-  -- what passes both tests is among what passes the first
-  any_filter : (xs : List A) → list_any (λ x. h x && g x) xs ≡ list_any g (filter h xs)
-  any_filter [] = refl
-  any_filter (x ∷ xs) = elim (h x) as (λ b. ((b && g x) || list_any (λ y. h y && g y) xs) ≡ list_any g (cond b (x ∷ filter h xs) (filter h xs))) [
-    | true ↦ ap (λ b. g x || b) (any_filter xs)
-    | false ↦ any_filter xs
-  ]
-
   -- two tests that agree
   any_same : ((x : A) → h x ≡ g x) → (xs : List A) → list_any h xs ≡ list_any g xs
   any_same same [] = refl
@@ -57,7 +43,7 @@ module _ {A : Type 0} (h g : A → Bool) where
 
 -- the mutations of two lists share a directory that lies in the slot
 shared : (schema : List Table) (slot_state : SlotState) (ms ns : List CheckedMutation) → share_directory_in schema slot_state ms ns ≡ have_common_root schema (mutations_in schema slot_state ms) ns
-shared schema slot_state ms ns = any_filter (λ m. holds schema slot_state (root_at schema m)) (λ m. list_any (is_at schema (root_at schema m)) ns) ms
+shared schema slot_state ms ns = list_any-filter (λ m. holds schema slot_state (root_at schema m)) (λ m. list_any (is_at schema (root_at schema m)) ns) ms
 
 -- a transaction that is prepared at the slot shares a directory there
 pub conflict_is : (schema : List Table) (m : Machine) (slot : ℕ) (slot_state : SlotState) (ms : List CheckedMutation)
@@ -99,13 +85,13 @@ module _ (schema : List Table) (m : Machine) (owner txn slot : ℕ) (t : OpenTra
       ∙ ap (λ b. first_cause ((wrong || not some, refusal.WrongState) ∷ (b, refusal.Conflict) ∷ [])) (sym (conflict_is schema m slot slot_state t.mutations) ∙ is_conflict)
 
   pub refused_wrong : not (has_wrong_state slot t) ≡ false → prepare schema m owner txn slot ≡ refused m refusal.WrongState
-  refused_wrong wrong = refused_by refusal.WrongState (refusal_is true has_some in_conflict (not_false (has_wrong_state slot t) wrong) refl refl)
+  refused_wrong wrong = refused_by refusal.WrongState (refusal_is true has_some in_conflict (not-false (has_wrong_state slot t) wrong) refl refl)
 
   pub refused_none : not (has_wrong_state slot t) ≡ true → has_some ≡ false → prepare schema m owner txn slot ≡ refused m refusal.WrongState
-  refused_none right none = refused_by refusal.WrongState (refusal_is false false in_conflict (not_true (has_wrong_state slot t) right) none refl)
+  refused_none right none = refused_by refusal.WrongState (refusal_is false false in_conflict (not-true (has_wrong_state slot t) right) none refl)
 
   pub refused_conflict : not (has_wrong_state slot t) ≡ true → has_some ≡ true → in_conflict ≡ true → prepare schema m owner txn slot ≡ refused m refusal.Conflict
-  refused_conflict right some conflict = refused_by refusal.Conflict (refusal_is false true true (not_true (has_wrong_state slot t) right) some conflict)
+  refused_conflict right some conflict = refused_by refusal.Conflict (refusal_is false true true (not-true (has_wrong_state slot t) right) some conflict)
 
   pub may_prepare : not (has_wrong_state slot t) ≡ true → has_some ≡ true → in_conflict ≡ false → (ms : List CheckedMutation) → ms ≡ mutations_in schema slot_state t.mutations → MayPrepare schema m owner txn slot ms
   may_prepare right some apart ms are = record {
@@ -113,7 +99,7 @@ module _ (schema : List Table) (m : Machine) (owner txn slot : ℕ) (t : OpenTra
     slot_state = slot_state;
     found = found;
     here = here;
-    accepted = refusal_is false true false (not_true (has_wrong_state slot t) right) some apart;
+    accepted = refusal_is false true false (not-true (has_wrong_state slot t) right) some apart;
     mutations = are;
   }
 

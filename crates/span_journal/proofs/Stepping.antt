@@ -2,6 +2,7 @@ use Rattle.std.proofs.Common.{◌≡◌, nat_lt, ℕ, ◌≤◌, ◌<◌, ◌^�
 use Rattle.std.proofs.lemmas.Bool.Decides.{nat_tests}
 use Rattle.std.specs.List.{list_all}
 use Rattle.std.specs.Prelude.{find, option_map, slice_get, slice_set, remove}
+use Rattle.std.proofs.lemmas.Option.{same_Some}
 use Rattle.span_truetime.specs.declared.interval.Interval.{Interval}
 use Rattle.span_schema.specs.declared.table.Table.{Table}
 use Rattle.span_machine.specs.declared.slot.SlotState.{SlotState}
@@ -103,9 +104,6 @@ looked m query leaf slot miss make =
     if_some (find (is_query query) m.queries) (miss refusal.UnknownQuery)
     (λ q. if_some (slice_get q.leaves leaf) (miss refusal.UnknownQuery) (λ l. if_some (slice_get m.slots slot) (miss refusal.NoSlot) (make q l)))
 
-some_why : (a b : Refusal) → Some a ≡ Some b → a ≡ b
-some_why a b e = cc
-
 module _ {A : Type 0} (j : Journaled) (query leaf slot : ℕ) (miss : Refusal → A) (make : OpenQuery → ScanLeaf → SlotState → A) where
   looked_query : (o : Option Pieced) → find (λ p. is_query query p.query) j.queries ≡ o
       → looked (machine_of j) query leaf slot miss make ≡ if_some o (miss refusal.UnknownQuery)
@@ -141,15 +139,15 @@ module _ {A : Type 0} (j : Journaled) (query leaf slot : ℕ) (miss : Refusal �
   looked_missing why = elim (find (λ (p : Pieced). is_query query p.query) j.queries) as (λ o. find (λ (p : Pieced). is_query query p.query) j.queries ≡ o
       → if_some o (Some refusal.UnknownQuery) (λ p. if_some (slice_get p.query.leaves leaf) (Some refusal.UnknownQuery) (λ l. if_some (slice_get j.slots slot) (Some refusal.NoSlot) (λ b. None))) ≡ Some why
       → looked (machine_of j) query leaf slot miss make ≡ miss why) [
-        | None ↦ λ e w. looked_query None e ∙ ap miss (some_why refusal.UnknownQuery why w)
+        | None ↦ λ e w. looked_query None e ∙ ap miss (same_Some refusal.UnknownQuery why w)
         | Some p ↦ λ e. elim (slice_get p.query.leaves leaf) as (λ o. slice_get p.query.leaves leaf ≡ o
             → if_some o (Some refusal.UnknownQuery) (λ l. if_some (slice_get j.slots slot) (Some refusal.NoSlot) (λ b. None)) ≡ Some why
             → looked (machine_of j) query leaf slot miss make ≡ miss why) [
-              | None ↦ λ f w. looked_leaf p e None f ∙ ap miss (some_why refusal.UnknownQuery why w)
+              | None ↦ λ f w. looked_leaf p e None f ∙ ap miss (same_Some refusal.UnknownQuery why w)
               | Some l ↦ λ f. elim (slice_get j.slots slot) as (λ o. slice_get j.slots slot ≡ o
                   → if_some o (Some refusal.NoSlot) (λ b. None) ≡ Some why
                   → looked (machine_of j) query leaf slot miss make ≡ miss why) [
-                    | None ↦ λ g w. looked_slot p e l f None g ∙ ap miss (some_why refusal.NoSlot why w)
+                    | None ↦ λ g w. looked_slot p e l f None g ∙ ap miss (same_Some refusal.NoSlot why w)
                     | Some b ↦ λ g w. absurd (let w : None ≡ Some why = w in cc)
                   ] refl
             ] refl

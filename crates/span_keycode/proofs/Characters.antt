@@ -8,15 +8,11 @@ use Rattle.std.specs.Str.{IsUtf8, chars}
 use Rattle.std.proofs.Math.Utf8.{encode, encodes}
 use Rattle.std.proofs.lemmas.Bool.{cases_lt}
 use Rattle.std.proofs.lemmas.Bool.Decides.{nat_tests}
-use Rattle.std.proofs.lemmas.Str.{encodes-chars}
+use Rattle.std.proofs.lemmas.Str.{encodes-chars, encode_ascii}
 use Rattle.span_keycode.specs.Order.{byte_order, Decides}
 use Rattle.span_keycode.proofs.Order.{then_assoc, decides-byte, decides-less, decides-greater}
 use Rattle.span_value.proofs.Comparisons.{number_less, number_greater}
 use Rattle.span_keycode.proofs.Codes.{decides-cons, two_digits}
-
-one_byte : (c : ℕ) → c < 128 → encode c ≡ c ∷ []
-unfolding encode
-one_byte c h = grind (arith, nat_tests)
 
 two_bytes : (c : ℕ) → 128 ≤ c → c < 2048 → encode c ≡ (192 + c / 64) ∷ (128 + c % 64) ∷ []
 unfolding encode
@@ -110,25 +106,25 @@ both_same c d x y e f p = rw (e, f) p
 decides-character : (c d : ℕ) → Decides (encode c) (encode d) (nat_cmp c d)
 decides-character c d = elim (length_class c) [
   | inl a ↦ elim (length_class d) [
-    | inl b ↦ both_same c d _ _ (one_byte c a) (one_byte d b) (decides-byte c d)
-    | inr (inl b) ↦ lower c d _ _ _ _ (one_byte c a) (two_bytes d b.0 b.1) (omega arith) (omega arith)
-    | inr (inr (inl b)) ↦ lower c d _ _ _ _ (one_byte c a) (three_bytes d b.0 b.1) (omega arith) (omega arith)
-    | inr (inr (inr b)) ↦ lower c d _ _ _ _ (one_byte c a) (four_bytes d b) (omega arith) (omega arith)
+    | inl b ↦ both_same c d _ _ (encode_ascii c a) (encode_ascii d b) (decides-byte c d)
+    | inr (inl b) ↦ lower c d _ _ _ _ (encode_ascii c a) (two_bytes d b.0 b.1) (omega arith) (omega arith)
+    | inr (inr (inl b)) ↦ lower c d _ _ _ _ (encode_ascii c a) (three_bytes d b.0 b.1) (omega arith) (omega arith)
+    | inr (inr (inr b)) ↦ lower c d _ _ _ _ (encode_ascii c a) (four_bytes d b) (omega arith) (omega arith)
   ]
   | inr (inl a) ↦ elim (length_class d) [
-    | inl b ↦ upper c d _ _ _ _ (two_bytes c a.0 a.1) (one_byte d b) (omega arith) (omega arith)
+    | inl b ↦ upper c d _ _ _ _ (two_bytes c a.0 a.1) (encode_ascii d b) (omega arith) (omega arith)
     | inr (inl b) ↦ both_same c d _ _ (two_bytes c a.0 a.1) (two_bytes d b.0 b.1) (decides_two 192 c d)
     | inr (inr (inl b)) ↦ lower c d _ _ _ _ (two_bytes c a.0 a.1) (three_bytes d b.0 b.1) (omega arith) (omega arith)
     | inr (inr (inr b)) ↦ lower c d _ _ _ _ (two_bytes c a.0 a.1) (four_bytes d b) (omega arith) (omega arith)
   ]
   | inr (inr (inl a)) ↦ elim (length_class d) [
-    | inl b ↦ upper c d _ _ _ _ (three_bytes c a.0 a.1) (one_byte d b) (omega arith) (omega arith)
+    | inl b ↦ upper c d _ _ _ _ (three_bytes c a.0 a.1) (encode_ascii d b) (omega arith) (omega arith)
     | inr (inl b) ↦ upper c d _ _ _ _ (three_bytes c a.0 a.1) (two_bytes d b.0 b.1) (omega arith) (omega arith)
     | inr (inr (inl b)) ↦ both_same c d _ _ (three_bytes c a.0 a.1) (three_bytes d b.0 b.1) (decides_three 224 c d)
     | inr (inr (inr b)) ↦ lower c d _ _ _ _ (three_bytes c a.0 a.1) (four_bytes d b) (omega arith) (omega arith)
   ]
   | inr (inr (inr a)) ↦ elim (length_class d) [
-    | inl b ↦ upper c d _ _ _ _ (four_bytes c a) (one_byte d b) (omega arith) (omega arith)
+    | inl b ↦ upper c d _ _ _ _ (four_bytes c a) (encode_ascii d b) (omega arith) (omega arith)
     | inr (inl b) ↦ upper c d _ _ _ _ (four_bytes c a) (two_bytes d b.0 b.1) (omega arith) (omega arith)
     | inr (inr (inl b)) ↦ upper c d _ _ _ _ (four_bytes c a) (three_bytes d b.0 b.1) (omega arith) (omega arith)
     | inr (inr (inr b)) ↦ both_same c d _ _ (four_bytes c a) (four_bytes d b) (decides_four 240 c d)
@@ -137,7 +133,7 @@ decides-character c d = elim (length_class c) [
 
 some_bytes : (c : ℕ) (rest : List ℕ) → (byte_order [] (encode c ++ rest) ≡ Less) × (byte_order (encode c ++ rest) [] ≡ Greater)
 some_bytes c rest = elim (length_class c) [
-  | inl a ↦ (let e = one_byte c a in rw e (refl, refl))
+  | inl a ↦ (let e = encode_ascii c a in rw e (refl, refl))
   | inr (inl a) ↦ (let e = two_bytes c a.0 a.1 in rw e (refl, refl))
   | inr (inr (inl a)) ↦ (let e = three_bytes c a.0 a.1 in rw e (refl, refl))
   | inr (inr (inr a)) ↦ (let e = four_bytes c a in rw e (refl, refl))

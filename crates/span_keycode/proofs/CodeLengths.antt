@@ -21,7 +21,7 @@ tuple_len (c ∷ cs) (v ∷ vs) e =
     let same : length cs ≡ length vs = (let f : suc (length cs) ≡ suc (length vs) = e in omega arith) in
     omega (arith, length-append (column_code c v) (tuple_code cs vs), length_directed c.desc (plain v), tuple_len cs vs same)
 
-values_split : (k : ℕ) (vs : List Value) → values_len (take k vs) + values_len (drop k vs) ≡ values_len vs
+pub values_split : (k : ℕ) (vs : List Value) → values_len (take k vs) + values_len (drop k vs) ≡ values_len vs
 values_split zero vs = omega arith
 values_split (suc k) [] = omega arith
 values_split (suc k) (v ∷ vs) = omega (arith, values_split k vs)

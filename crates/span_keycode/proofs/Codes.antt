@@ -19,6 +19,7 @@ use Rattle.std.proofs.lemmas.Bool.{cases_order}
 use Rattle.std.proofs.Math.Nat.{mul-le-mul_right, mod-lt, pow-suc, pow-succ'}
 use Rattle.std.proofs.Math.Arith.{mod-mul}
 use Rattle.span_value.proofs.Comparisons.{number_less, number_greater, number_equal}
+use Rattle.span_value.proofs.Numbers.{unsigned_end}
 use Rattle.span_keycode.proofs.Order.{then_assoc, decides-append, decides-nothing, decides-byte, decides-less, decides-greater, decides-complement}
 
 -- one byte in front
@@ -85,10 +86,6 @@ same_front : (a : ℕ) (p q : List ℕ) (o : Ordering) → Decides p q o → Dec
 same_front a p q o d = rw (number_equal a a refl) at (decides-cons a a p q o d)
 
 -- a number moved up compares as the number itself
-pub lifted_low : (i : ℤ) → FitsSigned w64 i → to_unsigned i < 2 ^ 64
-lifted_low (pos n) f = omega (arith, ints)
-lifted_low (negsuc n) f = omega (arith, ints)
-
 lifted_order : (i j : ℤ) → FitsSigned w64 i → FitsSigned w64 j → nat_cmp (to_unsigned i) (to_unsigned j) ≡ int_cmp i j
 lifted_order (pos m) (pos n) f g = grind (arith, ints, nat_tests)
 lifted_order (pos m) (negsuc n) f g = grind (arith, ints, nat_tests)
@@ -96,7 +93,7 @@ lifted_order (negsuc m) (pos n) f g = grind (arith, ints, nat_tests)
 lifted_order (negsuc m) (negsuc n) f g = grind (arith, ints, nat_tests)
 
 decides-signed : (i j : ℤ) → FitsSigned w64 i → FitsSigned w64 j → Decides (to_be_bytes w64 (to_unsigned i)) (to_be_bytes w64 (to_unsigned j)) (int_cmp i j)
-decides-signed i j f g = rw (← lifted_order i j f g) (decides-number (to_unsigned i) (to_unsigned j) (lifted_low i f) (lifted_low j g))
+decides-signed i j f g = rw (← lifted_order i j f g) (decides-number (to_unsigned i) (to_unsigned j) (unsigned_end i f) (unsigned_end j g))
 
 marked_less : (p q : List ℕ) → Decides (0 ∷ p) (1 ∷ q) Less
 marked_less p q = decides-less 0 1 p q refl

@@ -6,7 +6,7 @@ use Rattle.std.specs.declared.cmp.Ordering.TheVariants.{Equal}
 use Rattle.std.specs.Borrow.{Bor}
 use Rattle.std.specs.Prelude.{Result, MatchResult}
 use Rattle.std.proofs.lemmas.Result.{MatchResult-weaker}
-use Rattle.std.proofs.lemmas.List.{drop_more, at_drop_all, map-append}
+use Rattle.std.proofs.lemmas.List.{drop_more, at_drop_all, map-append, append-nil}
 use Rattle.std.proofs.lemmas.Bool.Decides.{nat_tests}
 use Rattle.span_value.specs.declared.value.Value.{Value}
 use Rattle.span_schema.specs.declared.layout.KeyPart.{KeyPart}
@@ -58,15 +58,11 @@ left_decided whole bytes code rest part code_after o l e d = record {
       ∙ d.at (code_after ++ x);
 }
 
-pub nothing_more : (xs : List ℕ) → xs ≡ xs ++ []
-nothing_more [] = refl
-nothing_more (x ∷ xs) = ap (λ (ys : List ℕ). x ∷ ys) (nothing_more xs)
-
 -- what the last part answers is the answer
 pub last_part : (whole bytes code rest : List ℕ) → IsLeft whole bytes code rest → (r : Result (Bor (List ℕ)) Ordering)
     → MatchResult r (λ x. rest ≡ code ++ x.now) (λ o. ComparesAs code rest o) → MatchResult r (λ x. bytes ≡ whole ++ x.now) (λ o. ComparesAs whole bytes o)
 last_part whole bytes code rest l r h =
-    MatchResult-weaker r h (λ x e. left_last whole bytes code rest x.now l e) (λ o d. left_decided whole bytes code rest code [] o l (nothing_more code) d)
+    MatchResult-weaker r h (λ x e. left_last whole bytes code rest x.now l e) (λ o d. left_decided whole bytes code rest code [] o l (sym (append-nil code)) d)
 
 -- the first of two parts is the same, or decides
 module _ (whole part code bytes : List ℕ) (both : whole ≡ part ++ code) where
@@ -82,7 +78,7 @@ pub first_directed : (d : Bool) (n : ℕ) (xs : List ℕ) → in_direction d (n 
 first_directed false n xs = refl
 first_directed true n xs = refl
 
-append_directed : (d : Bool) (xs ys : List ℕ) → in_direction d (xs ++ ys) ≡ in_direction d xs ++ in_direction d ys
+pub append_directed : (d : Bool) (xs ys : List ℕ) → in_direction d (xs ++ ys) ≡ in_direction d xs ++ in_direction d ys
 append_directed false xs ys = refl
 append_directed true xs ys = map-append flipped xs ys
 
@@ -97,7 +93,7 @@ zero_directed d b e =
 
 pub more_directed : (d : Bool) (b : ℕ) → (more : List ℕ) × (in_direction d (escaped_byte b []) ≡ in_direction d (b ∷ []) ++ more)
 more_directed d zero = (in_direction d (255 ∷ []), first_directed d 0 (255 ∷ []))
-more_directed d (suc b) = ([], nothing_more (in_direction d (suc b ∷ [])))
+more_directed d (suc b) = ([], sym (append-nil (in_direction d (suc b ∷ []))))
 
 -- what ends a text
 pub end_directed : (d : Bool) (bs : List ℕ) (i : ℕ) → length bs ≤ i → in_direction d (escaped (drop i bs)) ≡ in_direction d (0 ∷ []) ++ in_direction d (1 ∷ [])

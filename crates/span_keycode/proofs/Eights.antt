@@ -1,7 +1,8 @@
 -- The eight bytes of a number.
-use Rattle.std.proofs.Common.{◌≡◌, ℕ, zero, suc, ◌<◌, ◌≤◌, List, [], ◌∷◌, Bool, true, false, refl, ◌∙◌, ap, arith, length, drop, get_or}
+use Rattle.std.proofs.Common.{◌≡◌, ℕ, ◌<◌, ◌≤◌, List, [], ◌∷◌, Bool, true, false, refl, ◌∙◌, ap, arith, length, drop, get_or}
 use Rattle.std.specs.Int.{to_be_bytes, from_be_bytes, w64}
 use Rattle.std.proofs.lemmas.Nat.{be_bytes_8}
+use Rattle.span_value.proofs.Numbers.{bytes_at}
 use Rattle.span_keycode.specs.Order.{flipped}
 use Rattle.span_keycode.specs.Coding.{in_direction, AreBytes}
 
@@ -29,11 +30,6 @@ eight_turned way bs a b c d e f g h len p0 p1 p2 p3 p4 p5 p6 p7 =
     ap (in_direction way) (eight bs len)
     ∙ one_turned way _ a _ _ p0 (one_turned way _ b _ _ p1 (one_turned way _ c _ _ p2 (one_turned way _ d _ _ p3
     (one_turned way _ e _ _ p4 (one_turned way _ f _ _ p5 (one_turned way _ g _ _ p6 (one_turned way _ h _ _ p7 refl)))))))
-
-bytes_at : (bs : List ℕ) → AreBytes bs → (i : ℕ) → get_or bs i 0 < 256
-bytes_at [] f i = omega arith
-bytes_at (b ∷ bs) f zero = f.0
-bytes_at (b ∷ bs) f (suc i) = bytes_at bs f.1 i
 
 -- the number that eight bytes spell is spelled by them
 pub number_spelled : (bs : List ℕ) (n : ℕ) → length bs ≡ 8 → AreBytes bs → n ≡ from_be_bytes w64 bs → to_be_bytes w64 n ≡ bs

@@ -1,25 +1,22 @@
 -- Values that compare as equal are the same, and so are levels.
-use Rattle.std.proofs.Common.{◌≡◌, ℕ, ℤ, ◌<ℤ◌, List, [], ◌∷◌, ◌++◌, Bool, true, false, refl, sym, ◌∙◌, ap, subst, append_assoc, arith}
-use Rattle.std.specs.Ordering.{nat_cmp, int_cmp, ordering_then, MatchOrdering}
-use Rattle.std.specs.Cmp.{int_ranks}
+use Rattle.std.proofs.Common.{◌≡◌, ℕ, List, [], ◌∷◌, ◌++◌, Bool, true, false, refl, sym, ◌∙◌, ap, subst, append_assoc}
+use Rattle.std.specs.Ordering.{nat_cmp}
 use Rattle.std.specs.declared.cmp.Ordering.{Ordering}
 use Rattle.std.specs.declared.cmp.Ordering.TheVariants.{Less, Equal, Greater}
-use Rattle.std.proofs.lemmas.Bool.Decides.{nat_tests}
 use Rattle.std.proofs.lemmas.Map.Lookups.{exact_bytes}
 use Rattle.span_value.specs.declared.value.Value.{Value}
 use Rattle.span_value.specs.declared.value.Value.TheVariants.{Null, Int, Str, Bytes, Bool as Flag}
 use Rattle.span_value.specs.declared.value.Kind.{Kind}
 use Rattle.span_value.specs.declared.value.Kind.TheVariants.{Int as Numbers, Str as Texts, Bytes as Strings, Bool as Flags}
+use Rattle.span_value.proofs.Comparisons.{same_number}
+use Rattle.span_value.proofs.Total.{same_int}
 use Rattle.span_schema.specs.declared.table.Table.{Table}
 use Rattle.span_schema.specs.declared.layout.KeyPart.{KeyPart}
 use Rattle.span_schema.specs.Numbers.{own_key_columns}
 use Rattle.span_keycode.specs.Coding.{bit, Fits, AreFit, apply_direction, value_cmp, column_cmp, tuple_code, tuple_cmp}
 use Rattle.span_keycode.specs.Keys.{Level, level_code, code_of, level_cmp}
-use Rattle.span_keycode.proofs.Order.{no_front}
+use Rattle.span_keycode.proofs.Order.{no_front, then_is_equal}
 use Rattle.span_keycode.proofs.LevelLaws.{AreLevels, decides-level}
-
-exact_int : (i j : ℤ) → int_cmp i j ≡ Equal → i ≡ j
-exact_int i j h = let P : Ordering → Type 0 = λ o. MatchOrdering o (i <ℤ j) (i ≡ j) (j <ℤ i) in subst P h (int_ranks i j)
 
 exact_bit : (a b : Bool) → nat_cmp (bit a) (bit b) ≡ Equal → a ≡ b
 exact_bit true true h = refl
@@ -37,7 +34,7 @@ exact_value k (Int i) Null f g h = absurd (let e : Greater ≡ Equal = h in cc)
 exact_value k (Str i) Null f g h = absurd (let e : Greater ≡ Equal = h in cc)
 exact_value k (Bytes i) Null f g h = absurd (let e : Greater ≡ Equal = h in cc)
 exact_value k (Flag i) Null f g h = absurd (let e : Greater ≡ Equal = h in cc)
-exact_value k (Int i) (Int j) f g h = ap Int (exact_int i j h)
+exact_value k (Int i) (Int j) f g h = ap Int (same_int i j h)
 exact_value k (Str i) (Str j) f g h = ap Str (exact_bytes i j h)
 exact_value k (Bytes i) (Bytes j) f g h = ap Bytes (exact_bytes i j h)
 exact_value k (Flag i) (Flag j) f g h = ap Flag (exact_bit i j h)
@@ -96,11 +93,6 @@ exact_directed true Less h = absurd (let e : Greater ≡ Equal = h in cc)
 exact_directed true Equal h = refl
 exact_directed true Greater h = absurd (let e : Less ≡ Equal = h in cc)
 
-both_equal : (a b : Ordering) → ordering_then a b ≡ Equal → (a ≡ Equal) × (b ≡ Equal)
-both_equal Less b h = absurd (let e : Less ≡ Equal = h in cc)
-both_equal Equal b h = (refl, h)
-both_equal Greater b h = absurd (let e : Greater ≡ Equal = h in cc)
-
 pub exact_column : (c : KeyPart) (v w : Value) → Fits c.kind v → Fits c.kind w → column_cmp c v w ≡ Equal → v ≡ w
 exact_column c v w f g h = exact_value c.kind v w f g (exact_directed c.desc (value_cmp v w) h)
 
@@ -111,19 +103,16 @@ exact_tuple [] [] (w ∷ ws) f g h = absurd g
 exact_tuple (c ∷ cs) [] ws f g h = absurd f
 exact_tuple (c ∷ cs) (v ∷ vs) [] f g h = absurd g
 exact_tuple (c ∷ cs) (v ∷ vs) (w ∷ ws) f g h =
-    let both = both_equal (column_cmp c v w) _ h in
+    let both = then_is_equal (column_cmp c v w) _ h in
     joined v w vs ws (exact_column c v w f.0 g.0 both.0) (exact_tuple cs vs ws f.1 g.1 both.1)
   where
     joined : (a b : Value) (xs ys : List Value) → a ≡ b → xs ≡ ys → a ∷ xs ≡ b ∷ ys
     joined a b xs ys e f = cc
 
-exact_number : (a b : ℕ) → nat_cmp a b ≡ Equal → a ≡ b
-exact_number a b h = grind (arith, nat_tests)
-
 exact_level : (tables : List Table) (l m : Level) → AreFit (own_key_columns tables l.table) l.values → AreFit (own_key_columns tables m.table) m.values → level_cmp tables l m ≡ Equal → l ≡ m
 exact_level tables l m f g h =
-    let both = both_equal (nat_cmp l.table m.table) _ h in
-    let same : l.table ≡ m.table = exact_number l.table m.table both.0 in
+    let both = then_is_equal (nat_cmp l.table m.table) _ h in
+    let same : l.table ≡ m.table = same_number l.table m.table both.0 in
     let R : ℕ → Type 0 = λ t. AreFit (own_key_columns tables t) m.values in
     made l.table m.table l.values m.values same (exact_tuple (own_key_columns tables l.table) l.values m.values f (subst R (sym same) g) both.1)
   where

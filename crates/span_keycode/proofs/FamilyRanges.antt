@@ -1,6 +1,6 @@
 -- Which keys of a family a range holds.
 use Rattle.std.proofs.Common.{◌≡◌, ◌↔◌, ℕ, zero, suc, ◌<◌, List, [], ◌∷◌, ◌++◌, refl, sym, ◌∙◌, ap, subst, append_assoc, arith, length, take, Bool, true, false, not, ◌&&◌}
-use Rattle.std.specs.declared.cmp.Ordering.TheVariants.{Less, Equal, Greater}
+use Rattle.std.specs.declared.cmp.Ordering.TheVariants.{Less}
 use Rattle.std.specs.Int.{to_be_bytes, w64}
 use Rattle.std.proofs.lemmas.Bool.Decides.{nat_tests}
 use Rattle.span_value.specs.declared.value.Value.{Value}
@@ -11,7 +11,7 @@ use Rattle.span_schema.specs.Lineages.{MeetsRules}
 use Rattle.span_schema.specs.Numbers.{IsTable, own_key_columns, key_columns, root_of}
 use Rattle.span_schema.proofs.Judged.{few_tables}
 use Rattle.span_keycode.specs.declared.range.RangeComparison.{RangeComparison}
-use Rattle.span_keycode.specs.Order.{flipped, byte_order}
+use Rattle.span_keycode.specs.Order.{flipped}
 use Rattle.span_keycode.specs.Coding.{AreBytes, Fits, AreFit, to_unsigned, escaped, bit, plain, in_direction, column_code, tuple_code, value_cmp}
 use Rattle.span_keycode.specs.Keys.{own_values, key_code, IsKey}
 use Rattle.span_keycode.specs.Ranges.{low_of, high_of, holds, is_null, compares, IsWithin}
@@ -20,11 +20,12 @@ use Rattle.span_keycode.proofs.Codes.{decides-column, plain_bytes}
 use Rattle.span_keycode.proofs.RootRows.{root_split}
 use Rattle.span_keycode.proofs.RangeLaws.{mark, IsAtBound, verdict, within_where}
 use Rattle.span_value.proofs.Lists.{cons_inj}
+use Rattle.span_keycode.proofs.Bounds.{above_nothing}
 
-flipped_byte : (b : ℕ) → b < 256 → flipped b < 256
+pub flipped_byte : (b : ℕ) → b < 256 → flipped b < 256
 flipped_byte b h = grind (arith, nat_tests)
 
-turned_bytes : (d : Bool) (bs : List ℕ) → AreBytes bs → AreBytes (in_direction d bs)
+pub turned_bytes : (d : Bool) (bs : List ℕ) → AreBytes bs → AreBytes (in_direction d bs)
 turned_bytes false bs f = f
 turned_bytes true [] f = tt
 turned_bytes true (b ∷ bs) f = (flipped_byte b f.0, turned_bytes true bs f.1)
@@ -48,7 +49,7 @@ marked true (Str s) = refl
 marked true (Bytes s) = refl
 marked true (Flag b) = refl
 
-null_first : (w v : Value) → is_null v ≡ false → is_null w ≡ true → value_cmp w v ≡ Less
+pub null_first : (w v : Value) → is_null v ≡ false → is_null w ≡ true → value_cmp w v ≡ Less
 null_first Null Null p e = absurd (let f : true ≡ false = p in cc)
 null_first Null (Int i) p e = refl
 null_first Null (Str s) p e = refl
@@ -73,11 +74,6 @@ nothing op (Int i) e = let f : false ≡ true = e in cc
 nothing op (Str s) e = let f : false ≡ true = e in cc
 nothing op (Bytes s) e = let f : false ≡ true = e in cc
 nothing op (Flag b) e = let f : false ≡ true = e in cc
-
--- and nothing is before no bytes
-before_none : (xs : List ℕ) → byte_order xs [] ≡ Less → ⊥
-before_none [] e = let f : Equal ≡ Less = e in cc
-before_none (x ∷ xs) e = let f : Greater ≡ Less = e in cc
 
 first_taken : (n : ℕ) (w u : Value) (ws us : List Value) → u ∷ us ≡ take n (w ∷ ws) → u ≡ w
 first_taken zero w u ws us e = absurd (let f : u ∷ us ≡ [] = e in cc)
@@ -124,7 +120,7 @@ with_value tables rules n w ws k t c cs root own v f some op =
         ((λ inside. sym (compared op w v some) ∙ both.0 (subst K key inside)), (λ true_here. subst K (sym key) (both.1 (compared op w v some ∙ true_here))))
 
 pub range_of_comparison : RangeOfComparison
-range_of_comparison tables rules n w ws k t c cs root own Null f op = ((λ inside. absurd (before_none _ inside.1)), (λ true_here. absurd (nothing op w true_here)))
+range_of_comparison tables rules n w ws k t c cs root own Null f op = ((λ inside. absurd (above_nothing _ inside.1)), (λ true_here. absurd (nothing op w true_here)))
 range_of_comparison tables rules n w ws k t c cs root own (Int i) f op = with_value tables rules n w ws k t c cs root own (Int i) f refl op
 range_of_comparison tables rules n w ws k t c cs root own (Str s) f op = with_value tables rules n w ws k t c cs root own (Str s) f refl op
 range_of_comparison tables rules n w ws k t c cs root own (Bytes s) f op = with_value tables rules n w ws k t c cs root own (Bytes s) f refl op

@@ -1,5 +1,5 @@
 -- How a coding goes on after the key of a table.
-use Rattle.std.proofs.Common.{◌≡◌, ℕ, ◌+◌, ◌-◌, ◌<◌, List, [], ◌∷◌, ◌++◌, Option, Some, None, refl, sym, ◌∙◌, ap, subst, arith, length, length-append, map, inl, inr, ◌⊎◌}
+use Rattle.std.proofs.Common.{◌≡◌, ℕ, ◌+◌, ◌-◌, ◌<◌, List, [], ◌∷◌, ◌++◌, Option, Some, None, refl, sym, ◌∙◌, ap, subst, arith, length, length-append, map, inl, inr, ◌⊎◌, add-sub_cancel}
 use Rattle.span_value.specs.declared.value.Value.{Value}
 use Rattle.span_schema.specs.declared.table.Table.{Table}
 use Rattle.span_schema.specs.Lineages.{parent_at, above, path_at, MeetsRules}
@@ -7,7 +7,7 @@ use Rattle.span_schema.specs.Numbers.{IsTable, number_of, parent_of, own_key_col
 use Rattle.span_schema.proofs.Paths.{parent_before, path_goes_on}
 use Rattle.span_keycode.specs.Coding.{AreFit, tuple_code}
 use Rattle.span_keycode.specs.Keys.{Level, level_of, code_of, key_code, IsKey}
-use Rattle.span_keycode.proofs.Levels.{by_parents, levels_at, back}
+use Rattle.span_keycode.proofs.Levels.{by_parents, levels_at}
 use Rattle.span_keycode.proofs.LevelLaws.{AreLevels, levels_fit, path_child, path_root}
 use Rattle.span_keycode.proofs.Exact.{levels_begin}
 
@@ -36,7 +36,7 @@ pub last_path : (tables : List Table) (i : ℕ) → last_or None (path_at tables
 last_path tables i = ap (last_or None) (path_goes_on tables i) ∙ last_push None (above (path_at tables) (parent_at tables i)) (i + 1)
 
 parent_here : (tables : List Table) (i : ℕ) (o : Option ℕ) → parent_at tables i ≡ o → parent_of tables (i + 1) ≡ number_of o
-parent_here tables i o e = ap (λ (k : ℕ). number_of (parent_at tables k)) (back i) ∙ ap number_of e
+parent_here tables i o e = ap (λ (k : ℕ). number_of (parent_at tables k)) (add-sub_cancel i 1) ∙ ap number_of e
 
 path_continues : (tables : List Table) (i : ℕ) → i < length tables → Continues tables None (path_at tables i)
 path_continues tables = by_parents tables (λ i. i < length tables → Continues tables None (path_at tables i)) step

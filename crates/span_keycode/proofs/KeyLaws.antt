@@ -1,6 +1,6 @@
 -- The laws of key codings.
-use Rattle.std.proofs.Common.{◌≡◌, ℕ, ◌+◌, ◌-◌, ◌<◌, List, [], ◌∷◌, ◌++◌, Option, Some, None, refl, sym, ◌∙◌, ap, subst, append_assoc, arith, length, map, take}
-use Rattle.std.proofs.lemmas.List.{map-append, take-append-drop}
+use Rattle.std.proofs.Common.{◌≡◌, ℕ, ◌+◌, ◌-◌, ◌<◌, List, [], ◌∷◌, ◌++◌, Option, Some, None, refl, sym, ◌∙◌, ap, subst, append_assoc, arith, length, map, take, add-sub_cancel}
+use Rattle.std.proofs.lemmas.List.{map-append, take-append-drop, append-nil}
 use Rattle.std.proofs.Math.Seq.{take-append_seam}
 use Rattle.span_value.specs.declared.value.Value.{Value}
 use Rattle.span_schema.specs.declared.table.Table.{Table}
@@ -11,7 +11,7 @@ use Rattle.span_schema.proofs.Paths.{parent_before}
 use Rattle.span_keycode.specs.Coding.{AreFit, tuple_code}
 use Rattle.span_keycode.specs.Keys.{Level, own_values_at, level_of, code_of, key_code, IsKey}
 use Rattle.span_keycode.specs.Laws.{OrderOfKeys, OrderInTable, IsAtOrBelow, BeginsOwnRows, OneKey}
-use Rattle.span_keycode.proofs.Levels.{by_parents, key_split, levels_at, keys_short, back}
+use Rattle.span_keycode.proofs.Levels.{by_parents, key_split, levels_at, keys_short}
 use Rattle.span_keycode.proofs.LevelLaws.{AreLevels, fit_length, fit_split, levels_fit, levels_in_order, levels_child, levels_root, own_child, own_root, decides-key, code_append, map_short}
 use Rattle.span_keycode.proofs.Exact.{levels_begin}
 use Rattle.span_keycode.proofs.Going.{tables_of, tables_back, tables_append, last_or, last_path}
@@ -36,12 +36,8 @@ values_append : (ls ms : List Level) → values_of (ls ++ ms) ≡ values_of ls +
 values_append [] ms = refl
 values_append (l ∷ ls) ms = ap (λ (vs : List Value). l.values ++ vs) (values_append ls ms) ∙ sym (append_assoc l.values (values_of ls) (values_of ms))
 
-append_none : (xs : List Value) → xs ++ [] ≡ xs
-append_none [] = refl
-append_none (x ∷ xs) = ap (λ (ys : List Value). x ∷ ys) (append_none xs)
-
 own_here : (tables : List Table) (i : ℕ) (vs : List Value) → values_of (level_of tables vs (i + 1) ∷ []) ≡ own_values_at tables i vs
-own_here tables i vs = append_none _ ∙ ap (λ (k : ℕ). own_values_at tables k vs) (back i)
+own_here tables i vs = append-nil _ ∙ ap (λ (k : ℕ). own_values_at tables k vs) (add-sub_cancel i 1)
 
 pub values_back : (tables : List Table) → MeetsRules tables → (i : ℕ) → i < length tables → (vs : List Value) → AreFit (key_at tables i) vs → values_of (levels_at tables i vs) ≡ vs
 values_back tables rules = by_parents tables (λ i. i < length tables → (vs : List Value) → AreFit (key_at tables i) vs → values_of (levels_at tables i vs) ≡ vs) step
@@ -93,17 +89,13 @@ begins_own_rows tables rules n m vs ws k l = (
   below tables rules n m vs ws k l,
 )
 
-append_nothing : (xs : List ℕ) → xs ++ [] ≡ xs
-append_nothing [] = refl
-append_nothing (x ∷ xs) = ap (λ (ys : List ℕ). x ∷ ys) (append_nothing xs)
-
 no_more : (tables : List Table) (more : List Level) → [] ≡ code_of tables more → more ≡ []
 no_more tables [] e = refl
 no_more tables (l ∷ ls) e = absurd (let f : [] ≡ l.table ∷ (tuple_code (own_key_columns tables l.table) l.values ++ code_of tables ls) = e in cc)
 
 pub one_key : OneKey
 one_key tables rules n m vs ws k l e =
-    let begins = levels_begin tables (levels_at tables (n - 1) vs) (levels_at tables (m - 1) ws) [] (known tables rules n vs k) (known tables rules m ws l) (append_nothing (key_code tables n vs) ∙ e) in
+    let begins = levels_begin tables (levels_at tables (n - 1) vs) (levels_at tables (m - 1) ws) [] (known tables rules n vs k) (known tables rules m ws l) (append-nil (key_code tables n vs) ∙ e) in
     let none = no_more tables begins.0 begins.2 in
     let same : levels_at tables (m - 1) ws ≡ levels_at tables (n - 1) vs = begins.1 ∙ ap (λ (ls : List Level). levels_at tables (n - 1) vs ++ ls) none ∙ levels_none (levels_at tables (n - 1) vs) in
     let paths : path_at tables (m - 1) ≡ path_at tables (n - 1) = sym (tables_back tables ws (path_at tables (m - 1))) ∙ ap tables_of same ∙ tables_back tables vs (path_at tables (n - 1)) in

@@ -1,6 +1,6 @@
 -- Reading a key, level by level.
-use Rattle.std.proofs.Common.{◌≡◌, ℕ, zero, suc, ◌+◌, ◌-◌, ◌<◌, ◌≤◌, List, [], ◌∷◌, ◌++◌, Option, Some, None, refl, sym, ◌∙◌, ap, subst, append_assoc, arith, length, length-drop, take, drop, get_or, inl, inr}
-use Rattle.std.proofs.lemmas.List.{drop-drop}
+use Rattle.std.proofs.Common.{◌≡◌, ℕ, ◌+◌, ◌-◌, ◌<◌, ◌≤◌, List, [], ◌∷◌, ◌++◌, Option, Some, None, refl, sym, ◌∙◌, ap, subst, append_assoc, arith, length, length-drop, take, drop, get_or, inl, inr}
+use Rattle.std.proofs.lemmas.List.{drop-drop, drop_all, drop_more}
 use Rattle.std.proofs.Math.Seq.{take-append_seam, drop-append_seam}
 use Rattle.span_value.specs.declared.value.Value.{Value}
 use Rattle.span_schema.specs.declared.table.Table.{Table}
@@ -72,14 +72,6 @@ pub record IsRead (tables : List Table) (bytes : List ℕ) (o : Option ℕ) (vs 
   pub code : bytes ≡ code_above tables o vs ++ drop at bytes
   pub within : at ≤ length bytes
 
-next_byte : (bs : List ℕ) (at : ℕ) → at < length bs → drop at bs ≡ get_or bs at 0 ∷ drop (at + 1) bs
-next_byte bs at h = by_suc bs at h ∙ ap (λ (n : ℕ). get_or bs at 0 ∷ drop n bs) (let e : suc at ≡ at + 1 = omega arith in e)
-  where
-    by_suc : (cs : List ℕ) (i : ℕ) → i < length cs → drop i cs ≡ get_or cs i 0 ∷ drop (suc i) cs
-    by_suc [] i h = absurd (let l : i < 0 = h in omega arith)
-    by_suc (c ∷ cs) zero h = refl
-    by_suc (c ∷ cs) (suc i) h = by_suc cs i (omega arith)
-
 pub read_more : (tables : List Table) → MeetsRules tables → (bs : List ℕ) (o : Option ℕ) (vs ws : List Value) (at w : ℕ) (c : ℕ) → IsRead tables bs o vs at → at < length bs → c ≡ get_or bs at 0
     → IsTable tables c → parent_of tables c ≡ o → IsTuple (own_key_columns tables c) (drop (at + 1) bs) vs ws w → IsRead tables bs (Some c) ws (at + (1 + w))
 read_more tables rules bs o vs ws at w c r h byte t p tuple =
@@ -88,7 +80,7 @@ read_more tables rules bs o vs ws at w c r h byte t p tuple =
     let code = tuple_code (own_key_columns tables c) tuple.values in
     let rest : drop w (drop (at + 1) bs) ≡ drop (at + (1 + w)) bs = drop-drop w (at + 1) bs ∙ ap (λ (n : ℕ). drop n bs) (let e : at + 1 + w ≡ at + (1 + w) = omega arith in e) in
     let here : drop at bs ≡ c ∷ (code ++ drop (at + (1 + w)) bs) =
-    next_byte bs at h ∙ ap (λ (n : ℕ). n ∷ drop (at + 1) bs) (sym byte) ∙ ap (λ (xs : List ℕ). c ∷ xs) (tuple.code ∙ ap (λ (xs : List ℕ). code ++ xs) rest) in
+    drop_more bs at 0 h ∙ ap (λ (n : ℕ). n ∷ drop (at + 1) bs) (sym byte) ∙ ap (λ (xs : List ℕ). c ∷ xs) (tuple.code ∙ ap (λ (xs : List ℕ). code ++ xs) rest) in
     subst P (sym tuple.added) (record {
       known = more.0;
       code = r.code ∙ ap (λ (xs : List ℕ). code_above tables o vs ++ xs) here ∙ sym (append_assoc (code_above tables o vs) (c ∷ code) (drop (at + (1 + w)) bs)) ∙ ap (λ (xs : List ℕ). xs ++ drop (at + (1 + w)) bs) (sym more.1);
@@ -100,7 +92,7 @@ stuck : (tables : List Table) → MeetsRules tables → (bs : List ℕ) (o : Opt
     → (Next tables o (drop at bs) → ⊥) → IsUncoded tables bs
 stuck tables rules bs o vs at r h against = record {
   none = λ n ws k e.
-      let next = next_byte bs at h in
+      let next = drop_more bs at 0 h in
       elim (goes_on tables rules o vs (drop at bs) r.known n ws k (sym r.code ∙ e)) [
         | inl none ↦ (let f : [] ≡ get_or bs at 0 ∷ drop (at + 1) bs = sym none ∙ next in cc)
         | inr more ↦ against more
@@ -110,7 +102,7 @@ stuck tables rules bs o vs at r h against = record {
 pub read_stop : (tables : List Table) → MeetsRules tables → (bs : List ℕ) (o : Option ℕ) (vs : List Value) (at c : ℕ) → IsRead tables bs o vs at → at < length bs → c ≡ get_or bs at 0
     → (IsTable tables c → parent_of tables c ≡ o → ⊥) → IsUncoded tables bs
 read_stop tables rules bs o vs at c r h byte against = stuck tables rules bs o vs at r h (λ next.
-    let same : c ≡ next.table = byte ∙ (cons_inj _ _ _ _ (sym (next_byte bs at h) ∙ next.code)).0 in
+    let same : c ≡ next.table = byte ∙ (cons_inj _ _ _ _ (sym (drop_more bs at 0 h) ∙ next.code)).0 in
     let P : ℕ → Type 0 = λ n. IsTable tables n in
     let Q : ℕ → Type 0 = λ n. parent_of tables n ≡ o in
     against (subst P (sym same) next.is) (subst Q (sym same) next.parent))
@@ -118,16 +110,10 @@ read_stop tables rules bs o vs at c r h byte against = stuck tables rules bs o v
 pub read_none : (tables : List Table) → MeetsRules tables → (bs : List ℕ) (o : Option ℕ) (vs : List Value) (at c : ℕ) → IsRead tables bs o vs at → at < length bs → c ≡ get_or bs at 0
     → IsNoTuple (own_key_columns tables c) (drop (at + 1) bs) → IsUncoded tables bs
 read_none tables rules bs o vs at c r h byte against = stuck tables rules bs o vs at r h (λ next.
-    let both = cons_inj _ _ _ _ (sym (next_byte bs at h) ∙ next.code) in
+    let both = cons_inj _ _ _ _ (sym (drop_more bs at 0 h) ∙ next.code) in
     let same : next.table ≡ c = sym (byte ∙ both.0) in
     let P : ℕ → Type 0 = λ n. AreFit (own_key_columns tables n) next.values in
     against.none next.values next.more (subst P same next.fits) (both.1 ∙ ap (λ (n : ℕ). tuple_code (own_key_columns tables n) next.values ++ next.more) same))
 
-dropped_all : (bs : List ℕ) (at : ℕ) → length bs ≤ at → drop at bs ≡ []
-dropped_all [] zero h = refl
-dropped_all [] (suc at) h = refl
-dropped_all (b ∷ bs) zero h = absurd (let l : suc (length bs) ≤ 0 = h in omega arith)
-dropped_all (b ∷ bs) (suc at) h = dropped_all bs at (omega arith)
-
 pub read_nothing : (tables : List Table) (bs : List ℕ) (vs : List Value) (at : ℕ) → IsRead tables bs None vs at → length bs ≤ at → IsUncoded tables bs
-read_nothing tables bs vs at r h = record { none = λ n ws k e. code_some tables n ws (sym (r.code ∙ dropped_all bs at h) ∙ e) }
+read_nothing tables bs vs at r h = record { none = λ n ws k e. code_some tables n ws (sym (r.code ∙ drop_all at bs h) ∙ e) }

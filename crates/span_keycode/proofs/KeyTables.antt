@@ -1,9 +1,8 @@
 -- Walking over a key, level by level.
-use Rattle.std.proofs.Common.{◌≡◌, ℕ, zero, suc, ◌+◌, ◌-◌, ◌<◌, ◌≤◌, List, [], ◌∷◌, ◌++◌, Option, Some, None, refl, sym, ◌∙◌, ap, subst, append_assoc, arith, length, length-drop, drop, get_or}
-use Rattle.std.proofs.lemmas.List.{drop-drop}
+use Rattle.std.proofs.Common.{◌≡◌, ℕ, ◌+◌, ◌-◌, ◌<◌, ◌≤◌, List, [], ◌∷◌, ◌++◌, Option, Some, None, refl, sym, ◌∙◌, ap, subst, arith, length, drop, get_or}
+use Rattle.std.proofs.lemmas.List.{drop-drop, drop_all, drop_more}
 use Rattle.span_value.specs.declared.value.Value.{Value}
 use Rattle.span_schema.specs.declared.table.Table.{Table}
-use Rattle.span_schema.specs.declared.layout.KeyPart.{KeyPart}
 use Rattle.span_schema.specs.Lineages.{path_at, MeetsRules}
 use Rattle.span_schema.specs.Numbers.{IsTable, own_key_columns}
 use Rattle.span_keycode.specs.Coding.{AreFit, tuple_code}
@@ -12,7 +11,6 @@ use Rattle.span_keycode.specs.Roots.{IsCoding, IsRootPrefix, IsTupleSkip, IsTabl
 use Rattle.span_keycode.proofs.Levels.{levels_at}
 use Rattle.span_keycode.proofs.LevelLaws.{AreLevels}
 use Rattle.span_keycode.proofs.Going.{Continues, last_or, last_path, tables_of, tables_back, levels_on}
-use Rattle.span_keycode.proofs.KeyLaws.{place_within}
 use Rattle.span_keycode.proofs.RootRows.{root_begins}
 use Rattle.span_value.proofs.Lists.{cons_inj}
 
@@ -37,14 +35,6 @@ all_left tables rules n vs k bs e =
       code = e;
       last = ap (last_or None) path ∙ last_path tables (n - 1) ∙ ap (λ (m : ℕ). Some m) number;
     }
-
-pub byte_at : (bs : List ℕ) (at : ℕ) → at < length bs → drop at bs ≡ get_or bs at 0 ∷ drop (at + 1) bs
-byte_at bs at h = by_suc bs at h ∙ ap (λ (n : ℕ). get_or bs at 0 ∷ drop n bs) (let e : suc at ≡ at + 1 = omega arith in e)
-  where
-    by_suc : (cs : List ℕ) (i : ℕ) → i < length cs → drop i cs ≡ get_or cs i 0 ∷ drop (suc i) cs
-    by_suc [] i h = absurd (let l : i < 0 = h in omega arith)
-    by_suc (c ∷ cs) zero h = refl
-    by_suc (c ∷ cs) (suc i) h = by_suc cs i (omega arith)
 
 -- the number of the next level is that of a table
 pub next_table : (tables : List Table) (above : Option ℕ) (n c : ℕ) (more : List ℕ) → KeyLeft tables above (c ∷ more) n → IsTable tables c
@@ -84,12 +74,6 @@ none_left tables above n k = by_levels k.levels k.code k.last
     by_levels [] e last = last
     by_levels (l ∷ ls) e last = absurd (let g : [] ≡ l.table ∷ (tuple_code (own_key_columns tables l.table) l.values ++ code_of tables ls) = e in cc)
 
-pub dropped_all : (bs : List ℕ) (at : ℕ) → length bs ≤ at → drop at bs ≡ []
-dropped_all [] zero h = refl
-dropped_all [] (suc at) h = refl
-dropped_all (b ∷ bs) zero h = absurd (let l : suc (length bs) ≤ 0 = h in omega arith)
-dropped_all (b ∷ bs) (suc at) h = dropped_all bs at (omega arith)
-
 -- of each key of which the bytes are the coding, what is left after a place
 abbrev pub LeftAt : List Table → List ℕ → Option ℕ → ℕ → Type 0
 LeftAt tables bs above at = (n : ℕ) (vs : List Value) → IsKey tables n vs → bs ≡ key_code tables n vs → KeyLeft tables above (drop at bs) n
@@ -101,19 +85,19 @@ left_after tables bs above at w h s left n vs k e =
     let P : List ℕ → Type 0 = λ xs. KeyLeft tables above xs n in
     let Q : List ℕ → Type 0 = λ xs. KeyLeft tables (Some c) xs n in
     let rest : drop w (drop (at + 1) bs) ≡ drop (at + (1 + w)) bs = drop-drop w (at + 1) bs ∙ ap (λ (m : ℕ). drop m bs) (let e : at + 1 + w ≡ at + (1 + w) = omega arith in e) in
-    subst Q rest (level_passed tables above n c w (drop (at + 1) bs) (subst P (byte_at bs at h) (left n vs k e)) s)
+    subst Q rest (level_passed tables above n c w (drop (at + 1) bs) (subst P (drop_more bs at 0 h) (left n vs k e)) s)
 
 -- where the next number is none of a table, no key is coded
 pub no_table : (tables : List Table) (bs : List ℕ) (above : Option ℕ) (at : ℕ) → at < length bs → (IsTable tables (get_or bs at 0) → ⊥) → LeftAt tables bs above at → IsTableOf tables bs None
 no_table tables bs above at h against left = record {
   of = λ n vs k e.
       let P : List ℕ → Type 0 = λ xs. KeyLeft tables above xs n in
-      absurd (against (next_table tables above n (get_or bs at 0) (drop (at + 1) bs) (subst P (byte_at bs at h) (left n vs k e))));
+      absurd (against (next_table tables above n (get_or bs at 0) (drop (at + 1) bs) (subst P (drop_more bs at 0 h) (left n vs k e))));
 }
 
 pub table_found : (tables : List Table) (bs : List ℕ) (above : Option ℕ) (at : ℕ) → length bs ≤ at → LeftAt tables bs above at → IsTableOf tables bs above
 table_found tables bs above at h left = record {
-  of = λ n vs k e. let P : List ℕ → Type 0 = λ xs. KeyLeft tables above xs n in none_left tables above n (subst P (dropped_all bs at h) (left n vs k e));
+  of = λ n vs k e. let P : List ℕ → Type 0 = λ xs. KeyLeft tables above xs n in none_left tables above n (subst P (drop_all at bs h) (left n vs k e));
 }
 
 -- bytes that begin with no table's number code no key

@@ -1,9 +1,9 @@
 -- What follows for keys from the law of one column.
-use Rattle.std.proofs.Common.{◌≡◌, ℕ, zero, suc, ◌+◌, ◌-◌, ◌<◌, ◌≤◌, List, [], ◌∷◌, ◌++◌, Option, Some, None, refl, sym, ◌∙◌, ap, subst, arith, length, map, take, drop, append_assoc, inl, inr}
+use Rattle.std.proofs.Common.{◌≡◌, ℕ, zero, suc, ◌+◌, ◌-◌, ◌<◌, List, [], ◌∷◌, ◌++◌, Option, Some, None, refl, sym, ◌∙◌, ap, subst, arith, length, map, take, drop, append_assoc, inl, inr, add-sub_cancel}
 use Rattle.std.specs.List.{AllByRecursion}
 use Rattle.std.specs.Ordering.{ordering_then}
 use Rattle.std.specs.declared.cmp.Ordering.{Ordering}
-use Rattle.std.proofs.lemmas.List.{map-append}
+use Rattle.std.proofs.lemmas.List.{map-append, take-take, append-nil}
 use Rattle.std.proofs.lemmas.Bool.{cases_order}
 use Rattle.span_value.specs.declared.value.Value.{Value}
 use Rattle.span_schema.specs.declared.table.Table.{Table}
@@ -17,13 +17,7 @@ use Rattle.span_keycode.specs.Keys.{Level, own_values_at, own_values, level_of, 
 use Rattle.span_keycode.proofs.Order.{then_assoc, decides-append, decides-less, decides-greater}
 use Rattle.span_value.proofs.Comparisons.{number_less, number_greater, number_equal}
 use Rattle.span_keycode.proofs.Codes.{decides-cons, decides-tuple}
-use Rattle.span_keycode.proofs.Levels.{by_parents, key_split, key_root, levels_at, keys_short, back, IsShort}
-
-pub take_short : {X : Type 0} (k n : ℕ) (xs : List X) → k ≤ n → take k (take n xs) ≡ take k xs
-take_short zero n xs h = refl
-take_short (suc k) zero xs h = absurd (omega arith)
-take_short (suc k) (suc n) [] h = refl
-take_short {X} (suc k) (suc n) (x ∷ xs) h = ap (λ (ys : List X). x ∷ ys) (take_short k n xs (omega arith))
+use Rattle.span_keycode.proofs.Levels.{by_parents, key_split, key_root, levels_at, keys_short, IsShort}
 
 take_all : {X : Type 0} (n : ℕ) (xs : List X) → length xs ≡ n → take n xs ≡ xs
 take_all n [] e = none n
@@ -69,7 +63,7 @@ code_append tables (l ∷ ls) ms = ap (λ (bs : List ℕ). level_code tables l +
 pub map_short : (tables : List Table) (ns : List ℕ) (most : ℕ) (vs : List Value) → AllByRecursion (IsShort tables most) ns → map (level_of tables vs) ns ≡ map (level_of tables (take most vs)) ns
 map_short tables [] most vs f = refl
 map_short tables (n ∷ ns) most vs f =
-    let here : take (length (key_columns tables n)) vs ≡ take (length (key_columns tables n)) (take most vs) = sym (take_short (length (key_columns tables n)) most vs f.0) in
+    let here : take (length (key_columns tables n)) vs ≡ take (length (key_columns tables n)) (take most vs) = sym (take-take (length (key_columns tables n)) most vs f.0) in
     let l : level_of tables vs n ≡ level_of tables (take most vs) n =
     ap (λ (ws : List Value). let level : Level = record { table = n; values = drop (columns_above tables (parent_at tables (n - 1))) ws } in level) here in
     joined (level_of tables vs n) (level_of tables (take most vs) n) (map (level_of tables vs) ns) (map (level_of tables (take most vs)) ns) l (map_short tables ns most vs f.1)
@@ -105,7 +99,7 @@ own_root tables i e vs len =
 
 -- the level of a table's own key columns, by its place
 pub level_here : (tables : List Table) (i : ℕ) (vs : List Value) → level_code tables (level_of tables vs (i + 1)) ≡ (i + 1) ∷ tuple_code (own_key_at tables i) (own_values_at tables i vs)
-level_here tables i vs = ap (λ (k : ℕ). (i + 1) ∷ tuple_code (own_key_at tables k) (own_values_at tables k vs)) (back i)
+level_here tables i vs = ap (λ (k : ℕ). (i + 1) ∷ tuple_code (own_key_at tables k) (own_values_at tables k vs)) (add-sub_cancel i 1)
 
 abbrev pub AreLevels : List Table → List Level → Type 0
 AreLevels tables [] = Unit {0}
@@ -120,7 +114,7 @@ pub levels_fit : (tables : List Table) → MeetsRules tables → (i : ℕ) → i
 levels_fit tables rules = by_parents tables (λ i. i < length tables → (vs : List Value) → AreFit (key_at tables i) vs → AreLevels tables (levels_at tables i vs)) step
   where
     own : (i : ℕ) (vs : List Value) → AreFit (own_key_at tables i) (own_values_at tables i vs) → AreFit (own_key_columns tables (i + 1)) (own_values tables (i + 1) vs)
-    own i vs f = let P : ℕ → Type 0 = λ k. AreFit (own_key_at tables k) (own_values_at tables k vs) in subst P (sym (back i)) f
+    own i vs f = let P : ℕ → Type 0 = λ k. AreFit (own_key_at tables k) (own_values_at tables k vs) in subst P (sym (add-sub_cancel i 1)) f
 
     step : (i : ℕ) → ((p : ℕ) → parent_at tables i ≡ Some p → p < length tables → (vs : List Value) → AreFit (key_at tables p) vs → AreLevels tables (levels_at tables p vs))
         → i < length tables → (vs : List Value) → AreFit (key_at tables i) vs → AreLevels tables (levels_at tables i vs)
@@ -221,12 +215,8 @@ levels_in_order tables (l ∷ ls) [] f g = refl
 levels_in_order tables (l ∷ ls) (m ∷ ms) f g =
     (decides-level tables l m f.0 g.0).at (code_of tables ls) (code_of tables ms) ∙ ap (ordering_then (level_cmp tables l m)) (levels_in_order tables ls ms f.1 g.1)
 
-append_nothing : (xs : List ℕ) → xs ++ [] ≡ xs
-append_nothing [] = refl
-append_nothing (x ∷ xs) = ap (λ (ys : List ℕ). x ∷ ys) (append_nothing xs)
-
 pub own_level : (tables : List Table) (i : ℕ) (vs : List Value) → code_of tables (level_of tables vs (i + 1) ∷ []) ≡ (i + 1) ∷ tuple_code (own_key_at tables i) (own_values_at tables i vs)
-own_level tables i vs = append_nothing (level_code tables (level_of tables vs (i + 1))) ∙ level_here tables i vs
+own_level tables i vs = append-nil (level_code tables (level_of tables vs (i + 1))) ∙ level_here tables i vs
 
 -- the coding of a root row's key
 pub code_root : (tables : List Table) (i : ℕ) → parent_at tables i ≡ None → (vs : List Value) → AreFit (key_at tables i) vs → code_of tables (levels_at tables i vs) ≡ (i + 1) ∷ tuple_code (own_key_at tables i) vs

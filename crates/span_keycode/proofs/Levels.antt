@@ -1,5 +1,5 @@
 -- Keys, level by level.
-use Rattle.std.proofs.Common.{◌≡◌, ℕ, zero, suc, ◌+◌, ◌-◌, ◌<◌, ◌≤◌, List, [], ◌∷◌, ◌++◌, Option, Some, None, refl, sym, ◌∙◌, ap, subst, arith, length, length-append, map, drop, get_or, inl, inr}
+use Rattle.std.proofs.Common.{◌≡◌, ℕ, zero, suc, ◌+◌, ◌<◌, ◌≤◌, List, [], ◌∷◌, ◌++◌, Option, Some, None, refl, sym, ◌∙◌, ap, subst, arith, length, length-append, map, drop, inl, inr, add-sub_cancel}
 use Rattle.std.specs.List.{AllByRecursion}
 use Rattle.std.proofs.lemmas.Option.{slice_get_cases}
 use Rattle.span_value.specs.declared.value.Value.{Value}
@@ -57,14 +57,11 @@ all_push : (tables : List Table) (ns : List ℕ) (n a : ℕ) → AllByRecursion 
 all_push tables [] n a f h = (h, tt)
 all_push tables (m ∷ ns) n a f h = (f.0, all_push tables ns n a f.1 h)
 
-pub back : (i : ℕ) → i + 1 - 1 ≡ i
-back i = omega arith
-
 pub keys_short : (tables : List Table) → MeetsRules tables → (i : ℕ) → i < length tables → AllByRecursion (IsShort tables (length (key_at tables i))) (path_at tables i)
 keys_short tables rules = by_parents tables (λ i. i < length tables → AllByRecursion (IsShort tables (length (key_at tables i))) (path_at tables i)) step
   where
     own : (i : ℕ) → IsShort tables (length (key_at tables i)) (i + 1)
-    own i = let e : length (key_columns tables (i + 1)) ≡ length (key_at tables i) = ap (λ (k : ℕ). length (key_at tables k)) (back i) in omega arith
+    own i = let e : length (key_columns tables (i + 1)) ≡ length (key_at tables i) = ap (λ (k : ℕ). length (key_at tables k)) (add-sub_cancel i 1) in omega arith
 
     step : (i : ℕ) → ((p : ℕ) → parent_at tables i ≡ Some p → p < length tables → AllByRecursion (IsShort tables (length (key_at tables p))) (path_at tables p))
         → i < length tables → AllByRecursion (IsShort tables (length (key_at tables i))) (path_at tables i)
@@ -78,8 +75,3 @@ keys_short tables rules = by_parents tables (λ i. i < length tables → AllByRe
             let less : p < i = parent_before tables i p e in
             let more : length (key_at tables p) ≤ length (key_at tables i) = omega (arith, ap (length {A = KeyPart}) (key_split tables rules i p h e), length-append (key_at tables p) (own_key_at tables i)) in
             all_shorter tables (path_at tables p) (length (key_at tables p)) (length (key_at tables i)) more (again p e (omega arith))
-
-pub each_of : (P : ℕ → Type 0) (ns : List ℕ) (i d : ℕ) → AllByRecursion P ns → i < length ns → P (get_or ns i d)
-each_of P [] i d f h = absurd (let less : i < 0 = h in omega arith)
-each_of P (n ∷ ns) zero d f h = f.0
-each_of P (n ∷ ns) (suc i) d f h = each_of P ns i d f.1 (omega arith)

@@ -1,22 +1,20 @@
 -- What follows from the law.
-use Rattle.std.proofs.Common.{◌≡◌, ℕ, ◌+◌, ◌<◌, List, [], ◌∷◌, ◌++◌, refl, sym, ◌∙◌, ap, append_assoc, arith}
-use Rattle.std.specs.Ordering.{nat_cmp, ordering_then, ordering_reverse}
+use Rattle.std.proofs.Common.{◌≡◌, ℕ, ◌+◌, ◌<◌, List, [], ◌∷◌, ◌++◌, refl, sym, ◌∙◌, ap, append_assoc, arith, true, false}
+use Rattle.std.specs.Ordering.{nat_cmp, ordering_then, ordering_reverse, is_lt, is_eq}
 use Rattle.std.specs.declared.cmp.Ordering.{Ordering}
 use Rattle.std.specs.declared.cmp.Ordering.TheVariants.{Less, Equal, Greater}
 use Rattle.std.proofs.lemmas.Cmp.{tied_itself, nat_list_cmp_total}
 use Rattle.std.proofs.lemmas.Bool.Decides.{nat_tests}
+use Rattle.std.proofs.lemmas.List.{append-nil}
+use Rattle.std.specs.Cmp.Lexicographic.{same_text, texts_ties}
+use Rattle.span_value.proofs.Comparisons.{then_equal, number_equal}
 use Rattle.span_keycode.specs.Coding.{AreBytes}
-use Rattle.span_keycode.specs.Order.{byte_order, Decides, flipped, complement}
+use Rattle.span_keycode.specs.Order.{byte_order, Decides, flipped, complement, is_same}
 
 pub then_assoc : (a b c : Ordering) → ordering_then a (ordering_then b c) ≡ ordering_then (ordering_then a b) c
 then_assoc Less b c = refl
 then_assoc Equal b c = refl
 then_assoc Greater b c = refl
-
-pub then_equal : (a : Ordering) → ordering_then a Equal ≡ a
-then_equal Less = refl
-then_equal Equal = refl
-then_equal Greater = refl
 
 -- one coding after another
 pub decides-append : (p q r s : List ℕ) (o m : Ordering) → Decides p q o → Decides r s m → Decides (p ++ r) (q ++ s) (ordering_then o m)
@@ -38,21 +36,17 @@ decides-less a b p q h = record { at = λ x y. rw h refl }
 pub decides-greater : (a b : ℕ) (p q : List ℕ) → nat_cmp a b ≡ Greater → Decides (a ∷ p) (b ∷ q) Greater
 decides-greater a b p q h = record { at = λ x y. rw h refl }
 
-append_nil : (p : List ℕ) → p ++ [] ≡ p
-append_nil [] = refl
-append_nil (a ∷ p) = ap (λ (r : List ℕ). a ∷ r) (append_nil p)
-
 -- alone, the codings compare as o says
 pub decided : (p q : List ℕ) (o : Ordering) → Decides p q o → byte_order p q ≡ o
 decided p q o d =
     let e : byte_order (p ++ []) (q ++ []) ≡ o = d.at [] [] ∙ then_equal o in
-    rw (append_nil p, append_nil q) at e
+    rw (append-nil p, append-nil q) at e
 
 same_itself : (x : List ℕ) → byte_order x x ≡ Equal
 same_itself x = tied_itself nat_list_cmp_total x
 
 -- equal strings have equal codings in front and equal rests
-then_is_equal : (a b : Ordering) → ordering_then a b ≡ Equal → (a ≡ Equal) × (b ≡ Equal)
+pub then_is_equal : (a b : Ordering) → ordering_then a b ≡ Equal → (a ≡ Equal) × (b ≡ Equal)
 then_is_equal Less b h = cc
 then_is_equal Equal b h = (refl, h)
 then_is_equal Greater b h = cc
@@ -101,3 +95,16 @@ decides-complement [] [] o s t d = rw (decides-equal-nothing o d) decides-nothin
 decides-complement [] (b ∷ q) o s t d = absurd (not_decided_after b q o d)
 decides-complement (a ∷ p) [] o s t d = absurd (not_decided_before a p o d)
 decides-complement (a ∷ p) (b ∷ q) o s t d = step a b p q o (nat_cmp a b) refl (turned a b s.0 t.0) d (decides-complement p q o s.1 t.1)
+
+-- bytes that compare as equal are the same
+pub same_bytes : (a b : List ℕ) → is_same a b ≡ true → a ≡ b
+same_bytes a b e = same_text a b (sym (texts_ties a b ∙ e))
+
+pub bytes_same : (a b : List ℕ) → a ≡ b → is_same a b ≡ true
+bytes_same a b e = ap (is_same a) (sym e) ∙ ap is_eq (tied_itself nat_list_cmp_total a)
+
+-- bytes are not before their front
+pub front_not_after : (p rest : List ℕ) → is_lt (byte_order (p ++ rest) p) ≡ false
+front_not_after [] [] = refl
+front_not_after [] (b ∷ rest) = refl
+front_not_after (a ∷ p) rest = ap (λ (o : Ordering). is_lt (ordering_then o (byte_order (p ++ rest) p))) (number_equal a a refl) ∙ front_not_after p rest

@@ -1,9 +1,8 @@
 -- Reading one value.
 use Rattle.std.proofs.Common.{◌≡◌, ℕ, ◌≤◌, List, [], ◌∷◌, ◌++◌, Some, None, Bool, true, false, refl, sym, ◌∙◌, ap, subst, arith, length, drop}
 use Rattle.std.specs.Str.{IsUtf8}
-use Rattle.std.proofs.lemmas.List.{map-append}
 use Rattle.std.proofs.lemmas.Bool.Decides.{nat_tests}
-use Rattle.std.proofs.lemmas.Option.{some_pair_parts}
+use Rattle.std.proofs.lemmas.Option.{some_pair_parts, none-some}
 use Rattle.span_value.specs.declared.value.Value.{Value}
 use Rattle.span_value.specs.declared.value.Value.TheVariants.{Null, Int, Str, Bytes, Bool as Flag}
 use Rattle.span_value.specs.declared.value.Kind.TheVariants.{Str as Texts, Bytes as Strings}
@@ -14,6 +13,7 @@ use Rattle.span_keycode.specs.Texts.{text_at}
 use Rattle.span_keycode.specs.Reads.{IsNoPlain, IsPlain, IsNoColumn, IsColumn}
 use Rattle.span_keycode.proofs.Reading.{text_again, text_spelled}
 use Rattle.span_value.proofs.Lists.{cons_inj}
+use Rattle.span_keycode.proofs.Comparing.{append_directed}
 
 -- turning twice is nothing
 flipped_twice : (b : ℕ) → flipped (flipped b) ≡ b
@@ -30,32 +30,25 @@ pub turned_twice : (d : Bool) (bs : List ℕ) → in_direction d (in_direction d
 turned_twice false bs = refl
 turned_twice true bs = complement_twice bs
 
-pub turned_append : (d : Bool) (xs ys : List ℕ) → in_direction d (xs ++ ys) ≡ in_direction d xs ++ in_direction d ys
-turned_append false xs ys = refl
-turned_append true xs ys = map-append flipped xs ys
-
 pub column_found : (c : KeyPart) (bytes : List ℕ) (v : Value) (n : ℕ) → n ≤ length bytes → IsPlain c.kind (in_direction c.desc bytes) v (in_direction c.desc (drop n bytes)) → IsColumn c bytes v n
 column_found c bytes v n h p = record {
   fits = p.fits;
-  code = sym (turned_twice c.desc bytes) ∙ ap (in_direction c.desc) p.code ∙ turned_append c.desc (plain v) (in_direction c.desc (drop n bytes)) ∙ ap (λ (rest : List ℕ). column_code c v ++ rest) (turned_twice c.desc (drop n bytes));
+  code = sym (turned_twice c.desc bytes) ∙ ap (in_direction c.desc) p.code ∙ append_directed c.desc (plain v) (in_direction c.desc (drop n bytes)) ∙ ap (λ (rest : List ℕ). column_code c v ++ rest) (turned_twice c.desc (drop n bytes));
   within = h;
 }
 
 pub column_missed : (c : KeyPart) (bytes : List ℕ) → IsNoPlain c.kind (in_direction c.desc bytes) → IsNoColumn c bytes
 column_missed c bytes p = record {
   none = λ v rest f e. p.none v (in_direction c.desc rest) f
-      (ap (in_direction c.desc) e ∙ turned_append c.desc (column_code c v) rest ∙ ap (λ (front : List ℕ). front ++ in_direction c.desc rest) (turned_twice c.desc (plain v)));
+      (ap (in_direction c.desc) e ∙ append_directed c.desc (column_code c v) rest ∙ ap (λ (front : List ℕ). front ++ in_direction c.desc rest) (turned_twice c.desc (plain v)));
 }
 
 one_is_zero : (bs rest : List ℕ) → 1 ∷ bs ≡ 0 ∷ rest → ⊥
 one_is_zero bs rest e = let g = (cons_inj 1 0 bs rest e).0 in omega arith
 
-some_is_none : (x : List ℕ × List ℕ) → None ≡ Some x → ⊥
-some_is_none x e = absurd (let f : None ≡ Some x = e in cc)
-
 wrong_bytes : (bs : List ℕ) → text_at bs ≡ None → (v : Value) (rest : List ℕ) → Fits Strings v → 1 ∷ bs ≡ plain v ++ rest → ⊥
 wrong_bytes bs h Null rest f e = one_is_zero bs rest e
-wrong_bytes bs h (Bytes cs) rest f e = some_is_none (cs, rest) (sym h ∙ ap text_at (cons_inj 1 1 bs (escaped cs ++ rest) e).1 ∙ text_again cs rest)
+wrong_bytes bs h (Bytes cs) rest f e = none-some (cs, rest) (sym h ∙ ap text_at (cons_inj 1 1 bs (escaped cs ++ rest) e).1 ∙ text_again cs rest)
 wrong_bytes bs h (Int i) rest f e = absurd f
 wrong_bytes bs h (Str cs) rest f e = absurd f
 wrong_bytes bs h (Flag b) rest f e = absurd f
@@ -65,7 +58,7 @@ no_plain_bytes bs h = record { none = wrong_bytes bs h }
 
 wrong_text : (bs : List ℕ) → text_at bs ≡ None → (v : Value) (rest : List ℕ) → Fits Texts v → 1 ∷ bs ≡ plain v ++ rest → ⊥
 wrong_text bs h Null rest f e = one_is_zero bs rest e
-wrong_text bs h (Str cs) rest f e = some_is_none (cs, rest) (sym h ∙ ap text_at (cons_inj 1 1 bs (escaped cs ++ rest) e).1 ∙ text_again cs rest)
+wrong_text bs h (Str cs) rest f e = none-some (cs, rest) (sym h ∙ ap text_at (cons_inj 1 1 bs (escaped cs ++ rest) e).1 ∙ text_again cs rest)
 wrong_text bs h (Int i) rest f e = absurd f
 wrong_text bs h (Bytes cs) rest f e = absurd f
 wrong_text bs h (Flag b) rest f e = absurd f

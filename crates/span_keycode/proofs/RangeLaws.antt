@@ -5,6 +5,7 @@ use Rattle.std.specs.declared.cmp.Ordering.{Ordering}
 use Rattle.std.specs.declared.cmp.Ordering.TheVariants.{Less, Equal, Greater}
 use Rattle.std.proofs.lemmas.Bool.{cases_order}
 use Rattle.std.proofs.lemmas.Map.Lookups.{exact_bytes}
+use Rattle.std.proofs.lemmas.List.{append-nil}
 use Rattle.span_keycode.specs.declared.range.RangeComparison.{RangeComparison}
 use Rattle.span_keycode.specs.declared.range.RangeComparison.TheVariants.{Equal as OpEqual, Less as OpLess, AtMost, Greater as OpGreater, AtLeast}
 use Rattle.span_keycode.specs.Order.{byte_order, Decides}
@@ -12,10 +13,6 @@ use Rattle.span_keycode.specs.Coding.{AreBytes, apply_direction}
 use Rattle.span_keycode.specs.Ranges.{in_front, next_after, low_of, high_of, holds, IsWithin}
 use Rattle.span_keycode.proofs.Order.{decided}
 use Rattle.span_keycode.proofs.Bounds.{begun_before, less_before, greater_after, front_same, front_less, front_greater, above_nothing, not_less, grown}
-
-append_nothing : (xs : List ℕ) → xs ++ [] ≡ xs
-append_nothing [] = refl
-append_nothing (x ∷ xs) = ap (λ (ys : List ℕ). x ∷ ys) (append_nothing xs)
 
 -- the first byte of a column's coding
 abbrev pub mark : Bool → Bool → ℕ
@@ -35,7 +32,7 @@ pub record IsAtBound (t : ℕ) (d null : Bool) (k x more : List ℕ) (r : Orderi
 
 module _ {t : ℕ} {d null : Bool} {k x more : List ℕ} {r : Ordering} (s : IsAtBound t d null k x more r) where
   at_code : byte_order (t ∷ (k ++ more)) (t ∷ x) ≡ ordering_then (apply_direction d r) (byte_order more [])
-  at_code = front_same t t (k ++ more) x refl ∙ ap (byte_order (k ++ more)) (sym (append_nothing x)) ∙ s.decides.at more []
+  at_code = front_same t t (k ++ more) x refl ∙ ap (byte_order (k ++ more)) (sym (append-nil x)) ∙ s.decides.at more []
 
   pub code_less : apply_direction d r ≡ Less → byte_order (t ∷ (k ++ more)) (t ∷ x) ≡ Less
   code_less e = at_code ∙ ap (λ (o : Ordering). ordering_then o (byte_order more [])) e

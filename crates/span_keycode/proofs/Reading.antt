@@ -1,6 +1,7 @@
 -- What is read is spelled so, and what is spelled so is read.
 use Rattle.std.proofs.Common.{◌≡◌, ℕ, zero, suc, List, [], ◌∷◌, ◌++◌, Option, Some, None, refl, sym, ◌∙◌, ap, arith, Bool, true, false, cond, eqb, append_assoc}
 use Rattle.std.proofs.lemmas.Bool.Decides.{nat_tests}
+use Rattle.std.proofs.lemmas.List.{append-nil}
 use Rattle.span_keycode.specs.Coding.{escaped}
 use Rattle.span_keycode.specs.Texts.{text_at, with_first, prepend}
 
@@ -40,9 +41,5 @@ pub prepend_more : (front : List ℕ) (b : ℕ) (r : Option (List ℕ × List �
 prepend_more front b None = refl
 prepend_more front b (Some r) = ap (λ (t : List ℕ). Some (t, r.1)) (append_assoc front (b ∷ []) r.0)
 
-append_none : (p : List ℕ) → p ++ [] ≡ p
-append_none [] = refl
-append_none (a ∷ p) = ap (λ (r : List ℕ). a ∷ r) (append_none p)
-
 pub prepend_nothing : (front rest : List ℕ) → prepend front (Some ([], rest)) ≡ Some (front, rest)
-prepend_nothing front rest = ap (λ (t : List ℕ). Some (t, rest)) (append_none front)
+prepend_nothing front rest = ap (λ (t : List ℕ). Some (t, rest)) (append-nil front)

@@ -1,6 +1,7 @@
 -- The coding of the key of a root row: the number of its table, and then its values.
 use Rattle.std.proofs.Common.{◌≡◌, ℕ, ◌+◌, ◌-◌, ◌≤◌, List, [], ◌∷◌, ◌++◌, Option, Some, None, refl, sym, ◌∙◌, ap, subst, arith, length, take, drop, slice_index}
 use Rattle.std.specs.declared.cmp.Ordering.{Ordering}
+use Rattle.std.proofs.lemmas.List.{take-take, append-nil}
 use Rattle.span_value.specs.declared.value.Value.{Value}
 use Rattle.span_schema.specs.declared.table.Table.{Table}
 use Rattle.span_schema.specs.declared.layout.KeyPart.{KeyPart}
@@ -10,9 +11,9 @@ use Rattle.span_keycode.specs.Coding.{column_code, tuple_code}
 use Rattle.span_keycode.specs.Keys.{own_values_at, code_of}
 use Rattle.span_keycode.specs.Order.{byte_order}
 use Rattle.span_keycode.specs.RootOrder.{ComparesAs, root_code_of}
-use Rattle.span_keycode.proofs.Comparing.{front_same, nothing_more}
+use Rattle.span_keycode.proofs.Comparing.{front_same}
 use Rattle.span_keycode.proofs.Levels.{by_parents, key_root, levels_at}
-use Rattle.span_keycode.proofs.LevelLaws.{take_short, path_root, path_child, levels_root, own_level}
+use Rattle.span_keycode.proofs.LevelLaws.{path_root, path_child, levels_root, own_level}
 
 -- a table without a parent, by its number
 abbrev pub IsAlone : List Table → ℕ → Type 0
@@ -63,7 +64,7 @@ code_at : (tables : List Table) (i : ℕ) → parent_at tables i ≡ None → (v
 code_at tables i alone vs =
     let K = length (key_at tables i) in
     let own : own_values_at tables i (take K vs) ≡ take K vs =
-    ap (λ (o : Option ℕ). drop (columns_above tables o) (take K (take K vs))) alone ∙ take_short K K vs (omega arith) in
+    ap (λ (o : Option ℕ). drop (columns_above tables o) (take K (take K vs))) alone ∙ take-take K K vs (omega arith) in
     ap (code_of tables) (levels_root tables i alone (take K vs))
     ∙ own_level tables i (take K vs)
     ∙ ap (λ (us : List Value). (i + 1) ∷ tuple_code (own_key_at tables i) us) own
@@ -85,10 +86,10 @@ pub order_same : (tables : List Table) (n : ℕ) (vs : List Value) (root : ℕ) 
     → other ≡ (root ∷ tuple_code (key_columns tables root) vs) ++ rest → byte_order [] rest ≡ byte_order (root_code_of tables n vs) other
 order_same tables n vs root other rest e f =
     let code = root ∷ tuple_code (key_columns tables root) vs in
-    sym (front_same code [] rest) ∙ ap (λ (xs : List ℕ). byte_order xs (code ++ rest)) (sym (nothing_more code))
+    sym (front_same code [] rest) ∙ ap (λ (xs : List ℕ). byte_order xs (code ++ rest)) (sym (sym (append-nil code)))
     ∙ ap (byte_order code) (sym f) ∙ ap (λ (xs : List ℕ). byte_order xs other) (sym (code_is tables n vs root e))
 
 pub order_decided : (tables : List Table) (n : ℕ) (vs : List Value) (root : ℕ) (other : List ℕ) (o : Ordering) → root ≡ root_of tables n
     → ComparesAs (root ∷ tuple_code (key_columns tables root) vs) other o → o ≡ byte_order (root_code_of tables n vs) other
 order_decided tables n vs root other o e d =
-    sym (d.at []) ∙ ap (λ (xs : List ℕ). byte_order xs other) (sym (nothing_more (root ∷ tuple_code (key_columns tables root) vs)) ∙ sym (code_is tables n vs root e))
+    sym (d.at []) ∙ ap (λ (xs : List ℕ). byte_order xs other) (sym (sym (append-nil (root ∷ tuple_code (key_columns tables root) vs))) ∙ sym (code_is tables n vs root e))

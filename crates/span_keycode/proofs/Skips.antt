@@ -1,6 +1,5 @@
 -- Skipping the codings of values.
-use Rattle.std.proofs.Common.{◌≡◌, ◌≢◌, ℕ, ◌+◌, ◌≤◌, List, ◌∷◌, ◌++◌, Option, Some, None, Bool, true, false, refl, sym, ◌∙◌, ap, arith, length, length-append, drop}
-use Rattle.std.proofs.lemmas.List.{length-map}
+use Rattle.std.proofs.Common.{◌≡◌, ◌≢◌, ℕ, ◌+◌, ◌≤◌, List, ◌∷◌, ◌++◌, Option, Some, None, Bool, refl, sym, ◌∙◌, ap, arith, length, length-append, drop}
 use Rattle.std.proofs.lemmas.Option.{some_pair_parts}
 use Rattle.std.proofs.Math.Seq.{drop-append_seam}
 use Rattle.span_value.specs.declared.value.Value.{Value}
@@ -8,17 +7,14 @@ use Rattle.span_value.specs.declared.value.Value.TheVariants.{Null, Int, Str, By
 use Rattle.span_value.specs.declared.value.Kind.{Kind}
 use Rattle.span_value.specs.declared.value.Kind.TheVariants.{Int as Numbers, Str as Texts, Bytes as Strings, Bool as Flags}
 use Rattle.span_schema.specs.declared.layout.KeyPart.{KeyPart}
-use Rattle.span_keycode.specs.Order.{flipped}
 use Rattle.span_keycode.specs.Coding.{escaped, plain, in_direction, column_code, tuple_code, Fits, AreFit}
 use Rattle.span_keycode.specs.Texts.{text_at, with_first}
 use Rattle.span_keycode.specs.Roots.{IsSkip}
 use Rattle.span_keycode.proofs.Reading.{text_again}
-use Rattle.span_keycode.proofs.Plains.{turned_twice, turned_append}
+use Rattle.span_keycode.proofs.Plains.{turned_twice}
 use Rattle.span_value.proofs.Lists.{cons_inj}
-
-turned_length : (d : Bool) (bs : List ℕ) → length (in_direction d bs) ≡ length bs
-turned_length false bs = refl
-turned_length true bs = length-map bs flipped
+use Rattle.span_keycode.proofs.Lengths.{length_directed}
+use Rattle.span_keycode.proofs.Comparing.{append_directed}
 
 -- what is after a front of known length
 past_front : (front more bs : List ℕ) (n : ℕ) → bs ≡ front ++ more → n ≡ length front → more ≡ drop n bs
@@ -26,7 +22,7 @@ past_front front more bs n e l = sym (drop-append_seam front more) ∙ ap (λ (k
 
 -- turned to ascending
 ascending : (d : Bool) (bs more : List ℕ) (v : Value) → bs ≡ in_direction d (plain v) ++ more → in_direction d bs ≡ plain v ++ in_direction d more
-ascending d bs more v e = ap (in_direction d) e ∙ turned_append d (in_direction d (plain v)) more ∙ ap (λ (front : List ℕ). front ++ in_direction d more) (turned_twice d (plain v))
+ascending d bs more v e = ap (in_direction d) e ∙ append_directed d (in_direction d (plain v)) more ∙ ap (λ (front : List ℕ). front ++ in_direction d more) (turned_twice d (plain v))
 
 -- the mark distinguishes NULL from values
 pub marked : (c : KeyPart) (bs more asc : List ℕ) (v : Value) (first : ℕ) → in_direction c.desc bs ≡ first ∷ asc → bs ≡ column_code c v ++ more → first ∷ asc ≡ plain v ++ in_direction c.desc more
@@ -36,7 +32,7 @@ not_null : (first : ℕ) (asc rest : List ℕ) → first ≢ 0 → first ∷ asc
 not_null first asc rest p e = p (cons_inj first 0 asc rest e).0
 
 column_length : (c : KeyPart) (v : Value) → length (column_code c v) ≡ length (plain v)
-column_length c v = turned_length c.desc (plain v)
+column_length c v = length_directed c.desc (plain v)
 
 -- a text of known end: n bytes after the mark, with more after them
 text_len : (first n whole : ℕ) (asc rest : List ℕ) (v : Value) (k : Kind) → k ≢ Numbers → k ≢ Flags → first ≢ 0 → whole ≡ length (first ∷ asc)
@@ -67,7 +63,7 @@ skip_text c bs first n p q r f h known = record {
   within = h;
   past = λ v more g e.
       let asc = in_direction c.desc (drop 1 bs) in
-      let known2 : (text more : List ℕ) → text_at asc ≡ Some (text, more) → n + length more ≡ length asc = λ text rest t. known text rest t ∙ sym (turned_length c.desc (drop 1 bs)) in
+      let known2 : (text more : List ℕ) → text_at asc ≡ Some (text, more) → n + length more ≡ length asc = λ text rest t. known text rest t ∙ sym (length_directed c.desc (drop 1 bs)) in
       past_front (column_code c v) more bs (n + 1) e
       (sym (text_len first n (length (first ∷ asc)) asc (in_direction c.desc more) v c.kind p q r refl known2 g (marked c bs more asc v first f e)) ∙ sym (column_length c v));
 }

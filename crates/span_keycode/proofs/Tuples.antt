@@ -1,6 +1,6 @@
 -- Reading a tuple, column by column.
-use Rattle.std.proofs.Common.{◌≡◌, ℕ, zero, suc, ◌+◌, ◌<◌, List, [], ◌∷◌, ◌++◌, refl, sym, ◌∙◌, ap, subst, append_assoc, arith, length, length-drop, take, drop, get_or}
-use Rattle.std.proofs.lemmas.List.{drop-drop}
+use Rattle.std.proofs.Common.{◌≡◌, ℕ, ◌+◌, ◌<◌, List, [], ◌∷◌, ◌++◌, refl, sym, ◌∙◌, ap, subst, append_assoc, arith, length, length-drop, take, drop, get_or}
+use Rattle.std.proofs.lemmas.List.{drop-drop, take_more, drop_more}
 use Rattle.std.proofs.lemmas.Map.Lookups.{exact_bytes}
 use Rattle.span_value.specs.declared.value.Value.{Value}
 use Rattle.span_schema.specs.declared.layout.KeyPart.{KeyPart}
@@ -16,29 +16,13 @@ tuple_join [] ds (v ∷ vs) ws f = absurd f
 tuple_join (c ∷ cs) ds [] ws f = absurd f
 tuple_join (c ∷ cs) ds (v ∷ vs) ws f = ap (λ (bs : List ℕ). column_code c v ++ bs) (tuple_join cs ds vs ws f.1) ∙ sym (append_assoc (column_code c v) (tuple_code cs vs) (tuple_code ds ws))
 
-taken_more : (cs : List KeyPart) (i : ℕ) (d : KeyPart) → i < length cs → take (i + 1) cs ≡ take i cs ++ get_or cs i d ∷ []
-taken_more cs i d h = ap (λ (n : ℕ). take n cs) (let e : i + 1 ≡ suc i = omega arith in e) ∙ by_suc cs i d h
-  where
-    by_suc : (cs : List KeyPart) (i : ℕ) (d : KeyPart) → i < length cs → take (suc i) cs ≡ take i cs ++ get_or cs i d ∷ []
-    by_suc [] i d h = absurd (let l : i < 0 = h in omega arith)
-    by_suc (c ∷ cs) zero d h = refl
-    by_suc (c ∷ cs) (suc i) d h = ap (λ (xs : List KeyPart). c ∷ xs) (by_suc cs i d (omega arith))
-
-dropped_more : (cs : List KeyPart) (i : ℕ) (d : KeyPart) → i < length cs → drop i cs ≡ get_or cs i d ∷ drop (i + 1) cs
-dropped_more cs i d h = by_suc cs i d h ∙ ap (λ (n : ℕ). get_or cs i d ∷ drop n cs) (let e : suc i ≡ i + 1 = omega arith in e)
-  where
-    by_suc : (cs : List KeyPart) (i : ℕ) (d : KeyPart) → i < length cs → drop i cs ≡ get_or cs i d ∷ drop (suc i) cs
-    by_suc [] i d h = absurd (let l : i < 0 = h in omega arith)
-    by_suc (c ∷ cs) zero d h = refl
-    by_suc (c ∷ cs) (suc i) d h = by_suc cs i d (omega arith)
-
 -- one more column
 pub tuple_more : (cs : List KeyPart) (bs : List ℕ) (before mid after : List Value) (i at w : ℕ) (d : KeyPart) (v : Value) → i < length cs
     → IsTuple (take i cs) bs before mid at → IsColumn (get_or cs i d) (drop at bs) v w → after ≡ mid ++ v ∷ [] → IsTuple (take (i + 1) cs) bs before after (at + w)
 tuple_more cs bs before mid after i at w d v h t c e =
     let c0 = get_or cs i d in
     let P : List KeyPart → Type 0 = λ ds. IsTuple ds bs before after (at + w) in
-    subst P (sym (taken_more cs i d h)) (record {
+    subst P (sym (take_more cs i d h)) (record {
       values = t.values ++ v ∷ [];
       added = e ∙ ap (λ (xs : List Value). xs ++ v ∷ []) t.added ∙ append_assoc before t.values (v ∷ []);
       fits = fit_join (take i cs) (c0 ∷ []) t.values (v ∷ []) t.fits (c.fits, tt);
@@ -71,4 +55,4 @@ tuple_back cs bs i at w d v h back c n =
     let P : List KeyPart → Type 0 = λ ds. IsNoTuple ds (drop at bs) in
     let Q : List ℕ → Type 0 = λ xs. IsNoTuple (get_or cs i d ∷ drop (i + 1) cs) xs in
     let here : drop at bs ≡ column_code (get_or cs i d) v ++ drop (at + w) bs = c.code ∙ ap (λ (xs : List ℕ). column_code (get_or cs i d) v ++ xs) (drop-drop w at bs) in
-    back (subst P (sym (dropped_more cs i d h)) (subst Q (sym here) (record { none = no_rest (get_or cs i d) (drop (i + 1) cs) (drop (at + w) bs) v c.fits n })))
+    back (subst P (sym (drop_more cs i d h)) (subst Q (sym here) (record { none = no_rest (get_or cs i d) (drop (i + 1) cs) (drop (at + w) bs) v c.fits n })))

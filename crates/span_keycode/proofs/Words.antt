@@ -11,10 +11,7 @@ use Rattle.std.proofs.Math.Seq.{take-add}
 use Rattle.span_keycode.specs.Order.{byte_order, Decides}
 use Rattle.span_value.proofs.Comparisons.{number_less, number_greater, number_equal}
 use Rattle.span_keycode.proofs.Codes.{decides-number}
-
-same_beginning : (p x y : List ℕ) → byte_order (p ++ x) (p ++ y) ≡ byte_order x y
-same_beginning [] x y = refl
-same_beginning (a ∷ p) x y = rw (number_equal a a refl) (same_beginning p x y)
+use Rattle.span_keycode.proofs.Comparing.{front_same}
 
 -- lists of one beginning compare as what is after it
 order_past : (a b : List ℕ) (k : ℕ) → take k a ≡ take k b → byte_order a b ≡ byte_order (drop k a) (drop k b)
@@ -22,7 +19,7 @@ order_past a b k same =
     sym (ap (λ (z : List ℕ). byte_order z b) (take-append-drop k a))
     ∙ sym (ap (λ (z : List ℕ). byte_order (take k a ++ drop k a) z) (take-append-drop k b))
     ∙ ap (λ (z : List ℕ). byte_order (z ++ drop k a) (take k b ++ drop k b)) same
-    ∙ same_beginning (take k b) (drop k a) (drop k b)
+    ∙ front_same (take k b) (drop k a) (drop k b)
 
 unequal_first : (m n : ℕ) (o : Ordering) → ¬ (m ≡ n) → ordering_then (nat_cmp m n) o ≡ nat_cmp m n
 unequal_first m n o differ = elim (cases_order m n) [
@@ -67,7 +64,7 @@ ends_here (a ∷ x) [] e = sym (number_greater (suc (length x)) 0 (omega arith))
 ends_here (a ∷ x) (b ∷ y) (inl e) = absurd (let l : suc (length x) ≡ 0 = e in omega arith)
 ends_here (a ∷ x) (b ∷ y) (inr e) = absurd (let l : suc (length y) ≡ 0 = e in omega arith)
 
-lengths_past : (k m n : ℕ) → k ≤ m → k ≤ n → nat_cmp (m - k) (n - k) ≡ nat_cmp m n
+pub lengths_past : (k m n : ℕ) → k ≤ m → k ≤ n → nat_cmp (m - k) (n - k) ≡ nat_cmp m n
 lengths_past k m n low_m low_n = grind (arith, nat_tests)
 
 -- where one list is the beginning of the other, their lengths decide

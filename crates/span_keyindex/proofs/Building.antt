@@ -1,5 +1,5 @@
 -- A balanced tree of cells that follow each other.
-use Rattle.std.proofs.Common.{◌≡◌, ◌≢◌, ℕ, zero, suc, ◌+◌, ◌*◌, ◌^◌, ◌<◌, ◌≤◌, List, [], ◌∷◌, ◌++◌, refl, sym, ◌∙◌, ap, arith, length, inl, inr, true, false, cond, Option, Some, None, subst, length-append}
+use Rattle.std.proofs.Common.{◌≡◌, ◌≢◌, ℕ, zero, suc, ◌+◌, ◌*◌, ◌^◌, ◌<◌, ◌≤◌, List, [], ◌∷◌, ◌++◌, refl, sym, ◌∙◌, ap, arith, length, inl, inr, true, false, cond, Option, Some, None, subst, length-append, pow_mono}
 use Rattle.std.specs.Prelude.{Bool, nat_lt}
 use Rattle.std.proofs.Math.Nat.{pow-suc}
 use Rattle.std.proofs.lemmas.Bool.{cases_lt, cases_eq}
@@ -60,19 +60,13 @@ run_keys f h g (suc n) (Some i) same = ap (λ (k : List ℕ). entry k i ∷ walk
 
 -- ---- numbers of digits
 
-pow_up : (k m : ℕ) → k ≤ m → 2 ^ k ≤ 2 ^ m
-pow_up zero zero le = omega arith
-pow_up (suc k) zero le = absurd (omega arith)
-pow_up zero (suc m) le = let p : 2 ^ suc m ≡ 2 ^ m * 2 = pow-suc 2 m in omega (arith, p, pow_up zero m (omega arith))
-pow_up (suc k) (suc m) le = let p : 2 ^ suc m ≡ 2 ^ m * 2 = pow-suc 2 m in let q : 2 ^ suc k ≡ 2 ^ k * 2 = pow-suc 2 k in omega (arith, p, q, pow_up k m (omega arith))
-
 module _ (a b low high : ℕ) (da : IsDigits a low) (db : IsDigits b high) (from : low ≤ high) (to : high ≤ low + 1) where
   not_fewer : a ≤ b
   not_fewer = elim (cases_lt b a) [
     | inr le ↦ le
     | inl lt ↦ elim (cases_lt 0 low) [
       | inr none ↦ absurd (let z : a ≡ 0 = da.none (omega arith) in omega arith)
-      | inl some ↦ absurd (let p : 2 ^ suc b ≡ 2 ^ b * 2 = pow-suc 2 b in let q = pow_up (suc b) a (omega arith) in let r = da.most some in let s = db.above in omega arith)
+      | inl some ↦ absurd (let p : 2 ^ suc b ≡ 2 ^ b * 2 = pow-suc 2 b in let q = pow_mono (omega arith) in let r = da.most some in let s = db.above in omega arith)
     ]
   ]
 
@@ -81,7 +75,7 @@ module _ (a b low high : ℕ) (da : IsDigits a low) (db : IsDigits b high) (from
     | inr le ↦ le
     | inl lt ↦ elim (cases_lt 0 high) [
       | inr none ↦ absurd (let z : b ≡ 0 = db.none (omega arith) in omega arith)
-      | inl some ↦ absurd (let p : 2 ^ suc a ≡ 2 ^ a * 2 = pow-suc 2 a in let p2 : 2 ^ suc (suc a) ≡ 2 ^ suc a * 2 = pow-suc 2 (suc a) in let q = pow_up (suc (suc a)) b (omega arith) in let r = db.most some in let s = da.above in omega arith)
+      | inl some ↦ absurd (let p : 2 ^ suc a ≡ 2 ^ a * 2 = pow-suc 2 a in let p2 : 2 ^ suc (suc a) ≡ 2 ^ suc a * 2 = pow-suc 2 (suc a) in let q = pow_mono (omega arith) in let r = db.most some in let s = da.above in omega arith)
     ]
   ]
 

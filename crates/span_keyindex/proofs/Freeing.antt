@@ -13,8 +13,9 @@ use Rattle.span_keytree.specs.Entries.{KeyEntry}
 use Rattle.span_keytree.specs.Items.{holders}
 use Rattle.span_keytree.specs.Arenas.{one_if_chain, IsArenaOf, in_use, IsWithoutUnused}
 use Rattle.span_keyindex.specs.Removals.{KeepsCells}
-use Rattle.span_keyindex.proofs.Holders.{one_of, one_here, one_elsewhere, holders-append, at_most_one, holders-filter}
+use Rattle.span_keyindex.proofs.Holders.{one_of, one_here, one_elsewhere, at_most_one, holders-filter}
 use Rattle.span_keytree.proofs.Held.{is_some_chain}
+use Rattle.span_keytree.proofs.Linking.{held_append}
 
 -- the number is that of a chain with no version and nothing prepared, of one of these keys
 abbrev pub is_gone : Content → List KeyEntry → ℕ → Bool
@@ -39,10 +40,10 @@ none_there xs c = elim (cases_lt c (length xs)) [
 
 module _ (es gone rest : List KeyEntry) (e : KeyEntry) (a b : Content) (own : IsArenaOf es a) (parts : es ≡ gone ++ e ∷ rest) (freed : IsFreed a b gone) where
   held_is : (c : ℕ) → holders c es ≡ holders c gone + (one_of c e + holders c rest)
-  held_is c = ap (holders c) parts ∙ holders-append c gone (e ∷ rest)
+  held_is c = ap (holders c) parts ∙ held_append c gone (e ∷ rest)
 
   held_now : (c : ℕ) → holders c (gone ++ e ∷ []) ≡ holders c gone + one_of c e
-  held_now c = holders-append c gone (e ∷ []) ∙ (omega arith)
+  held_now c = held_append c gone (e ∷ []) ∙ (omega arith)
 
   -- the next key's chain is as it was
   same_chain : get_or b.chains e.chain.number None ≡ get_or a.chains e.chain.number None

@@ -1,5 +1,5 @@
 -- How many keys have a chain.
-use Rattle.std.proofs.Common.{◌≡◌, ◌≢◌, ℕ, ◌+◌, ◌≤◌, List, [], ◌∷◌, ◌++◌, refl, ◌∙◌, ap, arith, get_or, inl, inr, true, false, Option, Some, None, cond}
+use Rattle.std.proofs.Common.{◌≡◌, ◌≢◌, ℕ, ◌+◌, ◌≤◌, List, [], ◌∷◌, refl, ◌∙◌, ap, arith, get_or, inl, inr, true, false, Option, Some, None, cond}
 use Rattle.std.specs.Prelude.{filter, Bool, nat_eq}
 use Rattle.std.proofs.lemmas.Bool.{cases_eq}
 use Rattle.std.proofs.lemmas.Bool.Decides.{nat_tests}
@@ -18,10 +18,6 @@ one_here c e same = let t : nat_eq e.chain.number c ≡ true = grind (arith, nat
 
 pub one_elsewhere : (c : ℕ) (e : KeyEntry) → e.chain.number ≢ c → one_of c e ≡ 0
 one_elsewhere c e differs = let t : nat_eq e.chain.number c ≡ false = grind (arith, nat_tests) in rw t refl
-
-pub holders-append : (c : ℕ) (xs ys : List KeyEntry) → holders c (xs ++ ys) ≡ holders c xs + holders c ys
-holders-append c [] ys = omega arith
-holders-append c (x ∷ xs) ys = omega (arith, holders-append c xs ys)
 
 none_held : (c : ℕ) (b : Bool) → holders c [] ≡ cond b (holders c []) 0
 none_held c true = refl

@@ -1,5 +1,5 @@
 -- Where a key is, by a chain near it.
-use Rattle.std.proofs.Common.{◌≡◌, ◌≢◌, ℕ, zero, ◌<◌, List, [], ◌∷◌, ◌++◌, refl, sym, ◌∙◌, ap, arith, inl, inr, Option, Some, None, get_or, subst, true, false}
+use Rattle.std.proofs.Common.{◌≡◌, ◌≢◌, ℕ, zero, ◌<◌, List, [], ◌∷◌, ◌++◌, refl, sym, ◌∙◌, ap, arith, inl, inr, None, get_or, subst, true}
 use Rattle.std.specs.Prelude.{Contains, is_some}
 use Rattle.std.specs.List.{AllByRecursion}
 use Rattle.std.specs.declared.cmp.Ordering.TheVariants.{Less, Equal, Greater}
@@ -7,12 +7,10 @@ use Rattle.std.proofs.lemmas.Bool.{cases_eq}
 use Rattle.std.proofs.lemmas.List.Elements.{All-from_recursion, Contains-append_right}
 use Rattle.span_keycode.specs.Order.{byte_order}
 use Rattle.span_arena.specs.declared.cell.Cell.{Cell}
-use Rattle.span_arena.specs.declared.version.ArenaVersion.{ArenaVersion}
 use Rattle.span_arena.specs.Cells.{cell_at}
 use Rattle.span_arena.specs.Content.{Content}
 use Rattle.span_keyindex.specs.declared.index.KeyIndex.{KeyIndex}
-use Rattle.span_keytree.specs.Arenas.{one_if_chain}
-use Rattle.span_keytree.specs.Entries.{KeyEntry, HasChain, IsAbsent}
+use Rattle.span_keytree.specs.Entries.{Entry, HasChain, IsAbsent}
 use Rattle.span_keytree.specs.Items.{entry, holders, AreRising}
 use Rattle.span_keytree.specs.Roots.{tree_of}
 use Rattle.span_keyindex.specs.Indexes.{entries_of, IsIndexOf}
@@ -23,6 +21,7 @@ use Rattle.span_keytree.proofs.Counting.{one_other}
 use Rattle.span_keytree.proofs.Linking.{linked_back, linked_first}
 use Rattle.span_keytree.proofs.Rising.{all_back, all_both, IsAround, around, apart, turned, above_more, below_more, all_weaker}
 use Rattle.span_keytree.proofs.Keyed.{keys_in_cells}
+use Rattle.span_keytree.proofs.Into.{chain_one}
 
 -- an entry of a chain among the others
 record IsHolder (b : ℕ) (es : List KeyEntry) : Type 0 where
@@ -40,10 +39,6 @@ holder b (e ∷ es) some = elim (cases_eq e.chain.number b) [
       record { front = e ∷ rest.front; here = rest.here; back = rest.back; is = ap (λ (l : List KeyEntry). e ∷ l) rest.is; number = rest.number })
 ]
 
-some_chain : (o : Option (List ArenaVersion)) → is_some o ≡ true → one_if_chain o ≡ 1
-some_chain None is = absurd (let e : false ≡ true = is in cc)
-some_chain (Some vs) is = refl
-
 -- a key before the first of some that rise is none of theirs
 other_after : (cs : List Cell) (key : List ℕ) (ys : List KeyEntry) → AreRising ys → AllByRecursion (λ (e : KeyEntry). (cell_at cs e.chain.number).key ≡ e.key) ys → ComesBefore cs key (head_cell None ys)
     → AllByRecursion (λ (e : KeyEntry). e.key ≢ key) ys
@@ -59,7 +54,7 @@ module _ (i : KeyIndex) (a : Content) (own : IsIndexOf i a) (near : ℕ) (is_cha
   es = entries_of i a
 
   one : holders near es ≡ 1
-  one = own.own.each near ∙ some_chain (get_or a.chains near None) is_chain
+  one = own.own.each near ∙ chain_one (get_or a.chains near None) is_chain
 
   split : IsHolder near es
   split = holder near es (omega (arith, one))

@@ -17,10 +17,11 @@ use Rattle.span_keytree.specs.Nexts.{Nexts}
 use Rattle.span_keytree.specs.Roots.{entries_at, IsIndex, IsSlot}
 use Rattle.span_keyindex.specs.Indexes.{entries_of, IsIndexOf}
 use Rattle.span_keytree.proofs.Counting.{one_here}
-use Rattle.span_keyindex.proofs.Holders.{one_of, one_elsewhere, holders-append, chains_elsewhere}
+use Rattle.span_keyindex.proofs.Holders.{one_of, one_elsewhere, chains_elsewhere}
 use Rattle.span_keyindex.proofs.Keeping.{own_stays}
 use Rattle.span_keytree.proofs.Rising.{cut_at}
 use Rattle.span_keytree.proofs.Searching.{AllOther}
+use Rattle.span_keytree.proofs.Linking.{held_append}
 
 chains_each : (es : List KeyEntry) (a : Content) → ((c : ℕ) → 0 < holders c es → IsChain a c) → AllByRecursion (λ (e : KeyEntry). IsChain a e.chain.number) es
 chains_each [] a held = tt
@@ -49,9 +50,9 @@ index_stays i a b own same chains = record {
 pub own_more : (es : List KeyEntry) (a b : Content) (key : List ℕ) (c : ℕ) → IsArenaOf es a → AreRising es → AllOther key es → IsNewChain a b c → IsArenaOf (with_entry es (entry key c)) b
 own_more es a b key c own rising other fresh = record {
   each = λ d. (
-      let new : KeyEntry = entry key c in
-      let cut : holders d es ≡ holders d (below key es) + holders d (above key es) = ap (holders d) (cut_at key es rising other) ∙ holders-append d (below key es) (above key es) in
-      let now : holders d (with_entry es new) ≡ holders d (below key es) + (one_of d new + holders d (above key es)) = holders-append d (below key es) (new ∷ above key es) in
+      let new : Entry = entry key c in
+      let cut : holders d es ≡ holders d (below key es) + holders d (above key es) = ap (holders d) (cut_at key es rising other) ∙ held_append d (below key es) (above key es) in
+      let now : holders d (with_entry es new) ≡ holders d (below key es) + (one_of d new + holders d (above key es)) = held_append d (below key es) (new ∷ above key es) in
       elim (cases_eq c d) [
         | inl here ↦ (let one : one_of d new ≡ 1 = ap (λ (n : ℕ). one_of n new) (sym here) ∙ one_here c in
             let was : one_if_chain (get_or a.chains d None) ≡ 0 = ap (λ (n : ℕ). one_if_chain (get_or a.chains n None)) (sym here) ∙ ap one_if_chain fresh.was_none in

@@ -5,6 +5,7 @@ use Rattle.std.specs.List.{AllByRecursion}
 use Rattle.std.specs.declared.cmp.Ordering.TheVariants.{Less}
 use Rattle.std.proofs.lemmas.List.{get_or-set_other}
 use Rattle.std.proofs.lemmas.List.Elements.{filter-append}
+use Rattle.span_value.proofs.Lists.{all_filter}
 use Rattle.span_keycode.specs.Order.{byte_order}
 use Rattle.span_arena.specs.declared.cell.Cell.{Cell}
 use Rattle.span_keytree.specs.declared.tree.TreeRoot.{TreeRoot}
@@ -35,19 +36,11 @@ held_head : (i : ℕ) (b : Bool) (e : KeyEntry) (es : List KeyEntry) → holders
 held_head i true e es = omega arith
 held_head i false e es = omega arith
 
-held_filter : (p : KeyEntry → Bool) (i : ℕ) (es : List KeyEntry) → holders i (filter p es) ≤ holders i es
+pub held_filter : (p : Entry → Bool) (i : ℕ) (es : List Entry) → holders i (filter p es) ≤ holders i es
 held_filter p i [] = omega arith
 held_filter p i (e ∷ es) = omega (arith, held_head i (p e) e (filter p es), held_filter p i es)
 
-all_head : (P : KeyEntry → Type 0) (b : Bool) (e : KeyEntry) (es : List KeyEntry) → P e → AllByRecursion P es → AllByRecursion P (cond b (e ∷ es) es)
-all_head P true e es h k = (h, k)
-all_head P false e es h k = k
-
-all_filter : (P : KeyEntry → Type 0) (p : KeyEntry → Bool) (es : List KeyEntry) → AllByRecursion P es → AllByRecursion P (filter p es)
-all_filter P p [] h = tt
-all_filter P p (e ∷ es) h = all_head P (p e) e (filter p es) h.0 (all_filter P p es h.1)
-
-rising_head : (b : Bool) (e : KeyEntry) (es : List KeyEntry) → AllByRecursion (λ (f : KeyEntry). byte_order e.key f.key ≡ Less) es → AreRising es → AreRising (cond b (e ∷ es) es)
+rising_head : (b : Bool) (e : Entry) (es : List Entry) → AllByRecursion (λ (f : Entry). byte_order e.key f.key ≡ Less) es → AreRising es → AreRising (cond b (e ∷ es) es)
 rising_head true e es h k = (h, k)
 rising_head false e es h k = k
 

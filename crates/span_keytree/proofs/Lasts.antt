@@ -5,6 +5,7 @@ use Rattle.std.specs.Ordering.{is_gt}
 use Rattle.std.specs.declared.cmp.Ordering.{Ordering}
 use Rattle.std.specs.declared.cmp.Ordering.TheVariants.{Less, Equal, Greater}
 use Rattle.std.proofs.lemmas.Map.Lookups.{exact_bytes}
+use Rattle.span_value.proofs.Comparisons.{is_greater}
 use Rattle.span_keycode.specs.Order.{byte_order}
 use Rattle.span_arena.specs.declared.cell.Cell.{Cell}
 use Rattle.span_arena.specs.declared.cell.Balance.{Balance}
@@ -36,11 +37,6 @@ last_of e (f ∷ es) =
     let h = last_of f es in
     record { front = e ∷ h.front; last = h.last; is = ap (λ (xs : List KeyEntry). e ∷ xs) h.is }
 
-gt_is : (o : Ordering) → is_gt o ≡ true → o ≡ Greater
-gt_is Less is = absurd (let e : false ≡ true = is in cc)
-gt_is Equal is = absurd (let e : false ≡ true = is in cc)
-gt_is Greater is = refl
-
 not_gt : (o : Ordering) → is_gt o ≡ false → o ≢ Equal → o ≡ Less
 not_gt Less is differs = refl
 not_gt Equal is differs = absurd (differs refl)
@@ -57,8 +53,8 @@ module _ (cs : List Cell) (xs : List KeyEntry) (e : KeyEntry) (key : List ℕ) w
   below_last : AreRising (xs ++ e ∷ []) → is_gt (byte_order key e.key) ≡ true → AllBelow key (xs ++ e ∷ [])
   below_last rising is =
       let a : IsAround xs e [] = around xs e [] rising in
-      let less : byte_order e.key key ≡ Less = turned key e.key Greater (gt_is (byte_order key e.key) is) in
-      all_both (λ (f : KeyEntry). byte_order f.key key ≡ Less) xs (e ∷ []) (below_more e.key key xs less a.smaller) (less, tt)
+      let less : byte_order e.key key ≡ Less = turned key e.key Greater (is_greater (byte_order key e.key) is) in
+      all_both (λ (f : Entry). byte_order f.key key ≡ Less) xs (e ∷ []) (below_more e.key key xs less a.smaller) (less, tt)
 
   last_kept : (c : ℕ) → AreRising (xs ++ e ∷ []) → AllOther key (xs ++ e ∷ []) → is_gt (byte_order key e.key) ≡ false → last_cell None (with_entry (xs ++ e ∷ []) (entry key c)) ≡ last_cell None (xs ++ e ∷ [])
   last_kept c rising other is =

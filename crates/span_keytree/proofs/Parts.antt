@@ -1,10 +1,10 @@
 -- A part of a tree that alone is changed where a key is put into it.
 use Rattle.std.proofs.Common.{◌≡◌, ◌≢◌, ℕ, ◌<◌, ◌≤◌, List, ◌∷◌, refl, sym, ◌∙◌, ap, arith, inl, inr, true, false, Option, Some, None, subst}
-use Rattle.std.specs.Prelude.{Bool, ◌⊎◌, ◌&&◌, ◌||◌}
+use Rattle.std.specs.Prelude.{Bool, ◌⊎◌}
 use Rattle.std.specs.List.{AllByRecursion}
 use Rattle.std.specs.declared.cmp.Ordering.{Ordering}
 use Rattle.std.specs.declared.cmp.Ordering.TheVariants.{Less, Equal, Greater}
-use Rattle.std.proofs.lemmas.Bool.{cases_lt, cases_eq}
+use Rattle.std.proofs.lemmas.Bool.{cases_lt, cases_eq, and_parts, or_cases}
 use Rattle.std.proofs.lemmas.List.{set-get_or}
 use Rattle.std.proofs.Math.Nat.{le-max_left, le-max_right}
 use Rattle.span_keycode.specs.Order.{byte_order}
@@ -16,7 +16,7 @@ use Rattle.span_keytree.specs.declared.part.Way.{Way}
 use Rattle.span_keytree.specs.Effects.{links_of, links_with}
 use Rattle.span_keytree.specs.Entries.{KeyEntry}
 use Rattle.span_keytree.specs.Items.{entry, items, AreRising}
-use Rattle.span_keytree.specs.Joins.{joined_left_cells, joined_right_cells}
+use Rattle.span_keytree.specs.Joins.{joined_left_cells}
 use Rattle.span_keytree.specs.Nexts.{before_in}
 use Rattle.span_keytree.specs.Puts.{IsTree, IsAdded}
 use Rattle.span_keytree.specs.Trees.{Tree, Leaf, Fork, Grown, root_of, cell_of, IsInCells, count, height, by_side, search_in, joined_left, joined_right, placed, inserted}
@@ -24,7 +24,7 @@ use Rattle.span_keytree.specs.Ways.{is_uneven, way_by, way_in, is_part_by, is_pa
 use Rattle.span_keytree.proofs.Counting.{one_here, one_same, one_other}
 use Rattle.span_keytree.proofs.Puts.{put_left_at, put_right_at}
 use Rattle.span_keytree.proofs.Rising.{AllBelow, AllAbove, IsAround, around, all_front, all_back, less_trans, turned}
-use Rattle.span_keytree.proofs.Stopping.{kept_part}
+use Rattle.span_keytree.proofs.Stopping.{kept_part, kept_join, tree_right}
 
 -- a tree is another, or in one of its parts
 abbrev pub IsPart : Tree → Tree → Type 0
@@ -97,14 +97,6 @@ part_there p (Fork l n k b r) some = elim (cases_eq p n) [
 
 -- ---- the way goes to both sides: so the key is between keys of the tree
 
-both_are : (a b : Bool) → (a && b) ≡ true → (a ≡ true) × (b ≡ true)
-both_are true b is = (refl, is)
-both_are false b is = absurd (let e : false ≡ true = is in cc)
-
-one_is : (a b : Bool) → (a || b) ≡ true → (a ≡ true) ⊎ (b ≡ true)
-one_is true b is = inl refl
-one_is false b is = inr is
-
 left_by : (key high : List ℕ) (l : Tree) (n : ℕ) (k : List ℕ) (b : Balance) (r : Tree) (o : Ordering) → byte_order key k ≡ o
     → (way_by o b (way_in key l) (way_in key r)).is_left ≡ true → byte_order k high ≡ Less
     → ((way_in key r).is_left ≡ true → byte_order key high ≡ Less) → byte_order key high ≡ Less
@@ -140,9 +132,9 @@ pub record IsBetween (key : List ℕ) (t : Tree) : Type 0 where
   pub right : (way_in key t).is_right ≡ true
 
 between_by : (b : Balance) (x y : Way) (o : Ordering) → is_part_by o x y ≡ true → ((way_by o b x y).is_left ≡ true) × ((way_by o b x y).is_right ≡ true)
-between_by b x y Less is = (refl, (both_are x.is_right x.is_uneven is).0)
+between_by b x y Less is = (refl, (and_parts x.is_right x.is_uneven is).0)
 between_by b x y Equal is = absurd (let q : false ≡ true = is in cc)
-between_by b x y Greater is = ((both_are y.is_left y.is_uneven is).0, refl)
+between_by b x y Greater is = ((and_parts y.is_left y.is_uneven is).0, refl)
 
 pub between : (key : List ℕ) (t : Tree) → is_part_for key t ≡ true → IsBetween key t
 between key Leaf is = absurd (let q : false ≡ true = is in cc)
@@ -176,12 +168,12 @@ taken_right true l n k RightHigh r uneven = refl
 
 stays_low_by : (x y : Grown) (l : Tree) (n : ℕ) (k : List ℕ) (b : Balance) (r : Tree) (v w : Way) (o : Ordering) → (way_by o b v w).is_uneven ≡ true
     → (v.is_uneven ≡ true → x.grew ≡ false) → (w.is_uneven ≡ true → y.grew ≡ false) → (placed o x y l n k b r).grew ≡ false
-stays_low_by x y l n k b r v w Less is left right = elim (one_is v.is_uneven (is_uneven b) is) [
+stays_low_by x y l n k b r v w Less is left right = elim (or_cases v.is_uneven (is_uneven b) is) [
   | inl below ↦ ap (λ (g : Bool). (joined_left g x.tree n k b r).grew) (left below)
   | inr here ↦ taken_left x.grew x.tree n k b r here
 ]
 stays_low_by x y l n k b r v w Equal is left right = absurd (let q : false ≡ true = is in cc)
-stays_low_by x y l n k b r v w Greater is left right = elim (one_is w.is_uneven (is_uneven b) is) [
+stays_low_by x y l n k b r v w Greater is left right = elim (or_cases w.is_uneven (is_uneven b) is) [
   | inl below ↦ ap (λ (g : Bool). (joined_right g l n k b y.tree).grew) (right below)
   | inr here ↦ taken_right y.grew l n k b y.tree here
 ]
@@ -200,11 +192,11 @@ pub record IsKept (n : ℕ) (g : Grown) : Type 0 where
 kept_by : (x y : Grown) (l : Tree) (n : ℕ) (k : List ℕ) (b : Balance) (r : Tree) (v w : Way) (o : Ordering) → is_part_by o v w ≡ true
     → (v.is_uneven ≡ true → x.grew ≡ false) → (w.is_uneven ≡ true → y.grew ≡ false) → IsKept n (placed o x y l n k b r)
 kept_by x y l n k b r v w Less is left right =
-    let same : joined_left x.grew x.tree n k b r ≡ joined_left false x.tree n k b r = ap (λ (g : Bool). joined_left g x.tree n k b r) (left (both_are v.is_right v.is_uneven is).1) in
+    let same : joined_left x.grew x.tree n k b r ≡ joined_left false x.tree n k b r = ap (λ (g : Bool). joined_left g x.tree n k b r) (left (and_parts v.is_right v.is_uneven is).1) in
     record { low = ap (λ (g : Grown). g.grew) same; root = ap (λ (g : Grown). root_of g.tree) same }
 kept_by x y l n k b r v w Equal is left right = absurd (let q : false ≡ true = is in cc)
 kept_by x y l n k b r v w Greater is left right =
-    let same : joined_right y.grew l n k b y.tree ≡ joined_right false l n k b y.tree = ap (λ (g : Bool). joined_right g l n k b y.tree) (right (both_are w.is_left w.is_uneven is).1) in
+    let same : joined_right y.grew l n k b y.tree ≡ joined_right false l n k b y.tree = ap (λ (g : Bool). joined_right g l n k b y.tree) (right (and_parts w.is_left w.is_uneven is).1) in
     record { low = ap (λ (g : Grown). g.grew) same; root = ap (λ (g : Grown). root_of g.tree) same }
 
 pub kept_part_of : (c : ℕ) (key : List ℕ) (l : Tree) (n : ℕ) (k : List ℕ) (b : Balance) (r : Tree) → is_part_for key (Fork l n k b r) ≡ true → IsKept n (inserted c key (Fork l n k b r))
@@ -257,22 +249,9 @@ kept_left cs n root l k b r cell is =
     let e : (links_of cs n).left ≡ Some root = ap (λ (x : Cell). x.links.left) cell ∙ sym is in
     sym (ap (λ (o : Option ℕ). with_links cs n (links_with o (links_of cs n).right (links_of cs n).balance)) (sym e) ∙ set-get_or cs n blank)
 
-kept_right : (cs : List Cell) (n root : ℕ) (l : Tree) (k : List ℕ) (b : Balance) (r : Tree) → cell_at cs n ≡ cell_of l k b r → Some root ≡ root_of r → cs ≡ joined_right_cells false cs n root
-kept_right cs n root l k b r cell is =
-    let e : (links_of cs n).right ≡ Some root = ap (λ (x : Cell). x.links.right) cell ∙ sym is in
-    sym (ap (λ (o : Option ℕ). with_links cs n (links_with (links_of cs n).left o (links_of cs n).balance)) (sym e) ∙ set-get_or cs n blank)
-
 left_tree : (cs : List Cell) (l : Tree) (n : ℕ) (k : List ℕ) (b : Balance) (r : Tree) → IsTree cs (Some n) (Fork l n k b r) → IsTree cs (root_of l) l
 left_tree cs l n k b r tree = record {
   in_cells = tree.in_cells.1;
-  root = refl;
-  once = λ j. omega (arith, tree.once j);
-  within = λ j h. tree.within j (omega arith);
-}
-
-right_tree : (cs : List Cell) (l : Tree) (n : ℕ) (k : List ℕ) (b : Balance) (r : Tree) → IsTree cs (Some n) (Fork l n k b r) → IsTree cs (root_of r) r
-right_tree cs l n k b r tree = record {
-  in_cells = tree.in_cells.2;
   root = refl;
   once = λ j. omega (arith, tree.once j);
   within = λ j h. tree.within j (omega arith);
@@ -295,8 +274,8 @@ added_part cs new key c (Fork l n k b r) s x part tree rising own free root adde
             let cell : cell_at new n ≡ cell_of l k b r = inner.others n differs (omega (arith, one_here n, tree.once n)) ∙ tree.in_cells.0 in
             put_left_at cs new new l n k b r key (kept_part c more.0) (kept_part c y) tree (to_left key s l n k b r rising own left) free inner (kept_left new n more.0 l k b r cell more.1) (ap (λ (z : ℕ). kept_part c z) e))
         | inr right ↦ (let more = root_part s r x right root in
-            let inner : IsAdded cs new r key (kept_part c more.0) = added_part cs new key c r s x right (right_tree cs l n k b r tree) parts.back own (omega arith) root added more.0 more.1 in
+            let inner : IsAdded cs new r key (kept_part c more.0) = added_part cs new key c r s x right (tree_right cs l n k b r tree) parts.back own (omega arith) root added more.0 more.1 in
             let cell : cell_at new n ≡ cell_of l k b r = inner.others n differs (omega (arith, one_here n, tree.once n)) ∙ tree.in_cells.0 in
-            put_right_at cs new new l n k b r key (kept_part c more.0) (kept_part c y) tree (to_right key s l n k b r rising own right) free inner (kept_right new n more.0 l k b r cell more.1) (ap (λ (z : ℕ). kept_part c z) e))
+            put_right_at cs new new l n k b r key (kept_part c more.0) (kept_part c y) tree (to_right key s l n k b r rising own right) free inner (kept_join new n more.0 l k b r cell more.1) (ap (λ (z : ℕ). kept_part c z) e))
       ]
     ]

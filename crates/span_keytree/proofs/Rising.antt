@@ -9,6 +9,7 @@ use Rattle.std.proofs.lemmas.Cmp.{nat_list_cmp_total, tied_itself}
 use Rattle.std.proofs.lemmas.Map.Lookups.{exact_bytes}
 use Rattle.std.proofs.lemmas.List.Elements.{filter-append, All-from_recursion}
 use Rattle.std.proofs.lemmas.List.Kept.{AllPairs-cons}
+use Rattle.span_value.proofs.Lists.{filter_all, filter_none}
 use Rattle.span_keycode.specs.Order.{byte_order}
 use Rattle.span_keytree.specs.Entries.{with_entry, KeyEntry}
 use Rattle.span_keytree.specs.Items.{AreRising, below, above, from, is_between, entries_between}
@@ -90,31 +91,23 @@ pairs_rising (e ∷ es) h = AllPairs-cons (λ (x y : KeyEntry). byte_order x.key
 
 -- ---- filters by key
 
-filter_each : (p : KeyEntry → Bool) (es : List KeyEntry) → AllByRecursion (λ (e : KeyEntry). p e ≡ true) es → filter p es ≡ es
-filter_each p [] h = refl
-filter_each p (e ∷ es) h = ap (λ (b : Bool). cond b (e ∷ filter p es) (filter p es)) h.0 ∙ ap (λ (xs : List KeyEntry). e ∷ xs) (filter_each p es h.1)
-
-filter_none : (p : KeyEntry → Bool) (es : List KeyEntry) → AllByRecursion (λ (e : KeyEntry). p e ≡ false) es → filter p es ≡ []
-filter_none p [] h = refl
-filter_none p (e ∷ es) h = ap (λ (b : Bool). cond b (e ∷ filter p es) (filter p es)) h.0 ∙ filter_none p es h.1
-
-greater_of : (key : List ℕ) (e : KeyEntry) → byte_order key e.key ≡ Less → byte_order e.key key ≡ Greater
+greater_of : (key : List ℕ) (e : Entry) → byte_order key e.key ≡ Less → byte_order e.key key ≡ Greater
 greater_of key e h = turned key e.key Less h
 
-pub keeps_below : (key : List ℕ) (es : List KeyEntry) → AllBelow key es → below key es ≡ es
-keeps_below key es h = filter_each (λ (e : KeyEntry). is_lt (byte_order e.key key)) es (all_weaker (λ (e : KeyEntry). byte_order e.key key ≡ Less) (λ (e : KeyEntry). is_lt (byte_order e.key key) ≡ true) (λ e x. ap is_lt x) es h)
+pub keeps_below : (key : List ℕ) (es : List Entry) → AllBelow key es → below key es ≡ es
+keeps_below key es h = filter_all (λ (e : Entry). is_lt (byte_order e.key key)) es (all_weaker (λ (e : Entry). byte_order e.key key ≡ Less) (λ (e : Entry). is_lt (byte_order e.key key) ≡ true) (λ e x. ap is_lt x) es h)
 
 pub drops_below : (key : List ℕ) (es : List KeyEntry) → AllAbove key es → below key es ≡ []
 drops_below key es h = filter_none (λ (e : KeyEntry). is_lt (byte_order e.key key)) es (all_weaker (λ (e : KeyEntry). byte_order key e.key ≡ Less) (λ (e : KeyEntry). is_lt (byte_order e.key key) ≡ false) (λ e x. ap is_lt (greater_of key e x)) es h)
 
-pub keeps_above : (key : List ℕ) (es : List KeyEntry) → AllAbove key es → above key es ≡ es
-keeps_above key es h = filter_each (λ (e : KeyEntry). is_gt (byte_order e.key key)) es (all_weaker (λ (e : KeyEntry). byte_order key e.key ≡ Less) (λ (e : KeyEntry). is_gt (byte_order e.key key) ≡ true) (λ e x. ap is_gt (greater_of key e x)) es h)
+pub keeps_above : (key : List ℕ) (es : List Entry) → AllAbove key es → above key es ≡ es
+keeps_above key es h = filter_all (λ (e : Entry). is_gt (byte_order e.key key)) es (all_weaker (λ (e : Entry). byte_order key e.key ≡ Less) (λ (e : Entry). is_gt (byte_order e.key key) ≡ true) (λ e x. ap is_gt (greater_of key e x)) es h)
 
 pub drops_above : (key : List ℕ) (es : List KeyEntry) → AllBelow key es → above key es ≡ []
 drops_above key es h = filter_none (λ (e : KeyEntry). is_gt (byte_order e.key key)) es (all_weaker (λ (e : KeyEntry). byte_order e.key key ≡ Less) (λ (e : KeyEntry). is_gt (byte_order e.key key) ≡ false) (λ e x. ap is_gt x) es h)
 
-pub keeps_from : (key : List ℕ) (es : List KeyEntry) → AllAbove key es → from key es ≡ es
-keeps_from key es h = filter_each (λ (e : KeyEntry). not (is_lt (byte_order e.key key))) es (all_weaker (λ (e : KeyEntry). byte_order key e.key ≡ Less) (λ (e : KeyEntry). not (is_lt (byte_order e.key key)) ≡ true) (λ e x. ap (λ (o : Ordering). not (is_lt o)) (greater_of key e x)) es h)
+pub keeps_from : (key : List ℕ) (es : List Entry) → AllAbove key es → from key es ≡ es
+keeps_from key es h = filter_all (λ (e : Entry). not (is_lt (byte_order e.key key))) es (all_weaker (λ (e : Entry). byte_order key e.key ≡ Less) (λ (e : Entry). not (is_lt (byte_order e.key key)) ≡ true) (λ e x. ap (λ (o : Ordering). not (is_lt o)) (greater_of key e x)) es h)
 
 pub drops_from : (key : List ℕ) (es : List KeyEntry) → AllBelow key es → from key es ≡ []
 drops_from key es h = filter_none (λ (e : KeyEntry). not (is_lt (byte_order e.key key))) es (all_weaker (λ (e : KeyEntry). byte_order e.key key ≡ Less) (λ (e : KeyEntry). not (is_lt (byte_order e.key key)) ≡ false) (λ e x. ap (λ (o : Ordering). not (is_lt o)) x) es h)

@@ -110,7 +110,7 @@ not_grown c key (Fork l n k b r) uneven above =
 -- ---- what is above it stays
 
 -- a part with the cell that it began with
-kept_join : (cs : List Cell) (n root : ℕ) (l : Tree) (k : List ℕ) (b : Balance) (r : Tree) → cell_at cs n ≡ cell_of l k b r → Some root ≡ root_of r → cs ≡ joined_right_cells false cs n root
+pub kept_join : (cs : List Cell) (n root : ℕ) (l : Tree) (k : List ℕ) (b : Balance) (r : Tree) → cell_at cs n ≡ cell_of l k b r → Some root ≡ root_of r → cs ≡ joined_right_cells false cs n root
 kept_join cs n root l k b r cell is =
     let e : (links_of cs n).right ≡ Some root = ap (λ (x : Cell). x.links.right) cell ∙ sym is in
     sym (ap (λ (o : Option ℕ). with_links cs n (links_with (links_of cs n).left o (links_of cs n).balance)) (sym e) ∙ set-get_or cs n blank)
@@ -119,7 +119,7 @@ some_root : (s t : Tree) (x : ℕ) → IsRight s t → Some x ≡ root_of s → 
 some_root s Leaf x right is = absurd (let q : Some x ≡ None = is ∙ ap root_of (sym right) in cc)
 some_root s (Fork l n k b r) x right is = (n, refl)
 
-tree_right : (cs : List Cell) (l : Tree) (n : ℕ) (k : List ℕ) (b : Balance) (r : Tree) → IsTree cs (Some n) (Fork l n k b r) → IsTree cs (root_of r) r
+pub tree_right : (cs : List Cell) (l : Tree) (n : ℕ) (k : List ℕ) (b : Balance) (r : Tree) → IsTree cs (Some n) (Fork l n k b r) → IsTree cs (root_of r) r
 tree_right cs l n k b r tree = record {
   in_cells = tree.in_cells.2;
   root = refl;

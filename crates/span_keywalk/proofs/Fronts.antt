@@ -1,15 +1,15 @@
 -- Keys that begin with some bytes are adjacent.
-use Rattle.std.proofs.Common.{◌≡◌, ◌≢◌, ℕ, ◌≤◌, Bool, true, false, not, ◌&&◌, cond, filter, List, [], ◌∷◌, ◌++◌, length, take, drop, refl, sym, ap, ◌∙◌, arith, subst, Option, Some, None}
+use Rattle.std.proofs.Common.{◌≡◌, ◌≢◌, ℕ, ◌≤◌, Bool, true, false, not, ◌&&◌, cond, List, [], ◌∷◌, ◌++◌, length, take, drop, refl, sym, ap, ◌∙◌, subst, Option, Some, None}
 use Rattle.std.specs.Prelude.{nat_eq}
 use Rattle.std.specs.List.{starts_with, AllByRecursion}
 use Rattle.std.specs.declared.cmp.Ordering.{Ordering}
 use Rattle.std.specs.declared.cmp.Ordering.TheVariants.{Less, Equal, Greater}
 use Rattle.std.specs.Ordering.{nat_cmp, ordering_then, is_lt}
 use Rattle.std.specs.Cmp.Lexicographic.{pointwise}
-use Rattle.std.proofs.lemmas.Bool.Decides.{nat_tests}
 use Rattle.std.proofs.lemmas.List.{take-append-drop}
 use Rattle.std.proofs.lemmas.List.Elements.{filter-append}
 use Rattle.std.proofs.lemmas.Slice.Eq.{bytes_eq-Decides}
+use Rattle.std.proofs.lemmas.Bool.{eq-eqb}
 use Rattle.span_keycode.specs.Order.{byte_order}
 use Rattle.span_arena.specs.declared.cell.Cell.{Cell}
 use Rattle.span_arena.specs.declared.cell.Balance.{Balance}
@@ -23,6 +23,8 @@ use Rattle.span_keytree.specs.Roots.{entries_at, IsIndex}
 use Rattle.span_keytree.proofs.Rising.{AllAbove, less_trans, all_weaker, IsAround, around, rising_back, below_all, cut_from}
 use Rattle.span_keywalk.proofs.Walking.{IsWalked, part_walked}
 use Rattle.span_value.proofs.Comparisons.{same_number}
+use Rattle.span_value.proofs.Lists.{filter_all, filter_none}
+use Rattle.span_keycode.proofs.Order.{front_not_after}
 
 abbrev begins : List ℕ → List ℕ → Bool
 begins bytes front = starts_with nat_eq bytes front
@@ -32,20 +34,8 @@ begins_front b p e =
     let same : p ≡ take (length p) b = (bytes_eq-Decides p (take (length p) b)).0 e in
     ap (λ (l : List ℕ). l ++ drop (length p) b) same ∙ take-append-drop (length p) b
 
--- bytes are not before their front
-pub front_not_after : (p rest : List ℕ) → is_lt (byte_order (p ++ rest) p) ≡ false
-front_not_after [] [] = refl
-front_not_after [] (b ∷ rest) = refl
-front_not_after (a ∷ p) rest = ap (λ (o : Ordering). is_lt (ordering_then o (byte_order (p ++ rest) p))) (same a) ∙ front_not_after p rest
-  where
-    same : (n : ℕ) → nat_cmp n n ≡ Equal
-    same n = grind (arith, nat_tests)
-
 begins_not_before : (b p : List ℕ) → begins b p ≡ true → is_lt (byte_order b p) ≡ false
 begins_not_before b p e = ap (λ (l : List ℕ). is_lt (byte_order l p)) (sym (begins_front b p e)) ∙ front_not_after p (drop (length p) b)
-
-nat_eq_same : (n : ℕ) → nat_eq n n ≡ true
-nat_eq_same n = grind (arith, nat_tests)
 
 -- what is between bytes and others that begin with them begins with them too
 between : (p a rest : List ℕ) → is_lt (byte_order a p) ≡ false → byte_order a (p ++ rest) ≢ Greater → begins a p ≡ true
@@ -57,7 +47,7 @@ between (x ∷ p) (y ∷ a) rest h g = cases (nat_cmp y x) refl h g (between p a
         → (is_lt (byte_order a p) ≡ false → byte_order a (p ++ rest) ≢ Greater → begins a p ≡ true) → begins (y ∷ a) (x ∷ p) ≡ true
     cases Less e f k again = absurd (let i : true ≡ false = f in cc)
     cases Equal e f k again =
-        ap (λ (n : ℕ). nat_eq x n && pointwise nat_eq p (take (length p) a)) (same_number y x e) ∙ ap (λ (c : Bool). c && pointwise nat_eq p (take (length p) a)) (nat_eq_same x) ∙ again f k
+        ap (λ (n : ℕ). nat_eq x n && pointwise nat_eq p (take (length p) a)) (same_number y x e) ∙ ap (λ (c : Bool). c && pointwise nat_eq p (take (length p) a)) (eq-eqb x x refl) ∙ again f k
     cases Greater e f k again = absurd (k refl)
 
 not_greater : (o : Ordering) → o ≡ Less → o ≢ Greater
@@ -110,19 +100,11 @@ not_past p k h a less = by (is_past p a) refl
     by false e = refl
     by true e = absurd (let f : true ≡ false = sym (past_more p a k less e) ∙ h in cc)
 
-filter_each : (t : KeyEntry → Bool) (es : List KeyEntry) → AllByRecursion (λ (e : KeyEntry). t e ≡ true) es → filter t es ≡ es
-filter_each t [] h = refl
-filter_each t (e ∷ es) h = ap (λ (b : Bool). cond b (e ∷ filter t es) (filter t es)) h.0 ∙ ap (λ (xs : List KeyEntry). e ∷ xs) (filter_each t es h.1)
-
-filter_none : (t : KeyEntry → Bool) (es : List KeyEntry) → AllByRecursion (λ (e : KeyEntry). t e ≡ false) es → filter t es ≡ []
-filter_none t [] h = refl
-filter_none t (e ∷ es) h = ap (λ (b : Bool). cond b (e ∷ filter t es) (filter t es)) h.0 ∙ filter_none t es h.1
-
 first_by : (b : Bool) (p : List ℕ) (x : Option ℕ) (l : Tree) (m : ℕ) (k : List ℕ) (bal : Balance) (r : Tree) → is_past p k ≡ b → IsAround (items l) (entry k m) (items r)
     → first_past p (Some m) l ≡ head_cell (Some m) (past p (items l)) → first_past p x r ≡ head_cell x (past p (items r))
     → cond b (first_past p (Some m) l) (first_past p x r) ≡ head_cell x (past p (items (Fork l m k bal r)))
 first_by true p x l m k bal r is a left right =
-    let rest : past p (entry k m ∷ items r) ≡ entry k m ∷ items r = filter_each (λ (e : KeyEntry). is_past p e.key) (entry k m ∷ items r) (is, all_past p k (items r) is a.greater) in
+    let rest : past p (entry k m ∷ items r) ≡ entry k m ∷ items r = filter_all (λ (e : Entry). is_past p e.key) (entry k m ∷ items r) (is, all_past p k (items r) is a.greater) in
     left
     ∙ sym (middle (past p (items l)))
     ∙ ap (λ (es : List KeyEntry). head_cell x es) (sym (filter-append (λ (e : KeyEntry). is_past p e.key) (items l) (entry k m ∷ items r) ∙ ap (λ (es : List KeyEntry). past p (items l) ++ es) rest))
@@ -155,9 +137,9 @@ cut_under_by true p e es is le rising rest =
     ∙ sym (ap (λ (b : Bool). cond b (e ∷ entries_under p es) (entries_under p es) ++ past p (e ∷ es)) is ∙ ap (λ (b : Bool). (e ∷ entries_under p es) ++ cond b (e ∷ past p es) (past p es)) out)
 cut_under_by false p e es is le rising rest =
     let after : is_past p e.key ≡ true = past_from p e.key le is in
-    let all : AllByRecursion (λ (f : KeyEntry). is_past p f.key ≡ true) (e ∷ es) = (after, all_past p e.key es after rising.0) in
-    let none : entries_under p (e ∷ es) ≡ [] = filter_none (λ (f : KeyEntry). begins f.key p) (e ∷ es) (all_weaker (λ (f : KeyEntry). is_past p f.key ≡ true) (λ (f : KeyEntry). begins f.key p ≡ false) (λ f x. (past_parts p f.key x).1) (e ∷ es) all) in
-    sym (ap (λ (xs : List KeyEntry). xs ++ past p (e ∷ es)) none ∙ filter_each (λ (f : KeyEntry). is_past p f.key) (e ∷ es) all)
+    let all : AllByRecursion (λ (f : Entry). is_past p f.key ≡ true) (e ∷ es) = (after, all_past p e.key es after rising.0) in
+    let none : entries_under p (e ∷ es) ≡ [] = filter_none (λ (f : Entry). begins f.key p) (e ∷ es) (all_weaker (λ (f : Entry). is_past p f.key ≡ true) (λ (f : Entry). begins f.key p ≡ false) (λ f x. (past_parts p f.key x).1) (e ∷ es) all) in
+    sym (ap (λ (xs : List Entry). xs ++ past p (e ∷ es)) none ∙ filter_all (λ (f : Entry). is_past p f.key) (e ∷ es) all)
 
 cut_under : (p : List ℕ) (es : List KeyEntry) → AllByRecursion (λ (e : KeyEntry). is_lt (byte_order e.key p) ≡ false) es → AreRising es → es ≡ entries_under p es ++ past p es
 cut_under p [] le rising = refl

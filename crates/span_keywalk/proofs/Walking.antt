@@ -6,6 +6,7 @@ use Rattle.std.specs.Ordering.{is_lt}
 use Rattle.std.specs.declared.cmp.Ordering.TheVariants.{Less}
 use Rattle.std.proofs.lemmas.Bool.Decides.{nat_tests}
 use Rattle.std.proofs.lemmas.List.Elements.{filter-append}
+use Rattle.std.proofs.lemmas.Bool.{eq-eqb}
 use Rattle.span_keycode.specs.Order.{byte_order}
 use Rattle.span_arena.specs.declared.cell.Cell.{Cell}
 use Rattle.span_keytree.proofs.Keyed.{keys_in_cells}
@@ -45,10 +46,7 @@ walked_more f g (suc n) i stop some miss =
 other_eq : (i j : ℕ) → j ≢ i → nat_eq i j ≡ false
 other_eq i j differs = grind (arith, nat_tests)
 
-same_eq : (i : ℕ) → nat_eq i i ≡ true
-same_eq i = grind (arith, nat_tests)
-
-not_stop : (i : ℕ) (es fs : List KeyEntry) → ((j : ℕ) → one_at j i + holders j (es ++ fs) ≤ 1) → is_stop i (head_cell None fs) ≡ false
+not_stop : (i : ℕ) (es fs : List Entry) → ((j : ℕ) → one_at j i + holders j (es ++ fs) ≤ 1) → is_stop i (head_cell None fs) ≡ false
 not_stop i es [] once = refl
 not_stop i es (e ∷ fs) once =
     let some : 0 < holders e.chain.number (es ++ e ∷ fs) = omega (arith, held_append e.chain.number es (e ∷ fs), one_here e.chain.number) in
@@ -58,7 +56,7 @@ not_stop i es (e ∷ fs) once =
 none_met : (f : ℕ → Cell) (g : ℕ → Option ℕ) (n : ℕ) (at stop : Option ℕ) (fs : List KeyEntry) → IsLinked g at fs → stop ≡ head_cell None fs → walked f g n at stop ≡ []
 none_met f g n at stop [] h is = ap (λ (x : Option ℕ). walked f g n x stop) h ∙ walked_none f g n stop
 none_met f g n at stop (e ∷ fs) h is =
-    let hit : is_stop e.chain.number stop ≡ true = ap (λ (x : Option ℕ). is_stop e.chain.number x) is ∙ same_eq e.chain.number in
+    let hit : is_stop e.chain.number stop ≡ true = ap (λ (x : Option ℕ). is_stop e.chain.number x) is ∙ eq-eqb e.chain.number e.chain.number refl in
     ap (λ (x : Option ℕ). walked f g n x stop) h.0 ∙ walked_stop f g n e.chain.number stop hit
 
 -- the entries from the first of some to the one after them

@@ -19,6 +19,7 @@ use Rattle.span_query.specs.declared.query.Join.{Join}
 use Rattle.span_leaves.specs.Leaves.{widths, reads_of}
 use Rattle.span_columns.specs.Reads.{has_place, is_not, is_read, condition_reads, on_reads, aggregate_reads, selection_reads, block_reads}
 use Rattle.std.proofs.Math.Bool.{and-false}
+use Rattle.span_value.proofs.Lists.{all_whole}
 
 -- ---- tests of the places that something reads
 
@@ -113,10 +114,6 @@ expr_by = ind-Expr IsByPlace (λ x y is. subst (λ (z : Expr-F Expr). IsByPlace 
 
 -- ---- blocks
 
-pub everywhere : {A : Type 0} (P : A → Type 0) → ((x : A) → P x) → (xs : List A) → AllByRecursion P xs
-everywhere P is [] = tt {0}
-everywhere P is (x ∷ xs) = (is x, everywhere P is xs)
-
 pub condition_by : (w : Option Expr) → ByPlace (λ t. condition_reads t w)
 condition_by None = by_none
 condition_by (Some e) = expr_by e
@@ -126,20 +123,20 @@ aggregate_by CountRows = by_none
 aggregate_by (Of f e) = expr_by e
 
 selection_by : (grouping : Option Grouping) (outputs : List Expr) → ByPlace (λ t. selection_reads t grouping outputs)
-selection_by None outputs = by_list (λ t e. reads_only t e) outputs (everywhere IsByPlace expr_by outputs)
+selection_by None outputs = by_list (λ t e. reads_only t e) outputs (all_whole IsByPlace expr_by outputs)
 selection_by (Some g) outputs =
     by_both (λ t. list_all t g.keys) (λ t. list_all (aggregate_reads t) g.aggregates)
-    (by_list (λ t p. t p) g.keys (everywhere (λ p. ByPlace (λ t. t p)) by_place g.keys))
-    (by_list aggregate_reads g.aggregates (everywhere (λ a. ByPlace (λ t. aggregate_reads t a)) aggregate_by g.aggregates))
+    (by_list (λ t p. t p) g.keys (all_whole (λ p. ByPlace (λ t. t p)) by_place g.keys))
+    (by_list aggregate_reads g.aggregates (all_whole (λ a. ByPlace (λ t. aggregate_reads t a)) aggregate_by g.aggregates))
 
 block_by : {Q : Type 0} (b : Block Q) → ByPlace (λ t. block_reads t b)
 block_by {Q} b =
     by_both (λ t. list_all (on_reads t) b.joins && condition_reads t b.filter) (λ t. selection_reads t b.grouping b.outputs)
     (by_both (λ t. list_all (on_reads t) b.joins) (λ t. condition_reads t b.filter)
-    (by_list (λ t (j : Join Q). on_reads t j) b.joins (everywhere (λ (j : Join Q). ByPlace (λ t. on_reads t j)) (λ j. expr_by j.on) b.joins)) (condition_by b.filter))
+    (by_list (λ t (j : Join Q). on_reads t j) b.joins (all_whole (λ (j : Join Q). ByPlace (λ t. on_reads t j)) (λ j. expr_by j.on) b.joins)) (condition_by b.filter))
     (selection_by b.grouping b.outputs)
 
-has_place-range : (f : ℕ → Bool) (a n k : ℕ) → f (a + k) ≡ true → has_place (map f (range_with_len a n)) k ≡ true
+pub has_place-range : (f : ℕ → Bool) (a n k : ℕ) → f (a + k) ≡ true → has_place (map f (range_with_len a n)) k ≡ true
 has_place-range f a zero k is = refl
 has_place-range f a (suc n) zero is = let e : a ≡ a + 0 = omega arith in ap f e ∙ is
 has_place-range f a (suc n) (suc k) is = let e : (a + 1) + k ≡ a + suc k = omega arith in has_place-range f (a + 1) n k (ap f e ∙ is)
@@ -164,11 +161,6 @@ covers_all zero rs ms covers k has = covers k has
 covers_all (suc n) rs ms covers zero has = refl
 covers_all (suc n) [] ms covers (suc k) has = covers_all n [] ms (subst (λ (l : List Bool). Covers l ms) (sym (drop_nil n)) covers) k refl
 covers_all (suc n) (r ∷ rs) ms covers (suc k) has = covers_all n rs ms covers k has
-
-pub drop_more : {A : Type 0} (n m : ℕ) (xs : List A) → drop m (drop n xs) ≡ drop (n + m) xs
-drop_more zero m xs = let e : m ≡ 0 + m = omega arith in ap (λ (k : ℕ). drop k xs) e
-drop_more (suc n) m [] = let e : suc (n + m) ≡ suc n + m = omega arith in drop_nil m ∙ ap (λ (k : ℕ). drop k []) e
-drop_more (suc n) m (x ∷ xs) = let e : suc (n + m) ≡ suc n + m = omega arith in drop_more n m xs ∙ ap (λ (k : ℕ). drop k (x ∷ xs)) e
 
 -- what a block reads is in any mask that has what its own has
 pub covered : {Q : Type 0} (width : ℕ) (b : Block Q) (ms : List Bool) → Covers (reads_of width b) ms → block_reads (has_place ms) b ≡ true

@@ -1,5 +1,6 @@
 -- What the result of reading implies of the text.
 use Rattle.std.proofs.Common.{◌≡◌, ◌⊎◌, inl, inr, ℕ, ◌≤◌, length, List, Some, None, sym, ap, subst, ◌∙◌}
+use Rattle.std.proofs.lemmas.Option.{same_Some}
 use Rattle.span_value.specs.declared.refusal.Refusal.{Refusal}
 use Rattle.span_value.specs.declared.refusal.Refusal.TheVariants as refusal
 use Rattle.span_lexer.specs.declared.token.Token.{Token}
@@ -9,11 +10,8 @@ use Rattle.span_lexer.specs.Readings.{IsReadError}
 use Rattle.span_lexer.specs.Tokens.{Item, AreItems, text_of, tokens_of}
 use Rattle.span_lexer.proofs.Complete.{items_read}
 
-some_is : (x y : List Token) → Some x ≡ Some y → x ≡ y
-some_is x y e = cc
-
 pub read_is : (text : List ℕ) (found : List Token) → lex_from 0 0 text ≡ Some found → (is : List Item) → AreItems is → text ≡ text_of is → found ≡ tokens_of 0 is
-read_is text found e is are same = some_is found (tokens_of 0 is) (sym e ∙ ap (lex_from 0 0) same ∙ items_read 0 is are)
+read_is text found e is are same = same_Some found (tokens_of 0 is) (sym e ∙ ap (lex_from 0 0) same ∙ items_read 0 is are)
 
 pub read_is_not : (text : List ℕ) → lex_from 0 0 text ≡ None → (is : List Item) → AreItems is → text ≡ text_of is → ⊥
 read_is_not text e is are same = let t : None ≡ Some (tokens_of 0 is) = sym e ∙ ap (lex_from 0 0) same ∙ items_read 0 is are in cc

@@ -2,7 +2,8 @@
 use Rattle.std.proofs.Common.{◌≡◌, ◌⊎◌, inl, inr, ℕ, zero, suc, ◌+◌, ◌-◌, ◌*◌, ◌<◌, ◌≤◌, ◌==◌, nat_lt, Bool, true, false, not, ◌&&◌, ◌||◌, List, [], ◌∷◌, ◌++◌, length, drop, take, Option, Some, None, refl, sym, ap, subst, ◌∙◌, arith, eqb-true}
 use Rattle.std.proofs.lemmas.Grind.{common_steps}
 use Rattle.std.proofs.lemmas.List.{take-append-drop}
-use Rattle.std.proofs.lemmas.Bool.{or_parts}
+use Rattle.std.proofs.lemmas.Bool.{or_parts, le-ltb, cond-true, cond-false}
+use Rattle.std.proofs.Math.Seq.{take-append_seam, drop-append_seam}
 use Rattle.span_lexer.specs.declared.token.TokenKind.{TokenKind}
 use Rattle.span_lexer.specs.declared.token.TokenKind.TheVariants as kind
 use Rattle.span_lexer.specs.declared.token.Token.{Token}
@@ -16,7 +17,6 @@ use Rattle.span_lexer.specs.Spellings.{reserved_word, sign}
 use Rattle.span_lexer.specs.Literals.{closing_quote}
 use Rattle.span_lexer.specs.Lexing.{word_length, lex_word, word_or_name, integer, next_integer, lex_integer, int_or_wrong, lex_parameter, name_or_wrong, literal_or_wrong, lex_bytes, lex_sign, is_on_line, lex_first, greatest_integer, longest_word, lex_from, with_token}
 use Rattle.span_lexer.specs.Tokens.{Each, Stops, IsName, NoMark, number_after, IsInteger, is_pair, NoPair, IsToken, Item, Blank, Comment, Lexeme, item_bytes, IsItem, AreItems, text_of, tokens_of}
-use Rattle.span_value.proofs.Choices.{if_true, if_false}
 use Rattle.span_lexer.proofs.Pieces.{body_closes}
 use Rattle.span_lexer.proofs.Fronts.{run_whole, digit_is_word, Holds, IsGap, front_holds}
 use Rattle.span_lexer.proofs.Whole.{gap_then, lexeme_then, wrong_then, lexed_nil}
@@ -58,13 +58,13 @@ quote_is q e = elim (q == 39) as (λ v. (q == 39) ≡ v → (v || (q == 34)) ≡
 
 to_word : (b : ℕ) (bs : List ℕ) → is_letter b ≡ true → (is_mark b && begins is_quote bs) ≡ false → lex_first (b ∷ bs) ≡ lex_word (b ∷ bs)
 unfolding lex_first
-to_word b bs e m = if_false (is_blank b) _ _ (letter_not_blank b e) ∙ if_false (is_mark b && begins is_quote bs) _ _ m ∙ if_true (is_letter b) _ _ e
+to_word b bs e m = cond-false (is_blank b) _ _ (letter_not_blank b e) ∙ cond-false (is_mark b && begins is_quote bs) _ _ m ∙ cond-true (is_letter b) _ _ e
 
 to_integer : (b : ℕ) (bs : List ℕ) → is_digit b ≡ true → lex_first (b ∷ bs) ≡ lex_integer (b ∷ bs)
 unfolding lex_first
 to_integer b bs e =
-    if_false (is_blank b) _ _ (digit_not_blank b e) ∙ if_false (is_mark b && begins is_quote bs) _ _ (ap (λ (v : Bool). v && begins is_quote bs) (digit_not_mark b e))
-    ∙ if_false (is_letter b) _ _ (digit_not_letter b e) ∙ if_true (is_digit b) _ _ e
+    cond-false (is_blank b) _ _ (digit_not_blank b e) ∙ cond-false (is_mark b && begins is_quote bs) _ _ (ap (λ (v : Bool). v && begins is_quote bs) (digit_not_mark b e))
+    ∙ cond-false (is_letter b) _ _ (digit_not_letter b e) ∙ cond-true (is_digit b) _ _ e
 
 to_parameter : (bs : List ℕ) → lex_first (64 ∷ bs) ≡ lex_parameter bs
 unfolding lex_first is_blank is_mark is_letter is_digit
@@ -85,21 +85,9 @@ to_string q bs e =
 
 to_bytes : (m q : ℕ) (bs : List ℕ) → is_mark m ≡ true → is_quote q ≡ true → lex_first (m ∷ q ∷ bs) ≡ literal_or_wrong kind.Bytes 2 (closing_quote literal.Bytes q 0 bs)
 unfolding lex_first lex_bytes
-to_bytes m q bs e f = if_false (is_blank m) _ _ (mark_not_blank m e) ∙ if_true (is_mark m && is_quote q) _ _ (ap (λ (v : Bool). v && is_quote q) e ∙ f)
+to_bytes m q bs e f = cond-false (is_blank m) _ _ (mark_not_blank m e) ∙ cond-true (is_mark m && is_quote q) _ _ (ap (λ (v : Bool). v && is_quote q) e ∙ f)
 
 -- ---- words, parameters, numbers
-
-take_whole : (xs ys : List ℕ) → take (length xs) (xs ++ ys) ≡ xs
-take_whole [] [] = refl
-take_whole [] (y ∷ ys) = refl
-take_whole (x ∷ xs) ys = ap (λ (w : List ℕ). x ∷ w) (take_whole xs ys)
-
-drop_whole : (xs ys : List ℕ) → drop (length xs) (xs ++ ys) ≡ ys
-drop_whole [] ys = refl
-drop_whole (x ∷ xs) ys = drop_whole xs ys
-
-not_over : (a b : ℕ) → b ≤ a → nat_lt a b ≡ false
-not_over a b l = grind arith
 
 name_run : (w rest : List ℕ) → IsName w rest → word_length (w ++ rest) ≡ length w
 name_run w rest h = run_whole is_word w rest h.only h.whole
@@ -108,8 +96,8 @@ read_word : (w rest : List ℕ) → IsName w rest → lex_word (w ++ rest) ≡ l
 unfolding lex_word
 read_word w rest h =
     let n = name_run w rest h in
-    if_false (nat_lt longest_word (word_length (w ++ rest))) lex_result.Wrong _ (ap (nat_lt longest_word) n ∙ not_over longest_word (length w) h.short)
-    ∙ ap (λ (k : ℕ). lex_result.Lexeme (word_or_name (reserved_word (take k (w ++ rest)))) k) n ∙ ap (λ (v : List ℕ). lex_result.Lexeme (word_or_name (reserved_word v)) (length w)) (take_whole w rest)
+    cond-false (nat_lt longest_word (word_length (w ++ rest))) lex_result.Wrong _ (ap (nat_lt longest_word) n ∙ le-ltb longest_word (length w) h.short)
+    ∙ ap (λ (k : ℕ). lex_result.Lexeme (word_or_name (reserved_word (take k (w ++ rest)))) k) n ∙ ap (λ (v : List ℕ). lex_result.Lexeme (word_or_name (reserved_word v)) (length w)) (take-append_seam w rest)
 
 unmarked : (b : ℕ) (w rest : List ℕ) → Each is_word w → NoMark (b ∷ w) rest → (is_mark b && begins is_quote (w ++ rest)) ≡ false
 unmarked b (c ∷ w) rest h n = ap (λ (v : Bool). is_mark b && v) (word_not_quote c h.0) ∙ and_false (is_mark b)
@@ -135,9 +123,9 @@ parameter_read : (w rest : List ℕ) → IsName w rest → reserved_word w ≡ N
 unfolding lex_parameter
 parameter_read w rest h r =
     let n = name_run w rest h in
-    if_false (not (begins is_letter (w ++ rest)) || nat_lt longest_word (word_length (w ++ rest))) lex_result.Wrong _
-    (ap (λ (v : Bool). not v || nat_lt longest_word (word_length (w ++ rest))) (begins_whole w rest h.first) ∙ ap (nat_lt longest_word) n ∙ not_over longest_word (length w) h.short)
-    ∙ ap (λ (k : ℕ). name_or_wrong k (reserved_word (take k (w ++ rest)))) n ∙ ap (λ (v : List ℕ). name_or_wrong (length w) (reserved_word v)) (take_whole w rest) ∙ ap (name_or_wrong (length w)) r
+    cond-false (not (begins is_letter (w ++ rest)) || nat_lt longest_word (word_length (w ++ rest))) lex_result.Wrong _
+    (ap (λ (v : Bool). not v || nat_lt longest_word (word_length (w ++ rest))) (begins_whole w rest h.first) ∙ ap (nat_lt longest_word) n ∙ le-ltb longest_word (length w) h.short)
+    ∙ ap (λ (k : ℕ). name_or_wrong k (reserved_word (take k (w ++ rest)))) n ∙ ap (λ (v : List ℕ). name_or_wrong (length w) (reserved_word v)) (take-append_seam w rest) ∙ ap (name_or_wrong (length w)) r
 
 grows : (n : ℕ) (ds : List ℕ) → n ≤ number_after n ds
 grows n [] = omega arith
@@ -145,7 +133,7 @@ grows n (c ∷ cs) = let l = grows (n * 10 + (c - 48)) cs in omega (arith, l)
 
 next_is : (n c : ℕ) → is_digit c ≡ true → n * 10 + (c - 48) ≤ greatest_integer → next_integer n c ≡ Some (n * 10 + (c - 48))
 unfolding next_integer
-next_is n c d l = if_true (is_digit c) _ None d ∙ if_false (nat_lt greatest_integer (n * 10 + (c - 48))) None _ (not_over greatest_integer (n * 10 + (c - 48)) l)
+next_is n c d l = cond-true (is_digit c) _ None d ∙ cond-false (nat_lt greatest_integer (n * 10 + (c - 48))) None _ (le-ltb greatest_integer (n * 10 + (c - 48)) l)
 
 integer_read : (n : ℕ) (ds : List ℕ) → Each is_digit ds → number_after n ds ≤ greatest_integer → integer n ds ≡ Some (number_after n ds)
 unfolding integer
@@ -163,7 +151,7 @@ unfolding lex_integer
 integer_front_read ds rest v h =
     let n = run_whole is_word ds rest (digits_are_words ds h.only) h.whole in
     let small : number_after 0 ds ≤ greatest_integer = let e = h.says in let l = h.small in omega (arith, e, l) in
-    ap (λ (k : ℕ). int_or_wrong k (integer 0 (take k (ds ++ rest)))) n ∙ ap (λ (w : List ℕ). int_or_wrong (length ds) (integer 0 w)) (take_whole ds rest)
+    ap (λ (k : ℕ). int_or_wrong k (integer 0 (take k (ds ++ rest)))) n ∙ ap (λ (w : List ℕ). int_or_wrong (length ds) (integer 0 w)) (take-append_seam ds rest)
     ∙ ap (int_or_wrong (length ds)) (integer_read 0 ds h.only small) ∙ ap (λ (k : ℕ). lex_result.Lexeme (kind.Int k) (length ds)) h.says
 
 -- ---- signs
@@ -193,15 +181,15 @@ sign_read sgn.Dot rest h = refl
 sign_read sgn.Semicolon rest h = refl
 sign_read sgn.Star rest h = refl
 sign_read sgn.Plus rest h = refl
-sign_read sgn.Minus rest h = if_false (begins (λ c. c == 45) rest) _ _ (not_next (λ c. c == 45) rest (λ b more e. pair_minus b (h 45 b more refl e)))
+sign_read sgn.Minus rest h = cond-false (begins (λ c. c == 45) rest) _ _ (not_next (λ c. c == 45) rest (λ b more e. pair_minus b (h 45 b more refl e)))
 sign_read sgn.Equal rest h = refl
 sign_read sgn.LessGreater rest h = refl
 sign_read sgn.BangEqual rest h = refl
 sign_read sgn.Less rest h =
-    if_false (begins (λ c. c == 61) rest) _ _ (not_next (λ c. c == 61) rest (λ b more e. (pair_less b (h 60 b more refl e)).0))
-    ∙ if_false (begins (λ c. c == 62) rest) _ _ (not_next (λ c. c == 62) rest (λ b more e. (pair_less b (h 60 b more refl e)).1))
+    cond-false (begins (λ c. c == 61) rest) _ _ (not_next (λ c. c == 61) rest (λ b more e. (pair_less b (h 60 b more refl e)).0))
+    ∙ cond-false (begins (λ c. c == 62) rest) _ _ (not_next (λ c. c == 62) rest (λ b more e. (pair_less b (h 60 b more refl e)).1))
 sign_read sgn.LessEqual rest h = refl
-sign_read sgn.Greater rest h = if_false (begins (λ c. c == 61) rest) _ _ (not_next (λ c. c == 61) rest (λ b more e. pair_greater b (h 62 b more refl e)))
+sign_read sgn.Greater rest h = cond-false (begins (λ c. c == 61) rest) _ _ (not_next (λ c. c == 61) rest (λ b more e. pair_greater b (h 62 b more refl e)))
 sign_read sgn.GreaterEqual rest h = refl
 sign_read sgn.Concat rest h = refl
 
@@ -239,7 +227,7 @@ token_some k bytes rest h = token_long k bytes rest (lex_first (bytes ++ rest)) 
 
 blank_read : (b : ℕ) (rest : List ℕ) → is_blank b ≡ true → lex_first (b ∷ rest) ≡ lex_result.Skip 1
 unfolding lex_first
-blank_read b rest e = if_true (is_blank b) (lex_result.Skip 1) _ e
+blank_read b rest e = cond-true (is_blank b) (lex_result.Skip 1) _ e
 
 -- ---- texts
 
@@ -249,7 +237,7 @@ items_read at [] h = lexed_nil 0 at
 items_read at (Blank b ∷ is) h = gap_then at b 1 (text_of is) (blank_read b (text_of is) h.0) (omega arith) ∙ items_read (at + 1) is h.1
 items_read at (Comment bytes ∷ is) h =
     gap_then at 45 (2 + length bytes) (45 ∷ (bytes ++ text_of is)) (comment_read bytes (text_of is) h.0.0 h.0.1) (omega arith)
-    ∙ ap (λ (v : List ℕ). lex_from 0 (at + (2 + length bytes)) v) (ap (λ (n : ℕ). drop n (45 ∷ 45 ∷ (bytes ++ text_of is))) (let e : 2 + length bytes ≡ suc (suc (length bytes)) = omega arith in e) ∙ drop_whole bytes (text_of is))
+    ∙ ap (λ (v : List ℕ). lex_from 0 (at + (2 + length bytes)) v) (ap (λ (n : ℕ). drop n (45 ∷ 45 ∷ (bytes ++ text_of is))) (let e : 2 + length bytes ≡ suc (suc (length bytes)) = omega arith in e) ∙ drop-append_seam bytes (text_of is))
     ∙ ap (λ (n : ℕ). lex_from 0 (at + n) (text_of is)) (let e : 2 + length bytes ≡ length bytes + 2 = omega arith in e) ∙ items_read (at + (length bytes + 2)) is h.1
 items_read at (Lexeme k bytes ∷ is) h = token_first at k bytes (text_of is) h.0 (items_read (at + length bytes) is h.1)
   where
@@ -258,7 +246,7 @@ items_read at (Lexeme k bytes ∷ is) h = token_first at k bytes (text_of is) h.
     token_first at k [] rest h e = absurd (let l = token_some k [] rest h in omega (arith, l))
     token_first at k (b ∷ bytes) rest h e =
         lexeme_then at b (length (b ∷ bytes)) k (bytes ++ rest) (token_read k (b ∷ bytes) rest h) (omega arith)
-        ∙ ap (with_token (record { kind = k; start = at; end = at + length (b ∷ bytes) })) (ap (lex_from 0 (at + length (b ∷ bytes))) (drop_whole bytes rest) ∙ e)
+        ∙ ap (with_token (record { kind = k; start = at; end = at + length (b ∷ bytes) })) (ap (lex_from 0 (at + length (b ∷ bytes))) (drop-append_seam bytes rest) ∙ e)
 
 -- what is read is items
 abbrev ReadsItems : ℕ → List ℕ → Option (List Token) → Type 0

@@ -1,9 +1,9 @@
 -- What the lexer finds first in a text is an item.
-use Rattle.std.proofs.Common.{◌≡◌, ℕ, zero, suc, ◌+◌, ◌-◌, ◌*◌, ◌<◌, ◌≤◌, ◌==◌, nat_lt, Bool, true, false, not, ◌&&◌, ◌||◌, List, [], ◌∷◌, ◌++◌, length, drop, take, get_or, Option, Some, None, if◌then◌else◌, refl, sym, ap, subst, ◌∙◌, arith, eqb-true, lit≤}
+use Rattle.std.proofs.Common.{◌≡◌, ℕ, zero, suc, ◌+◌, ◌-◌, ◌*◌, ◌<◌, ◌≤◌, ◌==◌, nat_lt, Bool, true, false, not, ◌&&◌, ◌||◌, List, [], ◌∷◌, ◌++◌, length, drop, take, get_or, Option, Some, None, if◌then◌else◌, refl, sym, ap, subst, ◌∙◌, arith, eqb-true, lit≤, one-add, add-one}
 use Rattle.std.specs.List.{prefix_len}
 use Rattle.std.proofs.lemmas.Grind.{common_steps}
 use Rattle.std.proofs.lemmas.List.Sums.{prefix_len-le-length}
-use Rattle.std.proofs.lemmas.Bool.{and_parts}
+use Rattle.std.proofs.lemmas.Bool.{and_parts, ltb-false, cond-true, cond-false}
 use Rattle.span_lexer.specs.declared.token.TokenKind.TheVariants as kind
 use Rattle.span_lexer.specs.declared.token.Sign.{Sign}
 use Rattle.span_lexer.specs.declared.token.Sign.TheVariants as sgn
@@ -16,19 +16,15 @@ use Rattle.span_lexer.specs.Literals.{closing_quote}
 use Rattle.span_lexer.specs.Lexing.{word_length, lex_word, word_or_name, integer, next_integer, lex_integer, int_or_wrong, lex_parameter, name_or_wrong, literal_or_wrong, lex_bytes, lex_sign, is_on_line, lex_first, greatest_integer, longest_word, Reaches}
 use Rattle.span_lexer.specs.Tokens.{Each, Stops, IsName, NoMark, number_after, is_pair, IsToken, Item, Blank, Comment, Lexeme, item_bytes, IsItem}
 use Rattle.span_lexer.proofs.Words.{choose}
-use Rattle.span_value.proofs.Choices.{if_true, if_false}
 use Rattle.span_lexer.proofs.Pieces.{body_read, ReadsBody}
 
 -- ---- runs
-
-one_plus : (n : ℕ) → 1 + n ≡ suc n
-one_plus n = omega arith
 
 pub each_run : (p : ℕ → Bool) (bs : List ℕ) → Each p (take (prefix_len p bs) bs)
 each_run p [] = tt
 each_run p (b ∷ bs) =
     elim (p b) as (λ v. p b ≡ v → Each p (take (if v then 1 + prefix_len p bs else 0) (b ∷ bs))) [
-      | true ↦ λ e. let P : ℕ → Type 0 = λ n. Each p (take n (b ∷ bs)) in subst P (sym (one_plus (prefix_len p bs))) (e, each_run p bs)
+      | true ↦ λ e. let P : ℕ → Type 0 = λ n. Each p (take n (b ∷ bs)) in subst P (sym (one-add (prefix_len p bs))) (e, each_run p bs)
       | false ↦ λ e. tt
     ] refl
 
@@ -36,16 +32,16 @@ pub stops_run : (p : ℕ → Bool) (bs : List ℕ) → Stops p (drop (prefix_len
 stops_run p [] = refl
 stops_run p (b ∷ bs) =
     elim (p b) as (λ v. p b ≡ v → Stops p (drop (if v then 1 + prefix_len p bs else 0) (b ∷ bs))) [
-      | true ↦ λ e. let P : ℕ → Type 0 = λ n. Stops p (drop n (b ∷ bs)) in subst P (sym (one_plus (prefix_len p bs))) (stops_run p bs)
+      | true ↦ λ e. let P : ℕ → Type 0 = λ n. Stops p (drop n (b ∷ bs)) in subst P (sym (one-add (prefix_len p bs))) (stops_run p bs)
       | false ↦ λ e. e
     ] refl
 
 pub run_first : (p : ℕ → Bool) (b : ℕ) (bs : List ℕ) → p b ≡ true → prefix_len p (b ∷ bs) ≡ suc (prefix_len p bs)
-run_first p b bs e = if_true (p b) (1 + prefix_len p bs) 0 e ∙ one_plus (prefix_len p bs)
+run_first p b bs e = cond-true (p b) (1 + prefix_len p bs) 0 e ∙ one-add (prefix_len p bs)
 
 pub run_whole : (p : ℕ → Bool) (bs rest : List ℕ) → Each p bs → Stops p rest → prefix_len p (bs ++ rest) ≡ length bs
 run_whole p [] [] h s = refl
-run_whole p [] (b ∷ rest) h s = if_false (p b) (1 + prefix_len p rest) 0 s
+run_whole p [] (b ∷ rest) h s = cond-false (p b) (1 + prefix_len p rest) 0 s
 run_whole p (b ∷ bs) rest h s = run_first p b (bs ++ rest) h.0 ∙ ap suc (run_whole p bs rest h.1 s)
 
 pub letter_is_word : (c : ℕ) → is_letter c ≡ true → is_word c ≡ true
@@ -67,9 +63,6 @@ abbrev pub Holds : List ℕ → LexResult → Type 0
 Holds bs (lex_result.Skip n) = (i : Item) × IsGap i × IsItem i (drop n bs) × (item_bytes i ≡ take n bs) × (0 < n) × (n ≤ length bs)
 Holds bs (lex_result.Lexeme k n) = IsToken k (take n bs) (drop n bs) × (0 < n) × (n ≤ length bs)
 Holds bs lex_result.Wrong = Unit {0}
-
-not_less : (a b : ℕ) → nat_lt a b ≡ false → b ≤ a
-not_less a b e = grind arith
 
 name_of : (b : ℕ) (bs : List ℕ) → is_letter b ≡ true → word_length (b ∷ bs) ≤ longest_word → IsName (take (word_length (b ∷ bs)) (b ∷ bs)) (drop (word_length (b ∷ bs)) (b ∷ bs))
 name_of b bs e short =
@@ -95,8 +88,8 @@ word_holds b bs e m =
     let unmarked : NoMark (take n (b ∷ bs)) (drop n (b ∷ bs)) = subst P (sym first) (no_mark b bs (word_length bs) m) in
     choose (Holds (b ∷ bs)) (nat_lt longest_word n) lex_result.Wrong _ (λ h. tt)
     (λ h. elim (reserved_word (take n (b ∷ bs))) as (λ o. reserved_word (take n (b ∷ bs)) ≡ o → Holds (b ∷ bs) (lex_result.Lexeme (word_or_name o) n)) [
-      | None ↦ λ r. ((name_of b bs e (not_less longest_word n h), unmarked, r), some, prefix_len-le-length is_word (b ∷ bs))
-      | Some w ↦ λ r. ((name_of b bs e (not_less longest_word n h), unmarked, r), some, prefix_len-le-length is_word (b ∷ bs))
+      | None ↦ λ r. ((name_of b bs e (ltb-false longest_word n h), unmarked, r), some, prefix_len-le-length is_word (b ∷ bs))
+      | Some w ↦ λ r. ((name_of b bs e (ltb-false longest_word n h), unmarked, r), some, prefix_len-le-length is_word (b ∷ bs))
     ] refl)
 
 -- ---- numbers
@@ -111,7 +104,7 @@ CountsOne n c (Some v) = (is_digit c ≡ true) × (n * 10 + (c - 48) ≡ v) × (
 
 counts_one : (n c : ℕ) → CountsOne n c (next_integer n c)
 unfolding next_integer
-counts_one n c = choose (CountsOne n c) (is_digit c) _ None (λ d. choose (CountsOne n c) (nat_lt greatest_integer (n * 10 + (c - 48))) None _ (λ h. tt) (λ h. (d, refl, not_less greatest_integer (n * 10 + (c - 48)) h))) (λ d. tt)
+counts_one n c = choose (CountsOne n c) (is_digit c) _ None (λ d. choose (CountsOne n c) (nat_lt greatest_integer (n * 10 + (c - 48))) None _ (λ h. tt) (λ h. (d, refl, ltb-false greatest_integer (n * 10 + (c - 48)) h))) (λ d. tt)
 
 counts_first : (n c v : ℕ) (cs : List ℕ) → is_digit c ≡ true → n * 10 + (c - 48) ≡ v → (o : Option ℕ) → Counts v cs o → Counts n (c ∷ cs) o
 counts_first n c v cs d e None h = tt
@@ -141,9 +134,6 @@ integer_holds b bs d =
 
 -- ---- parameters
 
-plus_one : (n : ℕ) → n + 1 ≡ suc n
-plus_one n = omega arith
-
 first_of_word : (bs : List ℕ) → begins is_letter bs ≡ true → word_length bs ≤ longest_word → IsName (take (word_length bs) bs) (drop (word_length bs) bs)
 first_of_word [] e short = absurd (let t : false ≡ true = e in cc)
 first_of_word (b ∷ bs) e short = name_of b bs e short
@@ -162,7 +152,7 @@ parameter_holds bs =
       | None ↦ λ r.
           let P : ℕ → Type 0 = λ k. IsToken kind.Parameter (take k (64 ∷ bs)) (drop k (64 ∷ bs)) in
           let within = prefix_len-le-length is_word bs in
-          (subst P (sym (plus_one n)) (take n bs, refl, first_of_word bs two.0 (not_less longest_word n two.1), r), omega arith, omega (arith, within))
+          (subst P (sym (add-one n)) (take n bs, refl, first_of_word bs two.0 (ltb-false longest_word n two.1), r), omega arith, omega (arith, within))
       | Some w ↦ λ r. tt
     ] refl)
 
@@ -172,7 +162,7 @@ string_holds : (q : ℕ) (bs : List ℕ) → is_quote q ≡ true → (o : Option
 string_holds q bs quote None h = tt
 string_holds q bs quote (Some n) h =
     let P : ℕ → Type 0 = λ k. IsToken kind.Str (take k (q ∷ bs)) (drop k (q ∷ bs)) in
-    (subst P (sym (one_plus n)) (q, take n bs, quote, refl, h.0), omega arith, omega (arith, h.2))
+    (subst P (sym (one-add n)) (q, take n bs, quote, refl, h.0), omega arith, omega (arith, h.2))
 
 two_plus : (n : ℕ) → 2 + n ≡ suc (suc n)
 two_plus n = omega arith

@@ -4,6 +4,7 @@ use Rattle.std.specs.List.{AllByRecursion}
 use Rattle.std.specs.Str.{IsUtf8, IsCharBoundary}
 use Rattle.std.proofs.lemmas.Str.{IsUtf8-take, IsUtf8-drop, IsCharBoundary-end, IsCharBoundary-before_ascii, IsCharBoundary-after_ascii, utf8_lossy-IsUtf8}
 use Rattle.std.proofs.lemmas.Grind.{common_steps}
+use Rattle.std.proofs.Math.Seq.{take-append_seam, drop-append_seam}
 use Rattle.span_lexer.specs.declared.token.TokenKind.{TokenKind}
 use Rattle.span_lexer.specs.declared.token.TokenKind.TheVariants as kind
 use Rattle.span_lexer.specs.declared.token.Token.{Token}
@@ -150,29 +151,20 @@ item_ends (Lexeme k bytes) rest h is = at_end bytes rest (token_low k bytes rest
 
 -- ---- the tokens of a text, item by item
 
-take_whole : (xs ys : List ℕ) → take (length xs) (xs ++ ys) ≡ xs
-take_whole [] [] = refl
-take_whole [] (y ∷ ys) = refl
-take_whole (x ∷ xs) ys = ap (λ (w : List ℕ). x ∷ w) (take_whole xs ys)
-
-drop_whole : (xs ys : List ℕ) → drop (length xs) (xs ++ ys) ≡ ys
-drop_whole [] ys = refl
-drop_whole (x ∷ xs) ys = drop_whole xs ys
-
 item_is : (i : Item) (rest : List ℕ) → IsItem i rest → IsUtf8 (item_bytes i ++ rest) → IsUtf8 (item_bytes i)
-item_is i rest h is = subst IsUtf8 (take_whole (item_bytes i) rest) (IsUtf8-take (item_bytes i ++ rest) (length (item_bytes i)) is (item_ends i rest h is))
+item_is i rest h is = subst IsUtf8 (take-append_seam (item_bytes i) rest) (IsUtf8-take (item_bytes i ++ rest) (length (item_bytes i)) is (item_ends i rest h is))
 
 rest_is : (i : Item) (rest : List ℕ) → IsItem i rest → IsUtf8 (item_bytes i ++ rest) → IsUtf8 rest
-rest_is i rest h is = subst IsUtf8 (drop_whole (item_bytes i) rest) (IsUtf8-drop (item_bytes i ++ rest) (length (item_bytes i)) is (item_ends i rest h is))
+rest_is i rest h is = subst IsUtf8 (drop-append_seam (item_bytes i) rest) (IsUtf8-drop (item_bytes i ++ rest) (length (item_bytes i)) is (item_ends i rest h is))
 
 -- what is at a place of a text
 part_is : (text front bytes rest : List ℕ) (at : ℕ) → text ≡ front ++ (bytes ++ rest) → length front ≡ at → part_of text at (at + length bytes) ≡ bytes
 part_is text front bytes rest at e l =
     ap (λ (w : List ℕ). part_of w at (at + length bytes)) e
     ∙ ap (λ (n : ℕ). part_of (front ++ (bytes ++ rest)) n (n + length bytes)) (sym l)
-    ∙ ap (take (length front + length bytes - length front)) (drop_whole front (bytes ++ rest))
+    ∙ ap (take (length front + length bytes - length front)) (drop-append_seam front (bytes ++ rest))
     ∙ ap (λ (n : ℕ). take n (bytes ++ rest)) {x = length front + length bytes - length front} {y = length bytes} (omega arith)
-    ∙ take_whole bytes rest
+    ∙ take-append_seam bytes rest
 
 -- the front grows by an item
 moved : (text front bytes rest : List ℕ) → text ≡ front ++ (bytes ++ rest) → text ≡ (front ++ bytes) ++ rest

@@ -2,6 +2,7 @@
 use Rattle.std.proofs.Common.{◌≡◌, ℕ, zero, suc, ◌+◌, ◌-◌, ◌<◌, ◌≤◌, List, [], ◌∷◌, ◌++◌, length, drop, get_or, Option, Some, None, refl, sym, ap, ◌∙◌, append_assoc, arith}
 use Rattle.std.specs.Option.{option_map}
 use Rattle.std.proofs.lemmas.Grind.{common_steps}
+use Rattle.std.proofs.lemmas.List.{append-nil, drop-drop, drop_more}
 use Rattle.span_lexer.specs.declared.token.TokenKind.{TokenKind}
 use Rattle.span_lexer.specs.declared.token.Token.{Token}
 use Rattle.span_lexer.specs.declared.lexer.LexResult.{LexResult}
@@ -67,38 +68,28 @@ put_token : (out : List Token) (t : Token) (o : Option (List Token)) → put out
 put_token out t None = refl
 put_token out t (Some w) = ap Some (sym (append_assoc out (t ∷ []) w))
 
-append_nil : (out : List Token) → out ++ [] ≡ out
-append_nil [] = refl
-append_nil (t ∷ out) = ap (λ (w : List Token). t ∷ w) (append_nil out)
-
 pub lexing_begins : (bytes : List ℕ) → IsLexedFrom bytes [] 0
 lexing_begins bytes = put_nil (lex_from 0 0 bytes)
 
-at_front : (bytes : List ℕ) (at : ℕ) → at < length bytes → drop at bytes ≡ get_or bytes at 0 ∷ drop (at + 1) bytes
-at_front bytes at h = grind (arith, common_steps)
-
-drop_drop : (n at : ℕ) (bytes : List ℕ) → drop n (drop at bytes) ≡ drop (at + n) bytes
-drop_drop n at bytes = grind (arith, common_steps)
-
 pub gap_steps : (bytes : List ℕ) (out : List Token) (at n : ℕ) → IsLexedFrom bytes out at → at < length bytes → lex_first (drop at bytes) ≡ lex_result.Skip n → 0 < n → IsLexedFrom bytes out (at + n)
 gap_steps bytes out at n h l e pos =
-    let f = at_front bytes at l in
-    sym (ap (put out) (ap (lex_from 0 at) f ∙ gap_then at (get_or bytes at 0) n (drop (at + 1) bytes) (ap lex_first (sym f) ∙ e) pos ∙ ap (λ (w : List ℕ). lex_from 0 (at + n) (drop n w)) (sym f) ∙ ap (lex_from 0 (at + n)) (drop_drop n at bytes))) ∙ h
+    let f = drop_more bytes at 0 l in
+    sym (ap (put out) (ap (lex_from 0 at) f ∙ gap_then at (get_or bytes at 0) n (drop (at + 1) bytes) (ap lex_first (sym f) ∙ e) pos ∙ ap (λ (w : List ℕ). lex_from 0 (at + n) (drop n w)) (sym f) ∙ ap (lex_from 0 (at + n)) (drop-drop n at bytes))) ∙ h
 
 pub lexeme_steps : (bytes : List ℕ) (out : List Token) (at n : ℕ) (k : TokenKind) → IsLexedFrom bytes out at → at < length bytes → lex_first (drop at bytes) ≡ lex_result.Lexeme k n → 0 < n
     → IsLexedFrom bytes (out ++ (record { kind = k; start = at; end = at + n } ∷ [])) (at + n)
 lexeme_steps bytes out at n k h l e pos =
-    let f = at_front bytes at l in
+    let f = drop_more bytes at 0 l in
     sym (put_token out (record { kind = k; start = at; end = at + n }) (lex_from 0 (at + n) (drop (at + n) bytes)))
     ∙ sym (ap (put out) (ap (lex_from 0 at) f ∙ lexeme_then at (get_or bytes at 0) n k (drop (at + 1) bytes) (ap lex_first (sym f) ∙ e) pos
-    ∙ ap (with_token (record { kind = k; start = at; end = at + n })) (ap (λ (w : List ℕ). lex_from 0 (at + n) (drop n w)) (sym f) ∙ ap (lex_from 0 (at + n)) (drop_drop n at bytes)))) ∙ h
+    ∙ ap (with_token (record { kind = k; start = at; end = at + n })) (ap (λ (w : List ℕ). lex_from 0 (at + n) (drop n w)) (sym f) ∙ ap (lex_from 0 (at + n)) (drop-drop n at bytes)))) ∙ h
 
 pub lexing_fails : (bytes : List ℕ) (out : List Token) (at : ℕ) → IsLexedFrom bytes out at → at < length bytes → lex_first (drop at bytes) ≡ lex_result.Wrong → lex_from 0 0 bytes ≡ None
 lexing_fails bytes out at h l e =
-    let f = at_front bytes at l in
+    let f = drop_more bytes at 0 l in
     sym h ∙ ap (put out) (ap (lex_from 0 at) f ∙ wrong_then at (get_or bytes at 0) (drop (at + 1) bytes) (ap lex_first (sym f) ∙ e))
 
 pub lexing_over : (bytes : List ℕ) (out : List Token) (at : ℕ) → IsLexedFrom bytes out at → length bytes ≤ at → lex_from 0 0 bytes ≡ Some out
-lexing_over bytes out at h l = sym h ∙ ap (put out) (ap (lex_from 0 at) (let e : drop at bytes ≡ [] = grind (arith, common_steps) in e) ∙ lexed_nil 0 at) ∙ ap Some (append_nil out)
+lexing_over bytes out at h l = sym h ∙ ap (put out) (ap (lex_from 0 at) (let e : drop at bytes ≡ [] = grind (arith, common_steps) in e) ∙ lexed_nil 0 at) ∙ ap Some (append-nil out)
 
 pub ruleset lexed_rules = (lexing_begins, gap_steps, lexeme_steps, lexing_fails, lexing_over)

@@ -4,7 +4,11 @@ use Rattle.std.specs.Prelude.{IfOk, find, map, option_map, slice_get, slice_inde
 use Rattle.std.specs.List.{AllByRecursion}
 use Rattle.std.proofs.lemmas.List.{length-set}
 use Rattle.atomic_table.specs.Seated.{TableId}
+use Rattle.std.proofs.lemmas.Bool.{eqb-true, and_parts}
+use Rattle.std.proofs.lemmas.Option.{slice_get-map}
 use Rattle.span_value.specs.declared.refusal.Refusal.{Refusal}
+use Rattle.span_value.proofs.Lists.{all_found_at}
+use Rattle.span_value.proofs.Results.{ok_same}
 use Rattle.span_schema.specs.declared.table.Table.{Table}
 use Rattle.span_schema.specs.Lineages.{MeetsRules}
 use Rattle.span_schema.specs.Numbers.{IsTable}
@@ -29,7 +33,6 @@ use Rattle.span_machine.specs.declared.transaction.OpenTransaction.{OpenTransact
 use Rattle.span_machine.specs.Machine.{Machine, start, if_some, is_query, is_transaction, commit_of, statement_plan}
 use Rattle.span_machine.specs.Pieces.{Pieced, Journaled, machine_of, queries_of}
 use Rattle.span_machine_laws.proofs.Lists.{all_found, found_passes}
-use Rattle.span_machine_laws.proofs.Tests.{first_true, second_true, number_same}
 use Rattle.span_version_laws.specs.Kept.{IsPieced}
 use Rattle.span_openqueries.specs.declared.taken.Taken.{Taken}
 use Rattle.span_journal.specs.Judged.{leaf_of}
@@ -71,20 +74,6 @@ set_end [] (z ∷ ys) zero y e lt = refl
 set_end [] (z ∷ ys) (suc n) y e lt = absurd (omega (arith, e))
 set_end (x ∷ xs) ys zero y e lt = absurd (omega (arith, e))
 set_end (x ∷ xs) ys (suc n) y e lt = ap (λ l. x ∷ l) (set_end xs ys n y (omega (arith, e)) (omega (arith, lt)))
-
-get_map : {A B : Type 0} (f : A → B) (xs : List A) (i : ℕ) → slice_get (map f xs) i ≡ option_map f (slice_get xs i)
-get_map f [] i = refl
-get_map f (x ∷ xs) zero = refl
-get_map f (x ∷ xs) (suc i) = get_map f xs i
-
--- what holds of all holds of one
-all_at : {A : Type 0} (P : A → Type 0) (xs : List A) (i : ℕ) (x : A) → slice_get xs i ≡ Some x → AllByRecursion P xs → P x
-all_at P [] i x here all = absurd (cc here)
-all_at P (y ∷ ys) zero x here all = let same : y ≡ x = cc in subst P same all.0
-all_at P (y ∷ ys) (suc i) x here all = all_at P ys i x here all.1
-
-ok_same : {A : Type 0} (x y : A) (r : Result A Refusal) → r ≡ Ok x → r ≡ Ok y → x ≡ y
-ok_same x y r e f = cc
 
 -- ---- the keeper
 
@@ -205,12 +194,12 @@ module _ (schema other : List Table) (table here : TableId) (views : List (List 
       let is : IsPieced schema j.log p.0 = all_found (IsPieced schema j.log) (λ (x : Pieced). is_query query x.query) j.queries p.0 p.1 keeper.whole.pieced in
       let understood : Understands schema q.text q.params (Ok q.statement) = all_found (λ (x : OpenQuery). IsUnderstoodAs schema x.text x.params x.statement) (is_query query) (machine_of j).queries q asked.1 keeper.asked in
       let understood_here : Understands schema text params (Ok q.statement) = subst (λ (t : List ℕ). Understands schema t params (Ok q.statement)) asked.2 (subst (λ (ps : List Parameter). Understands schema q.text ps (Ok q.statement)) asked.3 understood) in
-      let statement : q.statement ≡ own.statement = ok_same q.statement own.statement (Ok own.statement) (sym (unique text params (Ok q.statement) (Ok own.statement) understood_here own.understood)) refl in
+      let statement : q.statement ≡ own.statement = ok_same (Ok own.statement) q.statement own.statement (sym (unique text params (Ok q.statement) (Ok own.statement) understood_here own.understood)) refl in
       let planned : map (λ (l : ScanLeaf). l.leaf) q.leaves ≡ (statement_plan schema own.statement).leaves =
       subst (λ (x : OpenQuery). map (λ (l : ScanLeaf). l.leaf) x.leaves ≡ (statement_plan schema x.statement).leaves) p.2 is.of_plan
       ∙ ap (λ (st : Statement). (statement_plan schema st).leaves) statement in
       ap (λ (o : Option OpenQuery). if_some o None (λ (x : OpenQuery). option_map (λ (l : ScanLeaf). l.leaf) (slice_get x.leaves place))) asked.1
-      ∙ sym (get_map (λ (l : ScanLeaf). l.leaf) q.leaves place)
+      ∙ sym (slice_get-map (λ (l : ScanLeaf). l.leaf) q.leaves place)
       ∙ ap (λ (ls : List Leaf). slice_get ls place) planned
       ∙ own.there
 
@@ -270,13 +259,13 @@ keeper_first schema other table here views j same rules at is begun none = subst
 -- the tables of a leaf of a plan are tables of the schema
 pub leaf_tables : (schema : List Table) (text : List ℕ) (params : List Parameter) (place : ℕ) (leaf : Leaf) → IsLeafOf schema text params place leaf → AllByRecursion (IsTable schema) leaf.tables
 leaf_tables schema text params place leaf own =
-    all_at (λ (l : Leaf). AllByRecursion (IsTable schema) l.tables) (statement_plan schema own.statement).leaves place leaf own.there
+    all_found_at (λ (l : Leaf). AllByRecursion (IsTable schema) l.tables) (statement_plan schema own.statement).leaves place leaf own.there
     (leaves_tabled schema own.statement.leaves own.plannable.tables own.statement.query own.plannable.sized)
 
 -- it is maskable
 pub leaf_maskable : (schema : List Table) (text : List ℕ) (params : List Parameter) (place : ℕ) (leaf : Leaf) → IsLeafOf schema text params place leaf → IsMaskable schema leaf
 leaf_maskable schema text params place leaf own =
-    all_at (IsMaskable schema) (statement_plan schema own.statement).leaves place leaf own.there
+    all_found_at (IsMaskable schema) (statement_plan schema own.statement).leaves place leaf own.there
     (leaves_maskable schema own.statement.leaves (keyed schema) own.statement.query own.plannable.sized)
 
 -- a leaf of the plan of what a query text is understood as
@@ -305,8 +294,8 @@ commit_is j owner number ts k ms begun done =
     let t = begun.0 in
     let same : done.transaction ≡ t = some_same done.transaction t (sym done.found ∙ begun.1) in
     let passes = found_passes (is_transaction owner number) (machine_of j).transactions t begun.1 in
-    let by : t.owner ≡ owner = number_same t.owner owner (first_true (t.owner == owner) (t.number == number) passes) in
-    let named : t.number ≡ number = number_same t.number number (second_true (t.owner == owner) (t.number == number) passes) in
+    let by : t.owner ≡ owner = eqb-true t.owner owner ((and_parts (t.owner == owner) (t.number == number) passes).0) in
+    let named : t.number ≡ number = eqb-true t.number number ((and_parts (t.owner == owner) (t.number == number) passes).1) in
     let is : commit_of ts t ≡ record { timestamp = ts; number = number; owner = owner; mutations = ms } = λ i. record { timestamp = ts; number = named i; owner = by i; mutations = begun.2 i } in
     done.log ∙ ap (λ (x : OpenTransaction). j.log ++ commit_of ts x ∷ []) same ∙ ap (λ (c : Commit). j.log ++ c ∷ []) is
   where

@@ -4,7 +4,7 @@ use Rattle.std.specs.Prelude.{count_by, find, map, max, slice_get}
 use Rattle.std.specs.List.{list_any}
 use Rattle.std.proofs.Math.Nat.{le-max_right}
 use Rattle.std.proofs.lemmas.Bool.{leb-false}
-use Rattle.std.proofs.lemmas.Option.{slice_get_within}
+use Rattle.std.proofs.lemmas.Option.{slice_get_within, same_Some, none-some}
 use Rattle.span_value.specs.declared.refusal.Refusal.{Refusal}
 use Rattle.span_value.specs.declared.refusal.Refusal.TheVariants as refusal
 use Rattle.span_value.specs.Results.{first_cause, and_then}
@@ -34,12 +34,6 @@ use Rattle.span_locks.specs.Replies.{at_slot, IsAmong, IsPrepareRefusal, begin_r
 
 pub refused_same : (a b : Refusal) → reply.Refused a ≡ reply.Refused b → a ≡ b
 refused_same a b e = cc
-
-some_same : (a b : Refusal) → Some a ≡ Some b → a ≡ b
-some_same a b e = cc
-
-none_some : (a : Refusal) → None ≡ Some a → ⊥
-none_some a e = absurd (cc e)
 
 floor_same : (a b : ℕ) → reply.Floor a ≡ reply.Floor b → a ≡ b
 floor_same a b e = cc
@@ -81,11 +75,11 @@ unless_cause m (Some w) a why e = inl (ap (λ (x : Refusal). Some x) (sym (refus
 
 -- the first cause is one of them
 among_causes : (cs : List (Bool × Refusal)) (why : Refusal) → first_cause cs ≡ Some why → IsAmong (map (λ (c : Bool × Refusal). c.1) cs) why
-among_causes [] why e = absurd (none_some why e)
+among_causes [] why e = absurd (none-some why e)
 among_causes (c ∷ cs) why e = by c.0 e (among_causes cs why)
   where
     by : (b : Bool) → cond b (Some c.1) (first_cause cs) ≡ Some why → (first_cause cs ≡ Some why → IsAmong (map (λ (x : Bool × Refusal). x.1) cs) why) → IsAmong (map (λ (x : Bool × Refusal). x.1) (c ∷ cs)) why
-    by true f later = inl (sym (some_same c.1 why f))
+    by true f later = inl (sym (same_Some c.1 why f))
     by false f later = inr (later f)
 
 -- no such slot comes first
@@ -247,8 +241,8 @@ module _ (schema : List Table) (rules : MeetsRules schema) (m : Machine) (reache
       by t.0 (apply schema t.0 ms) refl (sym (ap (λ (r : Result (List TableRow) Refusal). refusal_of (and_then r (λ db. apply schema db ms))) t.1) ∙ e)
     where
       by : (db : List TableRow) (r : Result (List TableRow) Refusal) → apply schema db ms ≡ r → refusal_of r ≡ Some why → is_mutation_fault why ≡ true
-      by db (Ok after) is f = absurd (none_some why f)
-      by db (Err w) is f = faults_are_named schema db ms why (is ∙ ap (λ (x : Refusal). Err x) (some_same w why f))
+      by db (Ok after) is f = absurd (none-some why f)
+      by db (Err w) is f = faults_are_named schema db ms why (is ∙ ap (λ (x : Refusal). Err x) (same_Some w why f))
 
   -- what is left of a prepare, cause by cause
   abbrev range_refusal : SlotState → Option Refusal

@@ -15,13 +15,15 @@ use Rattle.span_schema.specs.Numbers.{IsTable, own_key_columns}
 use Rattle.span_schema.proofs.Judged.{few_tables}
 use Rattle.span_keycode.specs.declared.range.RangeComparison.{RangeComparison}
 use Rattle.span_keycode.specs.declared.range.RangeComparison.TheVariants as op
-use Rattle.span_keycode.specs.Coding.{AreBytes, AreFit, Fits, plain, in_direction, apply_direction, column_code, tuple_code, value_cmp}
+use Rattle.span_keycode.specs.Coding.{AreFit, Fits, plain, in_direction, apply_direction, column_code, tuple_code, value_cmp}
 use Rattle.span_keycode.specs.Keys.{IsKey, own_values, key_code}
-use Rattle.span_keycode.specs.Order.{byte_order, flipped}
+use Rattle.span_keycode.specs.Order.{byte_order}
 use Rattle.span_keycode.specs.Ranges.{in_front, next_after, low_of, high_of, is_null, range_start, range_end}
 use Rattle.span_keycode.proofs.Codes.{decides-column, plain_bytes}
 use Rattle.span_keycode.proofs.RangeLaws.{mark, IsAtBound, code_less, code_equal, code_greater, after_less, after_equal, after_greater, mark_less, mark_more, top}
 use Rattle.span_keycode.proofs.RootRows.{RootSplit, root_split}
+use Rattle.span_keycode.proofs.FamilyRanges.{turned_bytes, null_first}
+use Rattle.span_machine_laws.proofs.Ends.{first_less}
 
 -- ---- a key whose first column's coding is k, whatever follows
 
@@ -91,14 +93,6 @@ module _ (t : ℕ) (x : List ℕ) where
 
 -- ---- the coding of a column
 
-flipped_byte : (b : ℕ) → b < 256 → flipped b < 256
-flipped_byte b h = grind (arith, nat_tests)
-
-turned_bytes : (d : Bool) (bs : List ℕ) → AreBytes bs → AreBytes (in_direction d bs)
-turned_bytes false bs are = are
-turned_bytes true [] are = tt
-turned_bytes true (b ∷ bs) are = (flipped_byte b are.0, turned_bytes true bs are.1)
-
 -- its first byte tells NULL from values
 begins_with_mark : (d : Bool) (w : Value) → (rest : List ℕ) × (in_direction d (plain w) ≡ mark d (is_null w) ∷ rest)
 begins_with_mark false value.Null = (_, refl)
@@ -111,20 +105,6 @@ begins_with_mark true (value.Int i) = (_, refl)
 begins_with_mark true (value.Str s) = (_, refl)
 begins_with_mark true (value.Bytes s) = (_, refl)
 begins_with_mark true (value.Bool b) = (_, refl)
-
-null_below : (v : Value) → is_null v ≡ false → value_cmp value.Null v ≡ Less
-null_below value.Null some = absurd (let e : true ≡ false = some in cc)
-null_below (value.Int i) some = refl
-null_below (value.Str s) some = refl
-null_below (value.Bytes s) some = refl
-null_below (value.Bool b) some = refl
-
-null_first : (w v : Value) → is_null v ≡ false → is_null w ≡ true → value_cmp w v ≡ Less
-null_first value.Null v some none = null_below v some
-null_first (value.Int i) v some none = absurd (let e : false ≡ true = none in cc)
-null_first (value.Str s) v some none = absurd (let e : false ≡ true = none in cc)
-null_first (value.Bytes s) v some none = absurd (let e : false ≡ true = none in cc)
-null_first (value.Bool b) v some none = absurd (let e : false ≡ true = none in cc)
 
 -- a key of the family compared with an end, where the value is not NULL
 column_at_bound : (t : ℕ) (part : KeyPart) (w v : Value) (more : List ℕ) → t < 255 → Fits part.kind w → Fits part.kind v → is_null v ≡ false
@@ -148,12 +128,6 @@ never_below [] [] = refl
 never_below [] (y ∷ ys) = refl
 never_below (x ∷ xs) [] = refl
 never_below (x ∷ xs) (y ∷ ys) = refl
-
--- keys that begin with another byte than the end are all on one side of it
-other_first : (u t : ℕ) (xs ys zs : List ℕ) (o : Ordering) → nat_cmp u t ≡ o → o ≢ Equal → is_lt (byte_order (u ∷ xs) (t ∷ zs)) ≡ is_lt (byte_order (u ∷ ys) (t ∷ zs))
-other_first u t xs ys zs Less e off = ap (λ (o : Ordering). is_lt (ordering_then o (byte_order xs zs))) e ∙ sym (ap (λ (o : Ordering). is_lt (ordering_then o (byte_order ys zs))) e)
-other_first u t xs ys zs Equal e off = absurd (off refl)
-other_first u t xs ys zs Greater e off = ap (λ (o : Ordering). is_lt (ordering_then o (byte_order xs zs))) e ∙ sym (ap (λ (o : Ordering). is_lt (ordering_then o (byte_order ys zs))) e)
 
 one_byte : (o : Ordering) (xs ys : List ℕ) → is_lt (ordering_then o (byte_order xs [])) ≡ is_lt (ordering_then o (byte_order ys []))
 one_byte Less xs ys = refl
@@ -200,7 +174,7 @@ high_shape t true op.AtLeast x = next_shape t x
 -- what begins with another number than the family's is below such an end, or not, by that number
 shape_alike : (u t : ℕ) (xs ys : List ℕ) (o : Ordering) → nat_cmp u t ≡ o → o ≢ Equal → (end : List ℕ) → Shape t end → is_lt (byte_order (u ∷ xs) end) ≡ is_lt (byte_order (u ∷ ys) end)
 shape_alike u t xs ys o e off end (inl first) =
-    ap (λ (l : List ℕ). is_lt (byte_order (u ∷ xs) l)) first.1 ∙ other_first u t xs ys first.0 o e off ∙ sym (ap (λ (l : List ℕ). is_lt (byte_order (u ∷ ys) l)) first.1)
+    ap (λ (l : List ℕ). is_lt (byte_order (u ∷ xs) l)) first.1 ∙ first_less u t xs ys first.0 o e off ∙ sym (ap (λ (l : List ℕ). is_lt (byte_order (u ∷ ys) l)) first.1)
 shape_alike u t xs ys o e off end (inr (inl one)) =
     ap (λ (l : List ℕ). is_lt (byte_order (u ∷ xs) l)) one.1 ∙ one_byte (nat_cmp u one.0) xs ys ∙ sym (ap (λ (l : List ℕ). is_lt (byte_order (u ∷ ys) l)) one.1)
 shape_alike u t xs ys o e off end (inr (inr none)) =

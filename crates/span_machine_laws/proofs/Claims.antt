@@ -3,6 +3,7 @@ use Rattle.std.specs.Prelude.{slice_get, slice_set, find, filter}
 use Rattle.std.proofs.lemmas.Bool.Decides.{nat_tests}
 use Rattle.std.proofs.lemmas.List.Elements.{filter-append}
 use Rattle.std.specs.List.{list_any, list_all}
+use Rattle.std.proofs.lemmas.Bool.{or_left, or_right, eq-eqb, and_parts, or_parts}
 use Rattle.span_machine.specs.declared.slot.SlotState.{SlotState}
 use Rattle.span_machine.specs.declared.transaction.Commit.{Commit}
 use Rattle.span_schema.specs.declared.table.Table.{Table}
@@ -12,14 +13,15 @@ use Rattle.span_machine.specs.declared.transaction.OpenTransaction.{OpenTransact
 use Rattle.span_machine.specs.declared.transaction.Decision.{Decision}
 use Rattle.span_machine.specs.declared.transaction.Decision.TheVariants as decision
 use Rattle.span_value.specs.Results.{and_then}
+use Rattle.span_value.proofs.Lists.{all_filter}
 use Rattle.span_mutate.specs.Database.{apply}
 use Rattle.span_mutate.specs.Directories.{Root, AreKeyed, directory}
 use Rattle.span_machine.specs.Machine.{is_at, root_at}
 use Rattle.span_machine.specs.Tables.{upto, mutations_of, tables}
 use Rattle.span_machine.specs.Machine.{Machine, has_key, holds, changed_first, without_first, is_prepared_at, greatest, with_last, if_some, have_common_root, mutations_in, mutations_refusal, refusal_of, is_prepared_for, prepare_timestamp}
 use Rattle.span_truetime.specs.Limits.{timestamp_end}
-use Rattle.span_machine_laws.proofs.Tests.{first_true, second_true, first_or, second_or, first_none, second_none, both_true, equal_number, no_length}
-use Rattle.span_machine_laws.proofs.Lists.{slice_get-set, set_here, split_found, not_nil, both_nil, all_filtered}
+use Rattle.span_machine_laws.proofs.Tests.{both_true, no_length}
+use Rattle.span_machine_laws.proofs.Lists.{slice_get-set, set_here, split_found, not_nil, both_nil}
 use Rattle.span_machine_laws.proofs.Locality.{IsRoot, own_root, apply-directory, apply-database, empty_database}
 use Rattle.span_machine_laws.proofs.Stability.{changes_at, touches, is_some_of}
 use Rattle.span_machine_laws.proofs.InPlace.{IsBelow, IsUnder, IsRising, Succeeds, commits_at, claims, IsPromised, IsClaimed, IsClaim, below_up, greatest_push, apply-append, changes_at-upto}
@@ -140,8 +142,8 @@ some_any schema root (m ∷ ms) e = elim (is_at schema root m) as (λ v. is_some
 pub common : (schema : List Table) (root : Root) (is : IsRoot schema root) (ms ns : List CheckedMutation) → is_some_of (filter (is_at schema root) ms) ≡ true → is_some_of (filter (is_at schema root) ns) ≡ true → have_common_root schema ms ns ≡ true
 common schema root is [] ns = λ e f. cc
 common schema root is (m ∷ ms) ns = elim (is_at schema root m) as (λ v. is_at schema root m ≡ v → is_some_of (cond v (m ∷ filter (is_at schema root) ms) (filter (is_at schema root) ms)) ≡ true → is_some_of (filter (is_at schema root) ns) ≡ true → (list_any (is_at schema (root_at schema m)) ns || have_common_root schema ms ns) ≡ true) [
-  | true ↦ λ at e f. first_or (list_any (is_at schema (root_at schema m)) ns) (have_common_root schema ms ns) (subst (λ (q : Root). list_any (is_at schema q) ns ≡ true) (own_root schema root m is at) (some_any schema root ns f))
-  | false ↦ λ at e f. second_or (list_any (is_at schema (root_at schema m)) ns) (have_common_root schema ms ns) (common schema root is ms ns e f)
+  | true ↦ λ at e f. or_left (list_any (is_at schema (root_at schema m)) ns) (have_common_root schema ms ns) (subst (λ (q : Root). list_any (is_at schema q) ns ≡ true) (own_root schema root m is at) (some_any schema root ns f))
+  | false ↦ λ at e f. or_right (list_any (is_at schema (root_at schema m)) ns) (have_common_root schema ms ns) (common schema root is ms ns e f)
 ] refl
 
 -- without a conflict no transaction claims the directory
@@ -151,19 +153,19 @@ unclaimed schema root is slot ms [] some e = refl
 unclaimed schema root is slot ms (t ∷ ts) some e =
     elim (claims schema root slot t) as (λ v. claims schema root slot t ≡ v → cond v (t ∷ filter (claims schema root slot) ts) (filter (claims schema root slot) ts) ≡ []) [
       | true ↦ λ yes.
-          let shared : have_common_root schema ms t.mutations ≡ true = common schema root is ms t.mutations some (second_true (is_prepared_at slot t) (is_some_of (filter (is_at schema root) t.mutations)) yes) in
-          let at : is_prepared_at slot t ≡ true = first_true (is_prepared_at slot t) (is_some_of (filter (is_at schema root) t.mutations)) yes in
-          let no : (is_prepared_at slot t && have_common_root schema ms t.mutations) ≡ false = first_none (is_prepared_at slot t && have_common_root schema ms t.mutations) _ e in
+          let shared : have_common_root schema ms t.mutations ≡ true = common schema root is ms t.mutations some ((and_parts (is_prepared_at slot t) (is_some_of (filter (is_at schema root) t.mutations)) yes).1) in
+          let at : is_prepared_at slot t ≡ true = (and_parts (is_prepared_at slot t) (is_some_of (filter (is_at schema root) t.mutations)) yes).0 in
+          let no : (is_prepared_at slot t && have_common_root schema ms t.mutations) ≡ false = (or_parts (is_prepared_at slot t && have_common_root schema ms t.mutations) _ e).0 in
           absurd (both_true (is_prepared_at slot t) (have_common_root schema ms t.mutations) at shared no)
-      | false ↦ λ no_claim. unclaimed schema root is slot ms ts some (second_none (is_prepared_at slot t && have_common_root schema ms t.mutations) _ e)
+      | false ↦ λ no_claim. unclaimed schema root is slot ms ts some ((or_parts (is_prepared_at slot t && have_common_root schema ms t.mutations) _ e).1)
     ] refl
 
 -- where nothing is prepared at the slot, nothing claims the directory there
 pub unclaimed_idle : (schema : List Table) (root : Root) (slot : ℕ) (ts : List OpenTransaction) → list_any (is_prepared_at slot) ts ≡ false → filter (claims schema root slot) ts ≡ []
 unclaimed_idle schema root slot [] e = refl
 unclaimed_idle schema root slot (t ∷ ts) e =
-    ap (λ b. cond (b && is_some_of (filter (is_at schema root) t.mutations)) (t ∷ filter (claims schema root slot) ts) (filter (claims schema root slot) ts)) (first_none (is_prepared_at slot t) (list_any (is_prepared_at slot) ts) e)
-    ∙ unclaimed_idle schema root slot ts (second_none (is_prepared_at slot t) (list_any (is_prepared_at slot) ts) e)
+    ap (λ b. cond (b && is_some_of (filter (is_at schema root) t.mutations)) (t ∷ filter (claims schema root slot) ts) (filter (claims schema root slot) ts)) ((or_parts (is_prepared_at slot t) (list_any (is_prepared_at slot) ts) e).0)
+    ∙ unclaimed_idle schema root slot ts ((or_parts (is_prepared_at slot t) (list_any (is_prepared_at slot) ts) e).1)
 
 -- the mutations in the range of a slot that holds the root have all of the directory's
 pub all_held : (schema : List Table) (root : Root) (is : IsRoot schema root) (slot_state : SlotState) (ms : List CheckedMutation) → holds schema slot_state root ≡ true → filter (is_at schema root) (mutations_in schema slot_state ms) ≡ filter (is_at schema root) ms
@@ -190,7 +192,7 @@ all_kept s (c ∷ cs) under is =
     rw e (ap (λ l. c ∷ l) (all_kept s cs under.1 is))
 
 pub under_filter : (n : ℕ) (q : Commit → Bool) (cs : List Commit) → IsUnder n cs → IsUnder n (filter q cs)
-under_filter n q cs all = all_filtered (λ c. c.timestamp < n) q cs all
+under_filter n q cs all = all_filter (λ c. c.timestamp < n) q cs all
 
 -- mutations that meet no fault on the tables as they are succeed after the directory's commits
 pub go_through : (schema : List Table) → MeetsRules schema → (root : Root) → IsRoot schema root → (m : Machine) (ms : List CheckedMutation) → AreKeyed schema (mutations_of (upto m.log (timestamp_end - 1))) → AreKeyed schema ms
@@ -227,12 +229,12 @@ pub prepared_slot : (schema : List Table) (m : Machine) (slot : ℕ) (k : Root) 
 prepared_slot schema m slot k only [] = λ e. absurd (cc)
 prepared_slot schema m slot k only (p ∷ ps) = elim (slice_get m.slots p.slot) as (λ o. slice_get m.slots p.slot ≡ o → (if_some o false (λ slot_state. holds schema slot_state k) || list_any (λ p. if_some (slice_get m.slots p.slot) false (λ slot_state. holds schema slot_state k)) ps) ≡ true
     → (((p.slot == slot) || list_any (λ p. p.slot == slot) ps) ≡ true) × ((b : SlotState) × (slice_get m.slots slot ≡ Some b))) [
-      | None ↦ λ is e. let rest = prepared_slot schema m slot k only ps e in (second_or (p.slot == slot) (list_any (λ p. p.slot == slot) ps) rest.0, rest.1)
+      | None ↦ λ is e. let rest = prepared_slot schema m slot k only ps e in (or_right (p.slot == slot) (list_any (λ p. p.slot == slot) ps) rest.0, rest.1)
       | Some b ↦ λ is. elim (holds schema b k) as (λ v. holds schema b k ≡ v → (v || list_any (λ p. if_some (slice_get m.slots p.slot) false (λ slot_state. holds schema slot_state k)) ps) ≡ true
           → (((p.slot == slot) || list_any (λ p. p.slot == slot) ps) ≡ true) × ((b : SlotState) × (slice_get m.slots slot ≡ Some b))) [
             | true ↦ λ held e. let h : p.slot ≡ slot = only p.slot b is held in
-                (first_or (p.slot == slot) (list_any (λ p. p.slot == slot) ps) (equal_number p.slot slot h), (b, subst (λ i. slice_get m.slots i ≡ Some b) h is))
-            | false ↦ λ held e. let rest = prepared_slot schema m slot k only ps e in (second_or (p.slot == slot) (list_any (λ p. p.slot == slot) ps) rest.0, rest.1)
+                (or_left (p.slot == slot) (list_any (λ p. p.slot == slot) ps) (eq-eqb p.slot slot h), (b, subst (λ i. slice_get m.slots i ≡ Some b) h is))
+            | false ↦ λ held e. let rest = prepared_slot schema m slot k only ps e in (or_right (p.slot == slot) (list_any (λ p. p.slot == slot) ps) rest.0, rest.1)
           ] refl
     ] refl
 
@@ -241,8 +243,8 @@ pub prepared_root : (schema : List Table) (root : Root) (is : IsRoot schema root
 prepared_root schema root is m slot t only [] = λ e all. absurd (cc)
 prepared_root schema root is m slot t only (mu ∷ ms) = elim (is_at schema root mu) as (λ v. is_at schema root mu ≡ v → is_some_of (cond v (mu ∷ filter (is_at schema root) ms) (filter (is_at schema root) ms)) ≡ true → (is_prepared_for schema m t mu && list_all (is_prepared_for schema m t) ms) ≡ true
     → (is_prepared_at slot t ≡ true) × ((b : SlotState) × (slice_get m.slots slot ≡ Some b))) [
-      | true ↦ λ at e all. prepared_slot schema m slot (root_at schema mu) (λ i b h k. only i b h (subst (λ (q : Root). holds schema b q ≡ true) (sym (own_root schema root mu is at)) k)) t.prepared (first_true _ _ all)
-      | false ↦ λ at e all. prepared_root schema root is m slot t only ms e (second_true _ _ all)
+      | true ↦ λ at e all. prepared_slot schema m slot (root_at schema mu) (λ i b h k. only i b h (subst (λ (q : Root). holds schema b q ≡ true) (sym (own_root schema root mu is at)) k)) t.prepared ((and_parts _ _ all).0)
+      | false ↦ λ at e all. prepared_root schema root is m slot t only ms e ((and_parts _ _ all).1)
     ] refl
 
 -- prepared at another slot, and prepared there no more

@@ -5,9 +5,11 @@ use Rattle.std.specs.List.{AllByRecursion, Contains}
 use Rattle.std.proofs.lemmas.Bool.Decides.{nat_tests}
 use Rattle.std.proofs.lemmas.Option.{slice_get_within, get_or_from_slice_get}
 use Rattle.std.proofs.lemmas.List.Elements.{All-from_recursion, All-contains}
+use Rattle.std.proofs.lemmas.Bool.{both_ways, eqb-true, leb-false, and_parts}
 use Rattle.span_schema.specs.declared.table.Table.{Table}
 use Rattle.span_value.specs.declared.refusal.Refusal.{Refusal}
 use Rattle.span_value.specs.declared.refusal.Refusal.TheVariants as refusal
+use Rattle.span_value.proofs.Lists.{all_push, all_weaker}
 use Rattle.span_query.specs.declared.query.Statement.{Statement}
 use Rattle.span_query.specs.Rows as rows
 use Rattle.span_params.specs.declared.params.Parameter.{Parameter}
@@ -32,9 +34,8 @@ use Rattle.span_machine.specs.Run.{Run, IsHistory}
 use Rattle.span_machine.specs.Sorting.{placed, in_order}
 use Rattle.span_machine.specs.Tables.{is_before, upto}
 use Rattle.span_machine_laws.proofs.Causes.{may_commit, may_apply}
-use Rattle.span_machine_laws.proofs.Tests.{not_both, not_late, second_true, number_same}
 use Rattle.span_machine_laws.proofs.Numbers.{IsNumbered, same_number}
-use Rattle.span_machine_laws.proofs.Lists.{IsIn, found_in, found_passes, kept_after, all_push, all_changed, all_without, all_found, all_weaker, all_places}
+use Rattle.span_machine_laws.proofs.Lists.{IsIn, found_in, found_passes, kept_after, all_changed, all_without, all_found, all_places}
 use Rattle.span_machine_laws.proofs.Decisions.{IsDecidedBy, HasDecisions, IsOrderly, step_orderly, start_orderly}
 use Rattle.span_machine_laws.proofs.Walks.{Ends, answer_by}
 
@@ -73,7 +74,7 @@ module _ (schema : List Table) (number ts : ℕ) (m : Machine) (past : IsPast nu
   past_committed : (owner txn at : ℕ) (t : OpenTransaction) → find (is_transaction owner txn) m.transactions ≡ Some t → is_undecided t ≡ true → IsPast number ts (committed m owner txn at t).1
   past_committed owner txn at t found still = record {
     commits = all_push (λ (c : Commit). c.number ≡ number → c.timestamp < ts) m.log (commit_of at t) past.commits
-        (λ e. absurd (not_both (is_undecided t) still (all_found IsDecided (is_transaction owner txn) m.transactions t found past.decided e)));
+        (λ e. absurd (both_ways (is_undecided t) (all_found IsDecided (is_transaction owner txn) m.transactions t found past.decided e) still));
     decided = all_changed IsDecided (is_transaction owner txn) (with_decision (Committed at)) (λ u is e. refl) m.transactions past.decided;
     below = past.below;
   }
@@ -141,7 +142,7 @@ refusal_timely (Split table key) why n = tt
 
 -- the commit of a transaction that is not early has passed
 decided_past : (o : Decision) (interval : Interval) (c : Commit) → is_early interval o ≡ false → o ≡ Committed c.timestamp → c.timestamp < interval.earliest
-decided_past o interval c early is = not_late interval.earliest c.timestamp (sym (ap (is_early interval) is) ∙ early)
+decided_past o interval c early is = leb-false interval.earliest c.timestamp (sym (ap (is_early interval) is) ∙ early)
 
 -- a commit timestamp is above the latest time that it may be now
 after_latest : (latest prepared last : ℕ) → latest < max prepared (max (latest + 1) last)
@@ -156,7 +157,7 @@ module _ (schema : List Table) (m : Machine) (has : HasDecisions m) where
       → IsPast txn interval.earliest m
   found_past owner txn interval t n found done early numbered =
       let is : is_transaction owner txn t ≡ true = found_passes (is_transaction owner txn) m.transactions t found in
-      let number : t.number ≡ txn = number_same t.number txn (second_true (t.owner == owner) (t.number == txn) is) in
+      let number : t.number ≡ txn = eqb-true t.number txn ((and_parts (t.owner == owner) (t.number == txn) is).1) in
       let by : IsDecidedBy m.log t = all_found (IsDecidedBy m.log) (is_transaction owner txn) m.transactions t found has.decided in
       record {
         commits = all_weaker (λ (c : Commit). c.number ≡ t.number → t.decision ≡ Committed c.timestamp) (λ (c : Commit). c.number ≡ txn → c.timestamp < interval.earliest)
@@ -291,7 +292,7 @@ in_sorted before [] x is = is
 in_sorted before (y ∷ ys) x (zero, e) = let same : y ≡ x = cc in subst (λ z. IsIn z (placed before y (in_order before ys))) same (in_placed before y (in_order before ys))
 in_sorted before (y ∷ ys) x (suc i, e) = still_placed before y (in_order before ys) x (in_sorted before ys x (i, e))
 
-in_filtered : {A : Type 0} (test : A → Bool) (xs : List A) (x : A) → test x ≡ true → IsIn x xs → IsIn x (filter test xs)
+pub in_filtered : {A : Type 0} (test : A → Bool) (xs : List A) (x : A) → test x ≡ true → IsIn x xs → IsIn x (filter test xs)
 in_filtered test [] x passes is = is
 in_filtered test (y ∷ ys) x passes (zero, e) = let same : x ≡ y = cc in let first : test y ≡ true = ap test (sym same) ∙ passes in rw first (0, ap (λ z. Some z) (sym same))
 in_filtered test (y ∷ ys) x passes (suc i, e) = elim (test y) as (λ b. IsIn x (cond b (y ∷ filter test ys) (filter test ys))) [

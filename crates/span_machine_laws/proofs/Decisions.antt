@@ -2,8 +2,10 @@
 use Rattle.std.proofs.Common.{◌≡◌, ◌≢◌, ℕ, ◌<◌, ◌+◌, Bool, true, false, cond, ◌==◌, List, [], ◌∷◌, ◌++◌, length, Some, refl, ap, sym, subst, inl, inr, arith}
 use Rattle.std.specs.Prelude.{slice_get, find, nat_le, Result}
 use Rattle.std.specs.List.{AllByRecursion}
+use Rattle.std.proofs.lemmas.Bool.{both_ways}
 use Rattle.span_schema.specs.declared.table.Table.{Table}
 use Rattle.span_value.specs.declared.refusal.Refusal.{Refusal}
+use Rattle.span_value.proofs.Lists.{all_push, all_weaker}
 use Rattle.span_query.specs.declared.query.Statement.{Statement}
 use Rattle.span_truetime.specs.Limits.{timestamp_end}
 use Rattle.span_machine.specs.declared.step.Step.{Step}
@@ -15,8 +17,7 @@ use Rattle.span_machine.specs.declared.transaction.Decision.TheVariants as decis
 use Rattle.span_machine.specs.declared.transaction.Decision.TheVariants.{Committed}
 use Rattle.span_machine.specs.Machine.{Machine, Understanding, IsStep, answer, start, changed_first, without_first, is_no_decision, is_undecided, is_transaction, is_all_prepared, with_decision, add_prepared, prepare_timestamp, commit_timestamp, commit_of, committed, without_prepared, applied_at}
 use Rattle.span_machine_laws.proofs.Causes.{may_commit}
-use Rattle.span_machine_laws.proofs.Tests.{not_both}
-use Rattle.span_machine_laws.proofs.Lists.{IsIn, all_push, all_changed, all_changed_found, all_without, all_found, all_weaker, all_places, all_both, changed_in}
+use Rattle.span_machine_laws.proofs.Lists.{IsIn, all_changed, all_changed_found, all_without, all_found, all_places, all_both, changed_in}
 use Rattle.span_machine_laws.proofs.Numbers.{IsNumbered, HaveRisingNumbers, rising_numbers_changed, same_place, answer_numbered, start_numbered}
 use Rattle.span_machine_laws.proofs.Walks.{Ends, answer_by}
 
@@ -38,7 +39,7 @@ pub record IsOrderly (m : Machine) : Type 0 where
 
 -- an undecided transaction is not committed
 not_committed : (o : Decision) (ts : ℕ) → is_no_decision o ≡ true → o ≡ Committed ts → ⊥
-not_committed o ts still is = let e : is_no_decision o ≡ false = ap is_no_decision is in not_both (is_no_decision o) still e
+not_committed o ts still is = let e : is_no_decision o ≡ false = ap is_no_decision is in both_ways (is_no_decision o) e still
 
 -- the log has no commit of an undecided transaction
 pub none_decided : (log : List Commit) (t : OpenTransaction) → is_undecided t ≡ true → IsDecidedBy log t → AllByRecursion (λ c. c.number ≢ t.number) log

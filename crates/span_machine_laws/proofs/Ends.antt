@@ -49,7 +49,7 @@ less_by p q o d rest =
     ∙ sym (ap is_lt (d.at [] [])) ∙ ap (λ (l : List ℕ). is_lt (byte_order l (q ++ []))) (append-nil p) ∙ ap (λ (l : List ℕ). is_lt (byte_order p l)) (append-nil q)
 
 -- bytes whose first differ are below one another by these alone
-first_less : (t u : ℕ) (xs ys zs : List ℕ) (o : Ordering) → nat_cmp t u ≡ o → o ≢ Equal → is_lt (byte_order (t ∷ xs) (u ∷ zs)) ≡ is_lt (byte_order (t ∷ ys) (u ∷ zs))
+pub first_less : (t u : ℕ) (xs ys zs : List ℕ) (o : Ordering) → nat_cmp t u ≡ o → o ≢ Equal → is_lt (byte_order (t ∷ xs) (u ∷ zs)) ≡ is_lt (byte_order (t ∷ ys) (u ∷ zs))
 first_less t u xs ys zs Less e off = ap (λ (o : Ordering). is_lt (ordering_then o (byte_order xs zs))) e ∙ sym (ap (λ (o : Ordering). is_lt (ordering_then o (byte_order ys zs))) e)
 first_less t u xs ys zs Equal e off = absurd (off refl)
 first_less t u xs ys zs Greater e off = ap (λ (o : Ordering). is_lt (ordering_then o (byte_order xs zs))) e ∙ sym (ap (λ (o : Ordering). is_lt (ordering_then o (byte_order ys zs))) e)

@@ -12,14 +12,15 @@ use Rattle.span_machine.specs.declared.transaction.Decision.TheVariants as decis
 use Rattle.span_machine.specs.declared.transaction.Prepared.{Prepared}
 use Rattle.span_machine.specs.Machine.{Machine, Answer, answer, start, if_some, is_transaction, is_undecided, is_prepared_at, has_conflict, mutations_in, changed_first, without_first, with_last, with_decision, add_prepared, prepare_timestamp, greatest, commit_timestamp, coordinator_slot, without_prepared, applied_at}
 use Rattle.span_machine_laws.proofs.Causes.{may_prepare, undecided_is}
-use Rattle.span_machine_laws.proofs.Tests.{first_none, second_none}
-use Rattle.span_machine_laws.proofs.Lists.{all_push, all_changed, all_without, all_found, all_weaker, all_changed_found, all_filtered}
+use Rattle.span_machine_laws.proofs.Lists.{all_changed, all_without, all_found, all_changed_found}
 use Rattle.span_machine_laws.proofs.Splits.{split_length}
 use Rattle.span_machine_laws.proofs.Walks.{Ends, answer_by}
 use Rattle.span_schema.specs.declared.table.Table.{Table}
 use Rattle.span_value.specs.declared.refusal.Refusal.{Refusal}
 use Rattle.span_query.specs.declared.query.Statement.{Statement}
 use Rattle.std.specs.Prelude.{Result}
+use Rattle.std.proofs.lemmas.Bool.{or_parts}
+use Rattle.span_value.proofs.Lists.{all_filter, all_push, all_weaker}
 
 -- ---- how many slots there are
 
@@ -93,7 +94,7 @@ greatest_all (p ∷ ps) = (omega arith, all_weaker (λ q. q.timestamp ≤ greate
 -- not prepared at a slot
 pub none_prepared : (slot : ℕ) (ps : List Prepared) → list_any (λ p. p.slot == slot) ps ≡ false → AllByRecursion (λ p. (p.slot == slot) ≡ false) ps
 none_prepared slot [] e = tt
-none_prepared slot (p ∷ ps) e = (first_none (p.slot == slot) (list_any (λ p. p.slot == slot) ps) e, none_prepared slot ps (second_none (p.slot == slot) (list_any (λ p. p.slot == slot) ps) e))
+none_prepared slot (p ∷ ps) e = ((or_parts (p.slot == slot) (list_any (λ p. p.slot == slot) ps) e).0, none_prepared slot ps ((or_parts (p.slot == slot) (list_any (λ p. p.slot == slot) ps) e).1))
 
 pub apart_push : (ps : List Prepared) (p : Prepared) → AreApart ps → AllByRecursion (λ q. (q.slot == p.slot) ≡ false) ps → AreApart (ps ++ p ∷ [])
 apart_push [] p apart off = (tt, tt)
@@ -102,14 +103,14 @@ apart_push (q ∷ qs) p apart off = (all_push (λ r. (q.slot == r.slot) ≡ fals
 pub apart_filtered : (test : Prepared → Bool) (ps : List Prepared) → AreApart ps → AreApart (filter test ps)
 apart_filtered test [] apart = tt
 apart_filtered test (p ∷ ps) apart = elim (test p) as (λ b. AreApart (cond b (p ∷ filter test ps) (filter test ps))) [
-  | true ↦ (all_filtered (λ q. (p.slot == q.slot) ≡ false) test ps apart.0, apart_filtered test ps apart.1)
+  | true ↦ (all_filter (λ q. (p.slot == q.slot) ≡ false) test ps apart.0, apart_filtered test ps apart.1)
   | false ↦ apart_filtered test ps apart.1
 ]
 
 upto_filtered : (o : Decision) (test : Prepared → Bool) (ps : List Prepared) → IsUpto o ps → IsUpto o (filter test ps)
 upto_filtered decision.Undecided test ps low = tt
 upto_filtered decision.Aborted test ps low = tt
-upto_filtered (decision.Committed ts) test ps low = all_filtered (λ p. p.timestamp ≤ ts) test ps low
+upto_filtered (decision.Committed ts) test ps low = all_filter (λ p. p.timestamp ≤ ts) test ps low
 
 -- where there are more slots
 holding_more : (n k : ℕ) → n ≤ k → (t : OpenTransaction) → IsHolding n t → IsHolding k t
@@ -145,7 +146,7 @@ module _ (schema : List Table) (m : Machine) (holding : AreHolding m) where
   left_holding slot t h = record {
     timely = upto_filtered t.decision (λ p. not (p.slot == slot)) t.prepared h.timely;
     apart = apart_filtered (λ p. not (p.slot == slot)) t.prepared h.apart;
-    within = all_filtered (λ p. p.slot < length m.slots) (λ p. not (p.slot == slot)) t.prepared h.within;
+    within = all_filter (λ p. p.slot < length m.slots) (λ p. not (p.slot == slot)) t.prepared h.within;
   }
 
   one_of : (b : Bool) (test : OpenTransaction → Bool) (change : OpenTransaction → OpenTransaction) → ((t : OpenTransaction) → IsHolding (length m.slots) t → IsHolding (length m.slots) (change t))

@@ -21,7 +21,7 @@ use Rattle.span_machine.specs.Tables.{is_before, upto, mutations_of, tables}
 use Rattle.span_machine.specs.Machine.{Machine, holds, is_prepared_at, greatest}
 use Rattle.span_truetime.specs.Limits.{timestamp_end}
 use Rattle.std.proofs.Common.{append_assoc}
-use Rattle.span_machine_laws.proofs.Lists.{all_push, filter_swap, all_filtered}
+use Rattle.span_value.proofs.Lists.{all_filter, all_push, filter_swap}
 use Rattle.span_machine_laws.proofs.Ordered.{filter-in_order}
 use Rattle.span_machine_laws.proofs.Locality.{IsRoot, apply-succeeds, empty_database}
 use Rattle.span_machine_laws.proofs.Stability.{changes_at, touches, is_some_of, changes_at-filter, is_before-order, changes_at-cons}
@@ -179,7 +179,7 @@ in_order_rising (c ∷ cs) up = ap (placed is_before c) (in_order_rising cs up.1
 pub rising_filter : (s : ℕ) (cs : List Commit) → IsRising cs → IsRising (filter (λ d. nat_le d.timestamp s) cs)
 rising_filter s [] up = tt
 rising_filter s (c ∷ cs) up = elim (nat_le c.timestamp s) as (λ b. IsRising (cond b (c ∷ filter (λ d. nat_le d.timestamp s) cs) (filter (λ d. nat_le d.timestamp s) cs))) [
-  | true ↦ (all_filtered (λ d. c.timestamp < d.timestamp) (λ d. nat_le d.timestamp s) cs up.0, rising_filter s cs up.1)
+  | true ↦ (all_filter (λ d. c.timestamp < d.timestamp) (λ d. nat_le d.timestamp s) cs up.0, rising_filter s cs up.1)
   | false ↦ rising_filter s cs up.1
 ]
 

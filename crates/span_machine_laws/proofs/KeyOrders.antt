@@ -1,15 +1,15 @@
 -- The order of a table's keys is the order of their codings.
-use Rattle.std.proofs.Common.{◌≡◌, ℕ, ◌+◌, Bool, true, false, List, [], ◌∷◌, ◌++◌, length, Option, Some, refl, ap, sym, ◌∙◌, append_assoc}
+use Rattle.std.proofs.Common.{◌≡◌, ℕ, ◌+◌, Bool, true, false, List, [], ◌∷◌, ◌++◌, length, Option, refl, ap, sym, ◌∙◌, append_assoc}
 use Rattle.std.specs.Prelude.{slice_get}
 use Rattle.std.specs.declared.cmp.Ordering.{Ordering}
-use Rattle.std.specs.declared.cmp.Ordering.TheVariants.{Less, Equal, Greater}
 use Rattle.std.specs.Ordering.{ordering_then}
-use Rattle.std.proofs.lemmas.List.{append-nil, length-append}
+use Rattle.std.proofs.lemmas.List.{append-nil, length_push}
 use Rattle.span_value.specs.declared.value.Value.{Value}
 use Rattle.span_value.specs.declared.value.Value.TheVariants as value
 use Rattle.span_value.specs.declared.value.Kind.{Kind}
 use Rattle.span_value.specs.declared.value.Kind.TheVariants as kind
 use Rattle.span_value.specs.Orders.{value_order}
+use Rattle.span_value.proofs.Comparisons.{then_equal}
 use Rattle.span_schema.specs.declared.table.Table.{Table}
 use Rattle.span_schema.specs.declared.layout.KeyPart.{KeyPart}
 use Rattle.span_schema.specs.Lineages.{MeetsRules}
@@ -20,6 +20,7 @@ use Rattle.span_keycode.specs.Keys.{IsKey, key_code}
 use Rattle.span_keycode.specs.Order.{byte_order}
 use Rattle.span_keycode.proofs.KeyLaws.{order_in_table}
 use Rattle.span_mutate.specs.Rows.{is_descending, order_from, key_order}
+use Rattle.span_checking.proofs.InOrder.{at_seam}
 
 null_first : (w : Value) → value_order value.Null w ≡ value_cmp value.Null w
 null_first value.Null = refl
@@ -80,13 +81,6 @@ same_order kind.Bool (value.Bool x) (value.Str y) f g = absurd g
 same_order kind.Bool (value.Bool x) (value.Bytes y) f g = absurd g
 same_order kind.Bool (value.Bool x) (value.Bool y) f g = same_flags x y
 
-here_is : (front cs : List KeyPart) (c : KeyPart) → slice_get (front ++ c ∷ cs) (length front) ≡ Some c
-here_is [] cs c = refl
-here_is (f ∷ fs) cs c = here_is fs cs c
-
-next_place : (front : List KeyPart) (c : KeyPart) → length (front ++ c ∷ []) ≡ length front + 1
-next_place front c = length-append front (c ∷ [])
-
 -- keys from a column on, by the columns after it
 same_from : (front cs : List KeyPart) (vs ws : List Value) → AreFit cs vs → AreFit cs ws → order_from (front ++ cs) (length front) vs ws ≡ tuple_cmp cs vs ws
 same_from front [] [] [] f g = refl
@@ -96,20 +90,15 @@ same_from front (c ∷ cs) [] ws f g = absurd f
 same_from front (c ∷ cs) (v ∷ vs) [] f g = absurd g
 same_from front (c ∷ cs) (v ∷ vs) (w ∷ ws) f g =
     let first : apply_direction (is_descending (slice_get (front ++ c ∷ cs) (length front))) (value_order v w) ≡ column_cmp c v w =
-    ap (λ (o : Option KeyPart). apply_direction (is_descending o) (value_order v w)) (here_is front cs c) ∙ ap (apply_direction c.desc) (same_order c.kind v w f.0 g.0) in
+    ap (λ (o : Option KeyPart). apply_direction (is_descending o) (value_order v w)) (at_seam front cs c) ∙ ap (apply_direction c.desc) (same_order c.kind v w f.0 g.0) in
     let rest : order_from (front ++ c ∷ cs) (length front + 1) vs ws ≡ tuple_cmp cs vs ws =
     ap (λ (l : List KeyPart). order_from l (length front + 1) vs ws) (sym (append_assoc {A = KeyPart} front (c ∷ []) cs))
-    ∙ ap (λ (n : ℕ). order_from ((front ++ c ∷ []) ++ cs) n vs ws) (sym (next_place front c))
+    ∙ ap (λ (n : ℕ). order_from ((front ++ c ∷ []) ++ cs) n vs ws) (sym (length_push front c))
     ∙ same_from (front ++ c ∷ []) cs vs ws f.1 g.1 in
     ap (λ (o : Ordering). ordering_then o (order_from (front ++ c ∷ cs) (length front + 1) vs ws)) first ∙ ap (ordering_then (column_cmp c v w)) rest
 
 pub key_order-tuple : (cs : List KeyPart) (vs ws : List Value) → AreFit cs vs → AreFit cs ws → key_order cs vs ws ≡ tuple_cmp cs vs ws
 key_order-tuple cs vs ws f g = same_from [] cs vs ws f g
-
-then_equal : (o : Ordering) → ordering_then o Equal ≡ o
-then_equal Less = refl
-then_equal Equal = refl
-then_equal Greater = refl
 
 -- codings of keys of one table are in the order of the keys
 pub code_order : (schema : List Table) → MeetsRules schema → (n : ℕ) (vs ws : List Value) → IsKey schema n vs → IsKey schema n ws → byte_order (key_code schema n vs) (key_code schema n ws) ≡ key_order (key_columns schema n) vs ws

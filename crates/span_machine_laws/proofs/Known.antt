@@ -3,13 +3,14 @@ use Rattle.std.specs.Prelude.{find}
 use Rattle.std.proofs.lemmas.Bool.Decides.{nat_tests}
 use Rattle.std.proofs.lemmas.List.{append-nil}
 use Rattle.std.specs.List.{AllByRecursion, list_all}
+use Rattle.std.proofs.lemmas.Bool.{eqb-true, eq-eqb, and_parts}
 use Rattle.span_value.specs.declared.refusal.Refusal.{Refusal}
 use Rattle.span_value.specs.declared.refusal.Refusal.TheVariants as refusal
 use Rattle.span_schema.specs.declared.table.Table.{Table}
 use Rattle.span_mutate.specs.declared.mutation.CheckedMutation.{CheckedMutation}
 use Rattle.span_value.specs.Results.{and_then}
+use Rattle.span_value.proofs.Lists.{all_push, all_weaker}
 use Rattle.span_mutate.specs.declared.row.TableRow.{TableRow}
-use Rattle.span_mutate.specs.Directories.{Root}
 use Rattle.span_truetime.specs.declared.bound.Bound.{Bound}
 use Rattle.span_truetime.specs.declared.interval.Interval.{Interval}
 use Rattle.span_truetime.specs.Time.{timestamp_of}
@@ -31,13 +32,11 @@ use Rattle.span_machine.specs.Meaning.{means}
 use Rattle.span_machine.specs.Commits.{BegunTransaction, begun_by, commit_by, committed_by, OpenedQuery, opened_by}
 use Rattle.span_machine.specs.Run.{IsMeant}
 use Rattle.span_machine.specs.Machine as machine
-use Rattle.span_machine.specs.Machine.{Machine, Understanding, IsUnderstood, committed, opened, as_opened, is_covered, rows_or_refusal, Answer, IsStep, answer, start, is_transaction, is_query, changed_first, without_first, add_prepared, prepare_timestamp, commit_timestamp, commit_of, with_decision, without_prepared, applied_at, cover, answer_on, meaning, statement_plan}
-use Rattle.span_machine_laws.proofs.Tests.{first_true, second_true, number_same}
-use Rattle.span_machine_laws.proofs.Lists.{found_passes, all_push, all_changed, all_without, all_found, all_weaker}
+use Rattle.span_machine.specs.Machine.{Machine, Understanding, IsUnderstood, committed, opened, as_opened, is_covered, rows_or_refusal, IsStep, answer, start, is_transaction, is_query, changed_first, without_first, add_prepared, prepare_timestamp, commit_timestamp, commit_of, with_decision, without_prepared, applied_at, cover, answer_on, meaning, statement_plan}
+use Rattle.span_machine_laws.proofs.Lists.{found_passes, all_changed, all_without, all_found}
 use Rattle.span_machine_laws.proofs.Sealed.{IsSealed}
 use Rattle.span_machine_laws.proofs.Walks.{MayRefuse, Ends, answer_by}
 use Rattle.span_machine_laws.proofs.Sound.{IsSound, IsPartSealed, IsCoveredSealed}
-use Rattle.span_machine_laws.proofs.Locality.{IsRoot}
 use Rattle.span_keycode.specs.Parts.{is_within}
 use Rattle.span_keycode.specs.declared.range.KeyRange.{KeyRange}
 use Rattle.span_machine.specs.Slots.{root_code}
@@ -167,15 +166,12 @@ asked_still understands asked a n q e low is =
       understood = is.understood;
     }
 
-itself : (n : ℕ) → (n == n) ≡ true
-itself n = grind (arith, nat_tests)
-
 -- the one just begun
 begun_now : (begun : List BegunTransaction) (t : OpenTransaction) → IsBegun ((record { number = t.number; mutations = t.mutations }) ∷ begun) t
-begun_now begun t = rw (itself t.number) refl
+begun_now begun t = rw (eq-eqb t.number t.number refl) refl
 
 asked_now : (asked : List OpenedQuery) (a : OpenedQuery) → find (λ b. b.number == a.number) (a ∷ asked) ≡ Some a
-asked_now asked a = rw (itself a.number) refl
+asked_now asked a = rw (eq-eqb a.number a.number refl) refl
 
 -- a query is asked as before once a leaf is covered
 asked_covered : (understands : Understanding) (asked : List OpenedQuery) (leaf : ℕ) (part : KeyRange) (q : OpenQuery) → IsAsked understands asked q → IsAsked understands asked (cover leaf part q)
@@ -194,9 +190,9 @@ all_sealed : (schema : List Table) (m : Machine) (s : ℕ) (leaves : List ScanLe
 all_sealed schema m s [] seals covered = tt
 all_sealed schema m s (l ∷ ls) seals covered = (
   λ root is within.
-      tiles_have (IsSealed schema root s m) l.leaf.range l.covered (root_code schema root) (first_true (is_covered l) (list_all is_covered ls) covered) within
+      tiles_have (IsSealed schema root s m) l.leaf.range l.covered (root_code schema root) ((and_parts (is_covered l) (list_all is_covered ls) covered).0) within
       (all_weaker (IsPartSealed schema m s) (λ (c : KeyRange). is_within c (root_code schema root) ≡ true → IsSealed schema root s m) (λ c seal. seal root is) l.covered seals.0),
-  all_sealed schema m s ls seals.1 (second_true (is_covered l) (list_all is_covered ls) covered),
+  all_sealed schema m s ls seals.1 ((and_parts (is_covered l) (list_all is_covered ls) covered).1),
 )
 
 -- what is committed of a transaction that was begun
@@ -289,7 +285,7 @@ module _ (understands : Understanding) (schema : List Table) (begun : List Begun
           queries = known.queries;
           asked_below = known.asked_below;
         };
-        log = ap (λ cs. m.log ++ cs) (sym (commit_begun begun owner txn ts t (number_same t.owner owner (first_true (t.owner == owner) (t.number == txn) is)) (number_same t.number txn (second_true (t.owner == owner) (t.number == txn) is))
+        log = ap (λ cs. m.log ++ cs) (sym (commit_begun begun owner txn ts t (eqb-true t.owner owner ((and_parts (t.owner == owner) (t.number == txn) is).0)) (eqb-true t.number txn ((and_parts (t.owner == owner) (t.number == txn) is).1))
             (all_found (IsBegun begun) (is_transaction owner txn) m.transactions t found known.transactions)));
         right = tt;
       }
@@ -345,7 +341,7 @@ module _ (understands : Understanding) (schema : List Table) (begun : List Begun
         known.transactions (all_changed (IsAsked understands asked) (is_query query) (cover leaf part) (asked_covered understands asked leaf part) m.queries known.queries) refl refl refl tt;
     waits = λ query leaf slot interval q slot_state found here understood. tells_quiet _ _ _ (record { no_begun = refl; no_asked = refl; no_commit = refl }) known.transactions known.queries refl refl refl tt;
     finishes = λ query q found covered understood. tells_same (Finish query) (answer_on q.s (meaning schema m q)) (quiet_answer query q.s (meaning schema m q))
-        (right_finish query q (number_same q.number query (found_passes (is_query query) m.queries q found)) (all_found (IsAsked understands asked) (is_query query) m.queries q found known.queries)
+        (right_finish query q (eqb-true q.number query (found_passes (is_query query) m.queries q found)) (all_found (IsAsked understands asked) (is_query query) m.queries q found known.queries)
         (all_found (HasLeaves schema) (is_query query) m.queries q found leaves)
         (all_found (IsCoveredSealed schema m) (is_query query) m.queries q found sound.queries) covered);
     splits = λ table key code slot slot_state keyed home here accepted understood. tells_quiet _ _ _ (record { no_begun = refl; no_asked = refl; no_commit = refl }) known.transactions known.queries refl refl refl tt;

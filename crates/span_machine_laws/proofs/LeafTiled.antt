@@ -1,22 +1,20 @@
 -- What a leaf gives on a range is what it gives on pieces that tile the range, one after another.
-use Rattle.std.proofs.Common.{◌≡◌, ℕ, zero, suc, ◌+◌, ◌-◌, ◌<◌, Bool, true, false, cond, ◌||◌, List, [], ◌∷◌, ◌++◌, map, take, length, get_or, Option, Some, None, refl, ap, sym, subst, ◌∙◌, arith, inl, inr}
-use Rattle.std.specs.Prelude.{filter, slice_get}
+use Rattle.std.proofs.Common.{◌≡◌, ℕ, zero, suc, ◌+◌, ◌<◌, Bool, true, false, cond, ◌||◌, List, [], ◌∷◌, ◌++◌, map, take, length, Option, Some, None, refl, ap, sym, subst, ◌∙◌}
+use Rattle.std.specs.Prelude.{filter}
 use Rattle.std.specs.List.{AllByRecursion}
 use Rattle.std.specs.Ordering.{is_lt}
-use Rattle.std.proofs.lemmas.List.{map-append, length-append, length-take-le}
-use Rattle.std.proofs.lemmas.Option.{slice_get_cases}
+use Rattle.std.proofs.lemmas.List.{map-append}
+use Rattle.std.proofs.lemmas.List.Elements.{filter_agree}
 use Rattle.span_value.specs.declared.value.Value.{Value}
+use Rattle.span_value.proofs.Lists.{all_map}
 use Rattle.span_schema.specs.declared.table.Table.{Table}
-use Rattle.span_schema.specs.declared.layout.KeyPart.{KeyPart}
-use Rattle.span_schema.specs.Layouts.{key_parts}
-use Rattle.span_schema.specs.Lineages.{MeetsRules, parent_at, parent_in}
-use Rattle.span_schema.specs.Numbers.{root_of, key_columns, key_places, columns_in, key_in}
+use Rattle.span_schema.specs.Lineages.{MeetsRules}
+use Rattle.span_schema.specs.Numbers.{root_of, key_columns, key_places}
 use Rattle.span_keycode.specs.declared.range.KeyRange.{KeyRange}
 use Rattle.span_keycode.specs.Keys.{key_code}
 use Rattle.span_keycode.specs.Order.{byte_order}
 use Rattle.span_keycode.specs.Parts.{is_within, tiles}
 use Rattle.span_keycode.proofs.Befores.{before_upto}
-use Rattle.span_keycode.proofs.LevelLaws.{path_root}
 use Rattle.span_keycode.proofs.PartLaws.{IsSplit, rest_after, tiles_none, tiles_split, within_parts}
 use Rattle.span_mutate.specs.declared.row.TableRow.{TableRow}
 use Rattle.span_mutate.specs.Database.{rows_of}
@@ -35,7 +33,7 @@ use Rattle.span_leaves.proofs.Cutting.{CutTable, whole_rows, first_rows, second_
 use Rattle.span_planner.proofs.Planned.{AreRooted, IsPlanned}
 use Rattle.span_machine.specs.Meaning.{declared_row, row_within, rows_within, tables_within, leaf_within}
 use Rattle.span_machine_laws.proofs.Ends.{below_as_root}
-use Rattle.span_rowreader.proofs.KeyPlaces.{keyed, has_key_columns, root_key_of}
+use Rattle.span_rowreader.proofs.KeyPlaces.{keyed}
 use Rattle.span_rowreader.proofs.DeclaredRows.{row_width, root_of_columns, root_places_long}
 use Rattle.span_machine_laws.proofs.Pieces.{IsEnd, AreEnds}
 use Rattle.span_machine_laws.proofs.TableOrder.{IsOfTable, of_table, table_rises, parts_joined}
@@ -49,14 +47,6 @@ all_kept {A = A} P p (x ∷ xs) all = of_test (p x) refl (all_kept P p xs all.1)
     of_test : (b : Bool) → p x ≡ b → AllByRecursion (λ (x : A). P x × (p x ≡ true)) (filter p xs) → AllByRecursion (λ (x : A). P x × (p x ≡ true)) (cond b (x ∷ filter p xs) (filter p xs))
     of_test true is rest = ((all.0, is), rest)
     of_test false is rest = rest
-
-all_made : {A B : Type 0} (P : A → Type 0) (Q : B → Type 0) (make : A → B) → ((x : A) → P x → Q (make x)) → (xs : List A) → AllByRecursion P xs → AllByRecursion Q (map make xs)
-all_made P Q make goes [] all = tt {0}
-all_made P Q make goes (x ∷ xs) all = (goes x all.0, all_made P Q make goes xs all.1)
-
-same_filter : {A : Type 0} (p q : A → Bool) → ((x : A) → p x ≡ q x) → (xs : List A) → filter p xs ≡ filter q xs
-same_filter p q same [] = refl
-same_filter {A = A} p q same (x ∷ xs) = ap (λ (b : Bool). cond b (x ∷ filter p xs) (filter p xs)) (same x) ∙ ap (λ (l : List A). cond (q x) (x ∷ l) l) (same_filter p q same xs)
 
 none_kept : {A : Type 0} (p : A → Bool) → ((x : A) → p x ≡ false) → (xs : List A) → filter p xs ≡ []
 none_kept p none [] = refl
@@ -110,13 +100,13 @@ module _ (schema : List Table) (rules : MeetsRules schema) (db : List TableRow) 
 
     first_side : (t : ℕ) → AllByRecursion (IsOnSide (is_before (root_of schema t)) true (root_places schema t) (width_of schema t)) (rows_within schema db t piece)
     first_side t =
-        all_made (λ (r : TableRow). IsOfTable schema t r × (row_within schema piece r ≡ true)) (IsOnSide (is_before (root_of schema t)) true (root_places schema t) (width_of schema t)) (declared_row schema)
+        all_map (λ (r : TableRow). IsOfTable schema t r × (row_within schema piece r ≡ true)) (IsOnSide (is_before (root_of schema t)) true (root_places schema t) (width_of schema t)) (declared_row schema)
         (λ r is. side_of_row true t r (is.0, (within_parts piece (code_of schema r) is.1).1))
         (filter (row_within schema piece) (rows_of t db)) (all_kept (IsOfTable schema t) (row_within schema piece) (rows_of t db) (of_table schema t db typed))
 
     second_side : (t : ℕ) → AllByRecursion (IsOnSide (is_before (root_of schema t)) false (root_places schema t) (width_of schema t)) (rows_within schema db t later)
     second_side t =
-        all_made (λ (r : TableRow). IsOfTable schema t r × (row_within schema later r ≡ true)) (IsOnSide (is_before (root_of schema t)) false (root_places schema t) (width_of schema t)) (declared_row schema)
+        all_map (λ (r : TableRow). IsOfTable schema t r × (row_within schema later r ≡ true)) (IsOnSide (is_before (root_of schema t)) false (root_places schema t) (width_of schema t)) (declared_row schema)
         (λ r is. side_of_row false t r (is.0, (within_parts later (code_of schema r) is.1).0))
         (filter (row_within schema later) (rows_of t db)) (all_kept (IsOfTable schema t) (row_within schema later) (rows_of t db) (of_table schema t db typed))
 
@@ -124,7 +114,7 @@ module _ (schema : List Table) (rules : MeetsRules schema) (db : List TableRow) 
     table_split : (t : ℕ) → rows_within schema db t range ≡ rows_within schema db t piece ++ rows_within schema db t later
     table_split t =
         ap (map (declared_row schema)) (
-        same_filter (row_within schema range) (λ (r : TableRow). row_within schema piece r || row_within schema later r) (λ r. split.within (code_of schema r)) (rows_of t db)
+        filter_agree (row_within schema range) (λ (r : TableRow). row_within schema piece r || row_within schema later r) (λ r. split.within (code_of schema r)) (rows_of t db)
         ∙ parts_joined schema (row_within schema piece) (row_within schema later) (λ r is. split.apart (code_of schema r) is)
         (λ x y p q. before_upto (code_of schema x) (code_of schema y) (split.before (code_of schema x) (code_of schema y) p q)) (rows_of t db) (table_rises schema rules db is_db typed t))
         ∙ map-append (declared_row schema) (filter (row_within schema piece) (rows_of t db)) (filter (row_within schema later) (rows_of t db))

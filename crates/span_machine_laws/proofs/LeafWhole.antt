@@ -4,6 +4,7 @@ use Rattle.std.specs.Prelude.{filter}
 use Rattle.std.specs.List.{AllByRecursion, list_all}
 use Rattle.std.proofs.lemmas.Bool.{and_parts}
 use Rattle.span_value.specs.declared.value.Value.{Value}
+use Rattle.span_value.proofs.Lists.{all_weaker}
 use Rattle.span_schema.specs.declared.table.Table.{Table}
 use Rattle.span_schema.specs.declared.layout.KeyPart.{KeyPart}
 use Rattle.span_schema.specs.Lineages.{MeetsRules}
@@ -47,10 +48,6 @@ all_made : {A B : Type 0} (P : B → Type 0) (make : A → B) (xs : List A) → 
 all_made P make [] all = tt {0}
 all_made P make (x ∷ xs) all = (all.0, all_made P make xs all.1)
 
-weaker : {A : Type 0} (P Q : A → Type 0) → ((x : A) → P x → Q x) → (xs : List A) → AllByRecursion P xs → AllByRecursion Q xs
-weaker P Q f [] all = tt {0}
-weaker P Q f (x ∷ xs) all = (f x all.0, weaker P Q f xs all.1)
-
 -- ---- the rows of a table
 
 module _ (schema : List Table) (db : List TableRow) (are_typed : AreTyped schema db) where
@@ -59,7 +56,7 @@ module _ (schema : List Table) (db : List TableRow) (are_typed : AreTyped schema
 
   table_rows_made : (P : Row → Type 0) (t : ℕ) → ((r : TableRow) → IsTyped schema r → r.table ≡ t → P (declared_row schema r)) → AllByRecursion P (whole t)
   table_rows_made P t make =
-      all_made P (declared_row schema) (rows_of t db) (weaker (IsOfTable schema t) (λ (r : TableRow). P (declared_row schema r)) (λ r is. make r is.0 is.1) (rows_of t db) (of_table schema t db are_typed))
+      all_made P (declared_row schema) (rows_of t db) (all_weaker (IsOfTable schema t) (λ (r : TableRow). P (declared_row schema r)) (λ r is. make r is.0 is.1) (rows_of t db) (of_table schema t db are_typed))
 
   -- its rows have its columns
   pub table_width : (t : ℕ) → AllByRecursion (λ (row : Row). length row ≡ width_of schema t) (whole t)
@@ -100,7 +97,7 @@ module _ (schema : List Table) (db : List TableRow) (are_typed : AreTyped schema
     table_narrowed : (t : ℕ) → root_of schema t ≡ root → rows_within schema db t (range_by root part bs) ≡ filter (passes_at passes (first_place schema t)) (whole t)
     table_narrowed t is =
         filter_made (declared_row schema) (row_within schema (range_by root part bs)) (passes_at passes (first_place schema t)) (rows_of t db)
-        (weaker (IsOfTable schema t) (λ (r : TableRow). row_within schema (range_by root part bs) r ≡ passes_at passes (first_place schema t) (declared_row schema r)) in_bounds (rows_of t db) (of_table schema t db are_typed))
+        (all_weaker (IsOfTable schema t) (λ (r : TableRow). row_within schema (range_by root part bs) r ≡ passes_at passes (first_place schema t) (declared_row schema r)) in_bounds (rows_of t db) (of_table schema t db are_typed))
       where
         in_bounds : (r : TableRow) → IsOfTable schema t r → row_within schema (range_by root part bs) r ≡ passes_at passes (first_place schema t) (declared_row schema r)
         in_bounds r of =

@@ -1,8 +1,9 @@
 use Rattle.std.proofs.Common.{◌≡◌, ℕ, zero, suc, Bool, true, false, cond, List, [], ◌∷◌, ◌++◌, Some, refl, ap, subst, inl, inr, ◌⊎◌}
 use Rattle.std.specs.Prelude.{slice_get, slice_set, find, filter}
 use Rattle.std.specs.List.{AllByRecursion, list_all}
+use Rattle.std.proofs.lemmas.Bool.{and_parts}
+use Rattle.span_value.proofs.Lists.{all_found_at}
 use Rattle.span_machine.specs.Machine.{changed_first, without_first}
-use Rattle.span_machine_laws.proofs.Tests.{first_true, second_true}
 
 pub slice_get-set : {A : Type 0} (xs : List A) (i j : ℕ) (v x : A) → slice_get (slice_set xs i v) j ≡ Some x → ((j ≡ i) × (x ≡ v)) ⊎ (slice_get xs j ≡ Some x)
 slice_get-set [] i j v x h = inr h
@@ -70,17 +71,6 @@ all_both P Q R make [] ps qs = tt
 all_both P Q R make (x ∷ xs) ps qs = (make x ps.0 qs.0, all_both P Q R make xs ps.1 qs.1)
 
 module _ {A : Type 0} (P : A → Type 0) where
-  pub all_push : (xs : List A) (x : A) → AllByRecursion P xs → P x → AllByRecursion P (xs ++ x ∷ [])
-  all_push [] x all p = (p, tt)
-  all_push (y ∷ ys) x all p = (all.0, all_push ys x all.1 p)
-
-  pub all_filtered : (q : A → Bool) (ys : List A) → AllByRecursion P ys → AllByRecursion P (filter q ys)
-  all_filtered q [] all = tt
-  all_filtered q (y ∷ ys) all = elim (q y) as (λ b. AllByRecursion P (cond b (y ∷ filter q ys) (filter q ys))) [
-    | true ↦ (all.0, all_filtered q ys all.1)
-    | false ↦ all_filtered q ys all.1
-  ]
-
   pub all_changed : (test : A → Bool) (change : A → A) → ((x : A) → P x → P (change x)) → (xs : List A) → AllByRecursion P xs → AllByRecursion P (changed_first test change xs)
   all_changed test change kept [] all = tt
   all_changed test change kept (x ∷ xs) all = elim (test x) as (λ b. AllByRecursion P (cond b (change x ∷ xs) (x ∷ changed_first test change xs))) [
@@ -102,22 +92,12 @@ module _ {A : Type 0} (P : A → Type 0) where
     | false ↦ λ e all. all_found test ys x e all.1
   ]
 
-  -- what holds of each holds of one that is there
-  pub all_at : (xs : List A) (i : ℕ) (x : A) → slice_get xs i ≡ Some x → AllByRecursion P xs → P x
-  all_at [] i x e all = cc
-  all_at (y ∷ ys) zero x e all = let same : y ≡ x = cc in subst P same all.0
-  all_at (y ∷ ys) (suc i) x e all = all_at ys i x e all.1
-
   pub all_in : (xs : List A) (x : A) → IsIn x xs → AllByRecursion P xs → P x
-  all_in xs x is all = all_at xs is.0 x is.1 all
+  all_in xs x is all = all_found_at P xs is.0 x is.1 all
 
   pub all_true : (p : A → Bool) → ((x : A) → p x ≡ true → P x) → (xs : List A) → list_all p xs ≡ true → AllByRecursion P xs
   all_true p means [] e = tt
-  all_true p means (x ∷ xs) e = (means x (first_true (p x) (list_all p xs) e), all_true p means xs (second_true (p x) (list_all p xs) e))
-
-  pub all_weaker : (Q : A → Type 0) → ((x : A) → P x → Q x) → (xs : List A) → AllByRecursion P xs → AllByRecursion Q xs
-  all_weaker Q weaker [] all = tt
-  all_weaker Q weaker (x ∷ xs) all = (weaker x all.0, all_weaker Q weaker xs all.1)
+  all_true p means (x ∷ xs) e = (means x ((and_parts (p x) (list_all p xs) e).0), all_true p means xs ((and_parts (p x) (list_all p xs) e).1))
 
   -- the first that passes is changed, and no other
   pub all_changed_found : (test : A → Bool) (change : A → A) (xs : List A) (x : A) → find test xs ≡ Some x → P (change x) → AllByRecursion P xs → AllByRecursion P (changed_first test change xs)
@@ -132,19 +112,6 @@ module _ {A : Type 0} (P : A → Type 0) where
 pub one_or_other : {A : Type 0} (P : A → Type 0) (b : Bool) (x y : A) → P x → P y → P (cond b x y)
 one_or_other P true x y p q = p
 one_or_other P false x y p q = q
-
-pub filter_swap : {A : Type 0} (p q : A → Bool) (xs : List A) → filter p (filter q xs) ≡ filter q (filter p xs)
-filter_swap p q [] = refl
-filter_swap p q (x ∷ xs) = elim (p x) as (λ b. p x ≡ b → filter p (cond (q x) (x ∷ filter q xs) (filter q xs)) ≡ filter q (cond b (x ∷ filter p xs) (filter p xs))) [
-  | true ↦ λ e. elim (q x) as (λ v. filter p (cond v (x ∷ filter q xs) (filter q xs)) ≡ cond v (x ∷ filter q (filter p xs)) (filter q (filter p xs))) [
-    | true ↦ rw e (ap (λ l. x ∷ l) (filter_swap p q xs))
-    | false ↦ filter_swap p q xs
-  ]
-  | false ↦ λ e. elim (q x) as (λ v. filter p (cond v (x ∷ filter q xs) (filter q xs)) ≡ filter q (filter p xs)) [
-    | true ↦ rw e (filter_swap p q xs)
-    | false ↦ filter_swap p q xs
-  ]
-] refl
 
 -- the first that passes, with what is before and after it
 pub record Split {A : Type 0} (test : A → Bool) (xs : List A) (x : A) : Type 0 where

@@ -13,8 +13,8 @@ use Rattle.span_value.specs.Results.{and_then}
 use Rattle.span_mutate.specs.Database.{apply_one, apply}
 use Rattle.span_mutate.specs.Rows.{begins}
 use Rattle.span_mutate.specs.Directories.{Root, directory, key_len, IsKeyed, AreKeyed, IsDatabase, RunsTo, IsPutTogether}
-use Rattle.span_mutate.proofs.Begins.{front_of_taken, front_within, number_itself, same_key, same_number}
-use Rattle.std.proofs.lemmas.Bool.{and_from, and_parts}
+use Rattle.span_mutate.proofs.Begins.{front_of_taken, front_within, same_key}
+use Rattle.std.proofs.lemmas.Bool.{and_from, and_parts, eqb-true, eq-eqb}
 use Rattle.span_mutate.proofs.ByRoots.{root_by_root, root_keyed, in_own}
 use Rattle.span_mutate.proofs.Families.{root_is_table}
 use Rattle.span_mutate.proofs.Filters.{filter_yes, filter_no}
@@ -56,13 +56,13 @@ front_is : (us ws : List Value) (k : ℕ) → begins us ws ≡ true → length u
 front_is us ws k e len =
     let within : length us ≤ length ws = front_within us ws e in
     let taken : length (take k ws) ≡ k = length-take-le k ws (omega (arith, len, within)) in
-    same_key us (take k ws) (and_from (length us == length (take k ws)) (begins us (take k ws)) (number_itself (length us) (length (take k ws)) (len ∙ sym taken)) (front_of_taken us ws k e (omega (arith, len))))
+    same_key us (take k ws) (and_from (length us == length (take k ws)) (begins us (take k ws)) (eq-eqb (length us) (length (take k ws)) (len ∙ sym taken)) (front_of_taken us ws k e (omega (arith, len))))
 
 -- a directory that has a mutation is the directory of its root row
 pub own_root : (schema : List Table) (root : Root) (m : CheckedMutation) → IsRoot schema root → is_at schema root m ≡ true → root ≡ root_at schema m
 own_root schema root m is at =
     let parts = and_parts (root_of schema m.table == root.table) (begins root.key m.key) at in
-    let table : root_of schema m.table ≡ root.table = same_number (root_of schema m.table) root.table parts.0 in
+    let table : root_of schema m.table ≡ root.table = eqb-true (root_of schema m.table) root.table parts.0 in
     let key : root.key ≡ take (key_len schema (root_of schema m.table)) m.key =
     front_is root.key m.key (key_len schema (root_of schema m.table)) parts.1 (is.1 ∙ ap (key_len schema) (sym table)) in
     let whole : record { table = root.table; key = root.key } ≡ root_at schema m = cc in

@@ -6,12 +6,13 @@ use Rattle.span_machine.specs.declared.transaction.OpenTransaction.{OpenTransact
 use Rattle.span_machine.specs.declared.transaction.Decision.{Decision}
 use Rattle.span_machine.specs.declared.transaction.Decision.TheVariants as decision
 use Rattle.span_machine.specs.Machine.{Machine, answer, start, changed_first, without_first, is_transaction, with_decision, add_prepared, prepare_timestamp, commit_timestamp, without_prepared, applied_at}
-use Rattle.span_machine_laws.proofs.Lists.{IsIn, all_push, all_changed, all_without, all_at, all_weaker}
+use Rattle.span_machine_laws.proofs.Lists.{IsIn, all_changed, all_without}
 use Rattle.span_machine_laws.proofs.Walks.{Ends, answer_by}
 use Rattle.span_schema.specs.declared.table.Table.{Table}
 use Rattle.span_value.specs.declared.refusal.Refusal.{Refusal}
 use Rattle.span_query.specs.declared.query.Statement.{Statement}
 use Rattle.std.specs.Prelude.{Result}
+use Rattle.span_value.proofs.Lists.{all_push, all_weaker, all_found_at}
 
 -- ---- numbers that rise
 
@@ -56,11 +57,11 @@ pub same_place : (ts : List OpenTransaction) (i j : ℕ) (t u : OpenTransaction)
 same_place [] i j t u up at there e = cc
 same_place (v ∷ vs) zero zero t u up at there e = refl
 same_place (v ∷ vs) zero (suc j) t u up at there e =
-    let low = all_at (λ w. v.number < w.number) vs j u there up.0 in
+    let low = all_found_at (λ w. v.number < w.number) vs j u there up.0 in
     let same : v.number ≡ t.number = (let is : v ≡ t = cc in ap (λ (w : OpenTransaction). w.number) is) in
     absurd (omega arith)
 same_place (v ∷ vs) (suc i) zero t u up at there e =
-    let low = all_at (λ w. v.number < w.number) vs i t at up.0 in
+    let low = all_found_at (λ w. v.number < w.number) vs i t at up.0 in
     let same : v.number ≡ u.number = (let is : v ≡ u = cc in ap (λ (w : OpenTransaction). w.number) is) in
     absurd (omega arith)
 same_place (v ∷ vs) (suc i) (suc j) t u up at there e = ap suc (same_place vs i j t u up.1 at there e)

@@ -1,6 +1,6 @@
 -- The pieces that cover the leaves of open queries: each leaf's are apart, and end where directories do.
 use Rattle.std.proofs.Common.{◌≡◌, ℕ, zero, suc, ◌+◌, Bool, true, false, cond, List, [], ◌∷◌, ◌++◌, Option, Some, None, Result, refl, ap, sym, ◌∙◌, subst, inl, inr, ◌⊎◌}
-use Rattle.std.specs.Prelude.{◌&&◌, if◌then◌else◌, slice_get, slice_set, map, flat_map, filter, insert, take, drop}
+use Rattle.std.specs.Prelude.{◌&&◌, slice_get, slice_set, map, flat_map, insert, take, drop}
 use Rattle.std.specs.List.{AllByRecursion, fold, list_all}
 use Rattle.std.specs.Ordering.{is_lt}
 use Rattle.span_value.specs.declared.refusal.Refusal.{Refusal}
@@ -8,6 +8,7 @@ use Rattle.span_schema.specs.declared.table.Table.{Table}
 use Rattle.span_schema.specs.declared.layout.KeyPart.{KeyPart}
 use Rattle.span_schema.specs.Numbers.{root_of, key_columns, key_places}
 use Rattle.span_value.specs.declared.value.Value.{Value}
+use Rattle.span_value.proofs.Lists.{all_push, all_found_at}
 use Rattle.span_keycode.specs.declared.range.KeyRange.{KeyRange}
 use Rattle.span_keycode.specs.declared.range.RangeComparison.{RangeComparison}
 use Rattle.span_keycode.specs.Ranges.{range_start, range_end}
@@ -21,6 +22,7 @@ use Rattle.span_columns.specs.declared.leaf.Leaf.{Leaf}
 use Rattle.span_leaves.specs.Ranges.{KeyBound, is_of_type, bounds, bounds_by, bounded, narrowed}
 use Rattle.span_planner.proofs.Ranged.{IsRanged, leaves_ranged}
 use Rattle.span_truetime.specs.Time.{timestamp_of}
+use Rattle.span_planner.proofs.Planned.{typed_bounds}
 use Rattle.span_machine.specs.declared.query.OpenQuery.{OpenQuery}
 use Rattle.span_machine.specs.declared.query.ScanLeaf.{ScanLeaf}
 use Rattle.span_machine.specs.declared.slot.SlotState.{SlotState}
@@ -30,7 +32,7 @@ use Rattle.span_machine.specs.declared.transaction.Decision.TheVariants as decis
 use Rattle.span_machine.specs.declared.transaction.OpenTransaction.{OpenTransaction}
 use Rattle.span_machine.specs.Machine.{Machine, answer, if_some, is_query, gap_in, add_piece, with_piece, cover, uncovered, statement_plan, as_opened, applied_at}
 use Rattle.span_machine.specs.Slots.{IsCut}
-use Rattle.span_machine_laws.proofs.Lists.{all_push, all_without, all_found, all_changed_found, all_at}
+use Rattle.span_machine_laws.proofs.Lists.{all_without, all_found, all_changed_found}
 use Rattle.span_machine_laws.proofs.Ranges.{HasRanges, cut_at}
 use Rattle.span_machine_laws.proofs.Walks.{Ends, answer_by}
 
@@ -73,7 +75,7 @@ piece_at leaves leaf l part at = ap (λ o. if_some o leaves (λ (k : ScanLeaf). 
 pub all_covered_piece : (P : KeyRange → Type 0) (leaves : List ScanLeaf) (leaf : ℕ) (l : ScanLeaf) (part : KeyRange) → slice_get leaves leaf ≡ Some l → AllByRecursion (AllCovered P) leaves → P part → AllByRecursion (AllCovered P) (with_piece leaves leaf part)
 all_covered_piece P leaves leaf l part at all p =
     subst (AllByRecursion (AllCovered P)) (sym (piece_at leaves leaf l part at))
-    (all_set (AllCovered P) leaves leaf (add_piece part l) all (all_insert P l.covered (place_among l.covered part) part (all_at (AllCovered P) leaves leaf l at all) p))
+    (all_set (AllCovered P) leaves leaf (add_piece part l) all (all_insert P l.covered (place_among l.covered part) part (all_found_at (AllCovered P) leaves leaf l at all) p))
 
 -- ---- ends of ranges
 
@@ -145,18 +147,11 @@ module _ (schema : List Table) where
           both true c is = (refl, is)
           both false c is = cc
 
-  all_typed : (p : KeyBound → Bool) (bs : List KeyBound) → list_all p (filter p bs) ≡ true
-  all_typed p [] = refl
-  all_typed p (b ∷ bs) = of_test (p b) refl (all_typed p bs) where
-    of_test : (t : Bool) → p b ≡ t → list_all p (filter p bs) ≡ true → list_all p (if t then b ∷ filter p bs else filter p bs) ≡ true
-    of_test true is rest = ap (λ (c : Bool). c && list_all p (filter p bs)) is ∙ rest
-    of_test false is rest = rest
-
   narrowed_ends : (table at : ℕ) (es : List Expr) (columns : List KeyPart) (places : List ℕ) → key_columns schema table ≡ columns → AreEnds schema (narrowed (root_of schema table) columns places at es)
   narrowed_ends table at es [] places is = family_ends (root_of schema table)
   narrowed_ends table at es (part ∷ parts) [] is = family_ends (root_of schema table)
   narrowed_ends table at es (part ∷ parts) (place ∷ places) is =
-      bounded_ends table part parts is (bounds_by part.kind (at + place) es) (all_typed (λ (b : KeyBound). is_of_type part.kind b.1) (flat_map (bounds (at + place)) es)) (family (root_of schema table)) (family_ends (root_of schema table))
+      bounded_ends table part parts is (bounds_by part.kind (at + place) es) (typed_bounds (λ (b : KeyBound). is_of_type part.kind b.1) (flat_map (bounds (at + place)) es)) (family (root_of schema table)) (family_ends (root_of schema table))
 
   pub ranged_ends : (leaf : Leaf) → IsRanged schema leaf → AreEnds schema leaf.range
   ranged_ends leaf is = subst (AreEnds schema) (sym is.is) (narrowed_ends is.table is.at is.conditions (key_columns schema is.table) (key_places schema is.table) refl)
@@ -221,7 +216,7 @@ query_covered schema m ranges slot leaf slot_state q l part here at has gap =
     let same : with_piece q.leaves leaf part ≡ slice_set q.leaves leaf (add_piece part l) = piece_at q.leaves leaf l part at in
     record {
       leaves = subst (AllByRecursion (IsOpenLeaf schema)) (sym same)
-          (all_set (IsOpenLeaf schema) q.leaves leaf (add_piece part l) has.leaves (leaf_covered schema m ranges slot slot_state l part here (all_at (IsOpenLeaf schema) q.leaves leaf l at has.leaves) gap));
+          (all_set (IsOpenLeaf schema) q.leaves leaf (add_piece part l) has.leaves (leaf_covered schema m ranges slot slot_state l part here (all_found_at (IsOpenLeaf schema) q.leaves leaf l at has.leaves) gap));
       of_plan = ap leaves_of same ∙ leaves_covered q.leaves leaf l part at ∙ has.of_plan;
       top = has.top;
     }

@@ -20,11 +20,9 @@ use Rattle.span_truetime.specs.Time.{timestamp_of}
 use Rattle.span_machine.specs.declared.step.Step.{Step}
 use Rattle.span_truetime.specs.declared.interval.Interval.{Interval}
 use Rattle.span_machine_laws.proofs.Causes.{may_prepare, may_commit, undecided_is}
-use Rattle.span_machine_laws.proofs.Tests.{first_true, second_true, not_both, both_of, number_same, not_late}
-use Rattle.span_machine_laws.proofs.Lists.{all_push}
 use Rattle.span_machine_laws.proofs.Stability.{changes_at, is_some_of}
 use Rattle.span_machine_laws.proofs.Splits.{part_below, part_from, below_parts, from_parts, found_has, split_place, may_split}
-use Rattle.span_machine_laws.proofs.Ranges.{HasRanges, home_at, home_split, some_state}
+use Rattle.span_machine_laws.proofs.Ranges.{HasRanges, home_at, home_split}
 use Rattle.span_machine_laws.proofs.Holdings.{AreHolding, none_beyond}
 use Rattle.span_machine_laws.proofs.Walks.{Ends, answer_by}
 use Rattle.span_machine_laws.proofs.InPlace.{IsBelow, IsUnder, IsRising, Succeeds, commits_at, claims, IsPromised, IsClaimed, IsClaim, IsInPlace, IsPlaced, all_under, below_up, under_up, under_below, greatest_more, rising_push, changes_at-push}
@@ -36,6 +34,9 @@ use Rattle.span_machine_laws.proofs.Schemas.{IsBegunBy, IsBySchema, keyed_upto, 
 use Rattle.span_value.specs.declared.refusal.Refusal.{Refusal}
 use Rattle.span_query.specs.declared.query.Statement.{Statement}
 use Rattle.std.specs.Prelude.{Result}
+use Rattle.std.proofs.lemmas.Bool.{both_ways, and_from, eqb-true, leb-false, and_parts}
+use Rattle.std.proofs.lemmas.Option.{same_Some}
+use Rattle.span_value.proofs.Lists.{all_push}
 
 -- ---- the steps
 
@@ -70,10 +71,10 @@ module _ (schema : List Table) (rules : MeetsRules schema) (root : Root) (is : I
       let same : a ≡ slot_state = cc in
       claim_first schema root slot a.last b.last (commits_at schema root m.log) (commits_at schema root m.log) (is_transaction owner txn) (add_prepared slot (prepare_timestamp slot_state)) m.transactions t found (λ rest empty. record {
         neither = λ x y. (low, refl);
-        both = λ x y. absurd (not_both (is_prepared_at slot t) (first_true (is_prepared_at slot t) (is_some_of (filter (is_at schema root) t.mutations)) x) may.1);
-        leaves = λ x y. absurd (not_both (is_prepared_at slot t) (first_true (is_prepared_at slot t) (is_some_of (filter (is_at schema root) t.mutations)) x) may.1);
+        both = λ x y. absurd (both_ways (is_prepared_at slot t) may.1 ((and_parts (is_prepared_at slot t) (is_some_of (filter (is_at schema root) t.mutations)) x).0));
+        leaves = λ x y. absurd (both_ways (is_prepared_at slot t) may.1 ((and_parts (is_prepared_at slot t) (is_some_of (filter (is_at schema root) t.mutations)) x).0));
         comes = λ x y. (
-          empty x ∙ unclaimed schema root is slot (mutations_in schema slot_state t.mutations) m.transactions (subst (λ l. is_some_of l ≡ true) (sym whole) (second_true (is_prepared_at slot (add_prepared slot (prepare_timestamp slot_state) t)) (is_some_of (filter (is_at schema root) t.mutations)) y)) may.2,
+          empty x ∙ unclaimed schema root is slot (mutations_in schema slot_state t.mutations) m.transactions (subst (λ l. is_some_of l ≡ true) (sym whole) ((and_parts (is_prepared_at slot (add_prepared slot (prepare_timestamp slot_state) t)) (is_some_of (filter (is_at schema root) t.mutations)) y).1)) may.2,
           λ below. subst (IsClaimed schema root b.last (commits_at schema root m.log) (add_prepared slot (prepare_timestamp slot_state) t)) (sym (undecided_is t.decision may.0)) (record {
             below = below_up a.last b.last (commits_at schema root m.log) low below;
             under = all_under a.last (greatest (t.prepared ++ (record { slot = slot; timestamp = prepare_timestamp slot_state }) ∷ [])) (commits_at schema root m.log) (prepared_last a slot_state t.prepared slot same) below;
@@ -102,8 +103,8 @@ module _ (schema : List Table) (rules : MeetsRules schema) (root : Root) (is : I
               under = under_up (greatest t.prepared) (greatest (t.prepared ++ (record { slot = i; timestamp = prepare_timestamp slot_state }) ∷ [])) (commits_at schema root m.log) (greatest_more t.prepared (record { slot = i; timestamp = prepare_timestamp slot_state })) old.under;
               through = old.through;
             });
-        leaves = λ x y. absurd (not_both (claims schema root slot t) x (sym alike ∙ y));
-        comes = λ x y. absurd (not_both (claims schema root slot t) (sym alike ∙ y) x);
+        leaves = λ x y. absurd (both_ways (claims schema root slot t) (sym alike ∙ y) x);
+        comes = λ x y. absurd (both_ways (claims schema root slot t) x (sym alike ∙ y));
       }) h)
 
   pub prepare_there : (owner txn i : ℕ) (t : OpenTransaction) (slot_state : SlotState) → find (is_transaction owner txn) m.transactions ≡ Some t → slice_get m.slots i ≡ Some slot_state
@@ -111,7 +112,7 @@ module _ (schema : List Table) (rules : MeetsRules schema) (root : Root) (is : I
   prepare_there owner txn i t slot_state found here accepted well =
       let may = may_prepare (is_undecided t) (is_prepared_at i t) (length (mutations_in schema slot_state t.mutations) == 0) (has_conflict schema m i (mutations_in schema slot_state t.mutations)) accepted in
       elim (i == slot) as (λ v. (i == slot) ≡ v → IsInPlace schema root slot (prepared m owner txn i slot_state).1) [
-        | true ↦ λ e. prepare_at owner txn i t slot_state (number_same i slot e) found here accepted well
+        | true ↦ λ e. prepare_at owner txn i t slot_state (eqb-true i slot e) found here accepted well
         | false ↦ λ e. prepare_away owner txn i t slot_state e found here may.0
       ] refl
 
@@ -137,17 +138,17 @@ module _ (schema : List Table) (rules : MeetsRules schema) (root : Root) (is : I
               claim = λ b h. let old = lifts.from slot b h in
                   claim_first schema root slot old.0.last b.last (commits_at schema root m.log) (commits_at schema root (m.log ++ commit_of ts t ∷ [])) (is_transaction owner txn) (with_decision (decision.Committed ts)) m.transactions t found (λ rest empty. record {
                     neither = λ x y. (old.2, sym same);
-                    both = λ x y. absurd (not_both (is_some_of (filter (is_at schema root) t.mutations)) (second_true (is_prepared_at slot t) (is_some_of (filter (is_at schema root) t.mutations)) x) e);
-                    leaves = λ x y. absurd (not_both (claims schema root slot t) x y);
-                    comes = λ x y. absurd (not_both (claims schema root slot t) y x);
+                    both = λ x y. absurd (both_ways (is_some_of (filter (is_at schema root) t.mutations)) e ((and_parts (is_prepared_at slot t) (is_some_of (filter (is_at schema root) t.mutations)) x).1));
+                    leaves = λ x y. absurd (both_ways (claims schema root slot t) y x);
+                    comes = λ x y. absurd (both_ways (claims schema root slot t) x y);
                   }) (o.claim old.0 old.1);
             }
         | true ↦ λ e.
             let same : commits_at schema root (m.log ++ commit_of ts t ∷ []) ≡ commits_at schema root m.log ++ commit_of ts t ∷ [] =
             commits_at-push schema root m.log (commit_of ts t) ∙ ap (λ b. commits_at schema root m.log ++ cond b (commit_of ts t ∷ []) []) e in
-            let all : list_all (is_prepared_for schema m t) t.mutations ≡ true = second_true (not (length t.prepared == 0)) (list_all (is_prepared_for schema m t) t.mutations) ready in
+            let all : list_all (is_prepared_for schema m t) t.mutations ≡ true = (and_parts (not (length t.prepared == 0)) (list_all (is_prepared_for schema m t) t.mutations) ready).1 in
             let ready_at = prepared_root schema root is m slot t o.only t.mutations e all in
-            let is : claims schema root slot t ≡ true = both_of (is_prepared_at slot t) (is_some_of (filter (is_at schema root) t.mutations)) ready_at.0 e in
+            let is : claims schema root slot t ≡ true = and_from (is_prepared_at slot t) (is_some_of (filter (is_at schema root) t.mutations)) ready_at.0 e in
             let slot_state = ready_at.1 in
             let promised : IsPromised schema root slot_state.0.last (commits_at schema root m.log) t =
             subst (IsClaimed schema root slot_state.0.last (commits_at schema root m.log) t) (undecided_is t.decision open_still)
@@ -160,11 +161,11 @@ module _ (schema : List Table) (rules : MeetsRules schema) (root : Root) (is : I
               through = subst (λ l. Succeeds schema (changes_at schema root l)) (sym same) (subst (Succeeds schema) (sym (changes_at-push schema root (commits_at schema root m.log) (commit_of ts t))) promised.through);
               claim = λ b h. let old = lifts.from slot b h in
                   claim_first schema root slot old.0.last b.last (commits_at schema root m.log) (commits_at schema root (m.log ++ commit_of ts t ∷ [])) (is_transaction owner txn) (with_decision (decision.Committed ts)) m.transactions t found (λ rest empty. record {
-                    neither = λ x y. absurd (not_both (claims schema root slot t) is x);
+                    neither = λ x y. absurd (both_ways (claims schema root slot t) x is);
                     both = λ x y g. subst (IsBelow (max b.last ts)) (sym same)
                         (all_push (λ d. d.timestamp ≤ max b.last ts) (commits_at schema root m.log) (commit_of ts t) (under_below (greatest t.prepared) (max b.last ts) (commits_at schema root m.log) (omega arith) promised.under) (omega arith));
-                    leaves = λ x y. absurd (not_both (claims schema root slot t) x y);
-                    comes = λ x y. absurd (not_both (claims schema root slot t) y x);
+                    leaves = λ x y. absurd (both_ways (claims schema root slot t) y x);
+                    comes = λ x y. absurd (both_ways (claims schema root slot t) x y);
                   }) (o.claim old.0 old.1);
             }
       ] refl
@@ -180,7 +181,7 @@ module _ (schema : List Table) (rules : MeetsRules schema) (root : Root) (is : I
           neither = λ x y. (low, refl);
           both = λ x y g. drop g;
           leaves = λ x y g. drop g;
-          comes = λ x y. absurd (not_both (claims schema root slot t) y x);
+          comes = λ x y. absurd (both_ways (claims schema root slot t) x y);
         }) h
       ]
 
@@ -193,9 +194,9 @@ module _ (schema : List Table) (rules : MeetsRules schema) (root : Root) (is : I
         | true ↦ claim_without schema root slot n k (commits_at schema root m.log) (is_transaction owner txn) m.transactions t found low (λ x g. drop g) h
         | false ↦ claim_first schema root slot n k (commits_at schema root m.log) (commits_at schema root m.log) (is_transaction owner txn) (without_prepared slot) m.transactions t found (λ rest empty. record {
           neither = λ x y. (low, refl);
-          both = λ x y. absurd (not_both (is_prepared_at slot (without_prepared slot t)) (first_true (is_prepared_at slot (without_prepared slot t)) (is_some_of (filter (is_at schema root) t.mutations)) y) gone);
+          both = λ x y. absurd (both_ways (is_prepared_at slot (without_prepared slot t)) gone ((and_parts (is_prepared_at slot (without_prepared slot t)) (is_some_of (filter (is_at schema root) t.mutations)) y).0));
           leaves = λ x y g. drop g;
-          comes = λ x y. absurd (not_both (is_prepared_at slot (without_prepared slot t)) (first_true (is_prepared_at slot (without_prepared slot t)) (is_some_of (filter (is_at schema root) t.mutations)) y) gone);
+          comes = λ x y. absurd (both_ways (is_prepared_at slot (without_prepared slot t)) gone ((and_parts (is_prepared_at slot (without_prepared slot t)) (is_some_of (filter (is_at schema root) t.mutations)) y).0));
         }) h
       ]
 
@@ -207,12 +208,12 @@ module _ (schema : List Table) (rules : MeetsRules schema) (root : Root) (is : I
       let alike : claims schema root slot (without_prepared i t) ≡ claims schema root slot t = ap (λ b. b && is_some_of (filter (is_at schema root) t.mutations)) still in
       elim (length (without_prepared i t).prepared == 0) as (λ v. (length (without_prepared i t).prepared == 0) ≡ v → IsClaim schema root k (commits_at schema root m.log) (filter (claims schema root slot) (cond v (without_first (is_transaction owner txn) m.transactions) (changed_first (is_transaction owner txn) (without_prepared i) m.transactions)))) [
         | true ↦ λ e. claim_without schema root slot n k (commits_at schema root m.log) (is_transaction owner txn) m.transactions t found low
-            (λ x g. absurd (not_both (is_prepared_at slot t) (first_true (is_prepared_at slot t) (is_some_of (filter (is_at schema root) t.mutations)) x) (sym still ∙ none_left slot (without_prepared i t).prepared e))) h
+            (λ x g. absurd (both_ways (is_prepared_at slot t) (sym still ∙ none_left slot (without_prepared i t).prepared e) ((and_parts (is_prepared_at slot t) (is_some_of (filter (is_at schema root) t.mutations)) x).0))) h
         | false ↦ λ e. claim_first schema root slot n k (commits_at schema root m.log) (commits_at schema root m.log) (is_transaction owner txn) (without_prepared i) m.transactions t found (λ rest empty. record {
           neither = λ x y. (low, refl);
           both = λ x y g. keep g;
-          leaves = λ x y. absurd (not_both (claims schema root slot t) x (sym alike ∙ y));
-          comes = λ x y. absurd (not_both (claims schema root slot t) (sym alike ∙ y) x);
+          leaves = λ x y. absurd (both_ways (claims schema root slot t) (sym alike ∙ y) x);
+          comes = λ x y. absurd (both_ways (claims schema root slot t) x (sym alike ∙ y));
         }) h
       ] refl
 
@@ -235,7 +236,7 @@ module _ (schema : List Table) (rules : MeetsRules schema) (root : Root) (is : I
 
   pub apply_there : (owner txn i : ℕ) (t : OpenTransaction) → find (is_transaction owner txn) m.transactions ≡ Some t → IsInPlace schema root slot (applied_at t.decision m owner txn i t).1
   apply_there owner txn i t found = elim (i == slot) as (λ v. (i == slot) ≡ v → IsInPlace schema root slot (applied_at t.decision m owner txn i t).1) [
-    | true ↦ λ e. subst (λ j. IsInPlace schema root slot (applied_at t.decision m owner txn j t).1) (sym (number_same i slot e)) (apply_here owner txn t t.decision refl found)
+    | true ↦ λ e. subst (λ j. IsInPlace schema root slot (applied_at t.decision m owner txn j t).1) (sym (eqb-true i slot e)) (apply_here owner txn t t.decision refl found)
     | false ↦ λ e. apply_away owner txn i t t.decision e refl found
   ] refl
 
@@ -281,11 +282,11 @@ module _ (schema : List Table) (rules : MeetsRules schema) (root : Root) (is : I
         home.slot,
         record {
           only = home.only;
-          held = λ b h. subst (λ (c : SlotState). has_key c (root_code schema root) ≡ true) (some_state home.state b (sym home.here ∙ h)) home.has;
+          held = λ b h. subst (λ (c : SlotState). has_key c (root_code schema root) ≡ true) (same_Some home.state b (sym home.here ∙ h)) home.has;
           in_range = o.in_range;
           rising = o.rising;
           through = o.through;
-          claim = λ b h. claim_split i slot_state code b home.slot here inside idle h (subst (λ (c : SlotState). has_key c (root_code schema root) ≡ true) (some_state home.state b (sym home.here ∙ h)) home.has);
+          claim = λ b h. claim_split i slot_state code b home.slot here inside idle h (subst (λ (c : SlotState). has_key c (root_code schema root) ≡ true) (same_Some home.state b (sym home.here ∙ h)) home.has);
         },
       )
 
@@ -296,7 +297,7 @@ module _ (schema : List Table) (rules : MeetsRules schema) (root : Root) (is : I
     prepares = λ owner txn i t slot_state found here accepted well room low. (slot, prepare_there owner txn i t slot_state found here accepted well);
     commits = λ owner txn interval t found accepted.
         let may = may_commit (is_undecided t) (is_all_prepared schema m t) (nat_le timestamp_end (commit_timestamp m t interval)) accepted in
-        (slot, commit_here owner txn (commit_timestamp m t interval) t found may.0 may.1 (omega arith) (not_late timestamp_end (commit_timestamp m t interval) may.2));
+        (slot, commit_here owner txn (commit_timestamp m t interval) t found may.0 may.1 (omega arith) (leb-false timestamp_end (commit_timestamp m t interval) may.2));
     aborts = λ owner txn interval t found open_still. (slot, in_place_by (aborted m owner txn t).1 (lifts_same m.slots) refl (λ a b p q low h. abort_claim owner txn t a.last b.last found open_still low h));
     applies = λ owner txn i interval t slot_state found here accepted. (slot, apply_there owner txn i t found);
     advances = λ i interval slot_state here. (slot, slots_placed (advanced m i interval slot_state).1 (lifts_set m.slots i slot_state (record slot_state { floor = max slot_state.floor interval.latest }) here (omega arith) (λ _. refl)) refl refl);

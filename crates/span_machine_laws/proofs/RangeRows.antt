@@ -2,6 +2,7 @@
 use Rattle.std.proofs.Common.{◌≡◌, ℕ, Bool, true, false, cond, ◌==◌, List, [], ◌∷◌, Ok, refl, ap, sym, ◌∙◌, subst}
 use Rattle.std.specs.Prelude.{filter}
 use Rattle.std.proofs.lemmas.Bool.{false_from_ne_true}
+use Rattle.span_value.proofs.Lists.{all_filter, filter_swap}
 use Rattle.span_schema.specs.declared.table.Table.{Table}
 use Rattle.span_schema.specs.Lineages.{MeetsRules}
 use Rattle.span_keycode.specs.Parts.{is_within}
@@ -13,8 +14,8 @@ use Rattle.span_mutate.specs.Database.{apply, rows_of}
 use Rattle.span_mutate.specs.Directories.{Root, IsKeyed, AreKeyed, IsDatabase, directory, is_in_directory, root_row, rows_cmp}
 use Rattle.span_mutate.specs.Typed.{IsTyped, AreTyped}
 use Rattle.span_mutate.proofs.Apart.{one_database}
-use Rattle.span_mutate.proofs.Filters.{filter_within, filters_turned}
-use Rattle.span_mutate.proofs.Placing.{all_filter, rising_filter}
+use Rattle.span_mutate.proofs.Filters.{filter_within}
+use Rattle.span_mutate.proofs.Placing.{rising_filter}
 use Rattle.span_maderows.specs.Made.{begins_with}
 use Rattle.span_maderows.proofs.Bytes.{front_begins}
 use Rattle.span_shard.specs.Rows.{code_of}
@@ -87,9 +88,9 @@ module _ (schema : List Table) (rules : MeetsRules schema) (range : KeyRange) wh
       → ((root : Root) → IsRoot schema root → is_within range (root_code schema root) ≡ true → directory schema root a ≡ directory schema root b)
       → filter (row_within schema range) (rows_of n a) ≡ filter (row_within schema range) (rows_of n b)
   same_rows_within ends n a b is_a is_b typed_a typed_b same =
-      filters_turned (row_within schema range) (λ (r : TableRow). r.table == n) a
+      filter_swap (row_within schema range) (λ (r : TableRow). r.table == n) a
       ∙ ap (filter (λ (r : TableRow). r.table == n)) (by_roots ends a typed_a ∙ same_range a b is_a is_b same ∙ sym (by_roots ends b typed_b))
-      ∙ sym (filters_turned (row_within schema range) (λ (r : TableRow). r.table == n) b)
+      ∙ sym (filter_swap (row_within schema range) (λ (r : TableRow). r.table == n) b)
 
   -- mutations that are equal in the directories of the range make the same rows there
   pub rows_alike_within : AreEnds schema range → (n : ℕ) (ms ns : List CheckedMutation) (a b : List TableRow) → AreKeyed schema ms → AreKeyed schema ns → AreTyped schema a → AreTyped schema b → apply schema [] ms ≡ Ok a → apply schema [] ns ≡ Ok b

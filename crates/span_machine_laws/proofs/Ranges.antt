@@ -1,5 +1,5 @@
 -- The ranges of the slots: no step but a Split changes them. Each coded key is in the range of one slot, and the ranges are cut at root keys.
-use Rattle.std.proofs.Common.{◌≡◌, ◌≢◌, ℕ, zero, suc, max, true, false, cond, ◌&&◌, ◌==◌, ◌++◌, nat_lt, nat_le, List, [], ◌∷◌, length, Option, Some, None, refl, ap, sym, ◌∙◌, subst, inl, inr, ◌⊎◌, arith}
+use Rattle.std.proofs.Common.{◌≡◌, ◌≢◌, ℕ, zero, suc, max, true, false, cond, ◌&&◌, ◌==◌, ◌++◌, nat_lt, nat_le, List, [], ◌∷◌, length, Option, Some, None, refl, ap, sym, ◌∙◌, subst, inl, inr, ◌⊎◌}
 use Rattle.std.specs.Prelude.{slice_get, slice_set, option_map, Result}
 use Rattle.span_schema.specs.declared.table.Table.{Table}
 use Rattle.span_value.specs.declared.refusal.Refusal.{Refusal}
@@ -24,7 +24,8 @@ use Rattle.span_machine_laws.proofs.Splits.{part_below, part_from, below_parts, 
 use Rattle.span_keycode.specs.Coding.{AreValues}
 use Rattle.span_keycode.proofs.Befores.{IsBefore, IsUpto, before_or_not, not_both}
 use Rattle.span_value.specs.declared.value.Value.{Value}
-use Rattle.std.proofs.lemmas.Bool.Decides.{nat_tests}
+use Rattle.std.proofs.lemmas.Bool.{eqb-true, eqb-false}
+use Rattle.std.proofs.lemmas.Option.{same_Some}
 
 -- ---- no step but a Split changes a range
 
@@ -100,15 +101,6 @@ one_of slots key home = record {
 
 -- ---- a slot that is cut in two
 
-same_slot : (a b : ℕ) → (a == b) ≡ true → a ≡ b
-same_slot a b e = grind (arith, nat_tests)
-
-other_slot : (a b : ℕ) → (a == b) ≡ false → a ≢ b
-other_slot a b e = λ same. grind (arith, nat_tests)
-
-pub some_state : (a b : SlotState) → Some a ≡ Some b → a ≡ b
-some_state a b e = cc
-
 module _ (slots : List SlotState) (slot : ℕ) (slot_state : SlotState) (code : List ℕ) (here : slice_get slots slot ≡ Some slot_state) (inside : has_key slot_state code ≡ true) where
   -- the slots after the cut
   abbrev cut_slots : List SlotState
@@ -165,14 +157,14 @@ module _ (slots : List SlotState) (slot : ℕ) (slot_state : SlotState) (code : 
   pub home_split : (key : List ℕ) → IsHome slots key → IsHome cut_slots key
   home_split key home = elim (home.slot == slot) as (λ v. (home.slot == slot) ≡ v → IsHome cut_slots key) [
     | true ↦ λ e.
-        let at : home.slot ≡ slot = same_slot home.slot slot e in
-        let same : home.state ≡ slot_state = some_state home.state slot_state (sym home.here ∙ subst (λ i. slice_get slots i ≡ Some slot_state) (sym at) here) in
+        let at : home.slot ≡ slot = eqb-true home.slot slot e in
+        let same : home.state ≡ slot_state = same_Some home.state slot_state (sym home.here ∙ subst (λ i. slice_get slots i ≡ Some slot_state) (sym at) here) in
         let has : has_key slot_state key ≡ true = subst (λ (c : SlotState). has_key c key ≡ true) same home.has in
         elim (before_or_not key code) [
           | inl before ↦ home_below key home at has before
           | inr after ↦ home_from key home at has after
         ]
-    | false ↦ λ e. home_elsewhere key home (other_slot home.slot slot e)
+    | false ↦ λ e. home_elsewhere key home (eqb-false home.slot slot e)
   ] refl
 
   pub tiles_split : AreTiles (ranges_of slots) → AreTiles (ranges_of cut_slots)

@@ -1,5 +1,5 @@
 -- What is begun and what is committed was checked against the schema.
-use Rattle.std.proofs.Common.{◌≡◌, ℕ, Bool, true, false, cond, ◌==◌, nat_le, List, [], ◌∷◌, ◌++◌, length, refl, sym, subst}
+use Rattle.std.proofs.Common.{◌≡◌, ℕ, Bool, false, cond, ◌==◌, nat_le, List, [], ◌∷◌, length, refl, sym, subst}
 use Rattle.std.specs.Prelude.{filter}
 use Rattle.std.specs.List.{AllByRecursion}
 use Rattle.span_schema.specs.declared.table.Table.{Table}
@@ -16,15 +16,17 @@ use Rattle.span_machine.specs.declared.transaction.Commit.{Commit}
 use Rattle.span_machine.specs.declared.transaction.OpenTransaction.{OpenTransaction}
 use Rattle.span_machine.specs.declared.transaction.Decision.{Decision}
 use Rattle.span_machine.specs.declared.transaction.Decision.TheVariants as decision
-use Rattle.span_machine.specs.Sorting.{placed, in_order}
 use Rattle.span_machine.specs.Tables.{is_before, upto, mutations_of}
 use Rattle.span_machine.specs.Machine.{Machine, answer, start, is_transaction, root_at, holds, mutations_in, changed_first, without_first, with_decision, add_prepared, prepare_timestamp, commit_timestamp, commit_of, without_prepared, applied_at}
 use Rattle.span_machine.specs.Run.{IsOfSchema}
-use Rattle.span_machine_laws.proofs.Lists.{all_push, all_changed, all_without, all_found, all_filtered, one_or_other}
+use Rattle.span_machine_laws.proofs.Lists.{all_changed, all_without, all_found, one_or_other}
 use Rattle.span_machine_laws.proofs.Walks.{Ends, answer_by}
 use Rattle.span_value.specs.declared.refusal.Refusal.{Refusal}
 use Rattle.span_query.specs.declared.query.Statement.{Statement}
 use Rattle.std.specs.Prelude.{Result}
+use Rattle.span_value.proofs.Lists.{all_append, all_filter, all_push}
+use Rattle.span_shard.proofs.Touching.{typed_keyed}
+use Rattle.span_machine_laws.proofs.Ordered.{all_in_order}
 
 abbrev pub IsBegunBy : List Table → OpenTransaction → Type 0
 IsBegunBy schema t = AreTypedMutations schema t.mutations
@@ -38,46 +40,27 @@ pub record IsBySchema (schema : List Table) (m : Machine) : Type 0 where
 
 -- ---- lists
 
-all_placed : {A : Type 0} (P : A → Type 0) (before : A → A → Bool) (x : A) (ys : List A) → P x → AllByRecursion P ys → AllByRecursion P (placed before x ys)
-all_placed P before x [] here all = (here, tt)
-all_placed P before x (y ∷ ys) here all = elim (before x y) as (λ b. AllByRecursion P (cond b (x ∷ y ∷ ys) (y ∷ placed before x ys))) [
-  | true ↦ (here, all)
-  | false ↦ (all.0, all_placed P before x ys here all.1)
-]
-
-all_in_order : {A : Type 0} (P : A → Type 0) (before : A → A → Bool) (xs : List A) → AllByRecursion P xs → AllByRecursion P (in_order before xs)
-all_in_order P before [] all = tt
-all_in_order P before (x ∷ xs) all = all_placed P before x (in_order before xs) all.0 (all_in_order P before xs all.1)
-
-all_joined : {A : Type 0} (P : A → Type 0) (xs ys : List A) → AllByRecursion P xs → AllByRecursion P ys → AllByRecursion P (xs ++ ys)
-all_joined P [] ys all more = more
-all_joined P (x ∷ xs) ys all more = (all.0, all_joined P xs ys all.1 more)
-
 typed_mutations : (schema : List Table) (cs : List Commit) → AllByRecursion (IsCommitBy schema) cs → AreTypedMutations schema (mutations_of cs)
 typed_mutations schema [] all = tt
-typed_mutations schema (c ∷ cs) all = all_joined (IsTypedMutation schema) c.mutations (mutations_of cs) all.0 (typed_mutations schema cs all.1)
+typed_mutations schema (c ∷ cs) all = all_append (IsTypedMutation schema) c.mutations (mutations_of cs) all.0 (typed_mutations schema cs all.1)
 
 -- the mutations of the commits up to s are typed
 pub typed_upto : (schema : List Table) (log : List Commit) (s : ℕ) → AllByRecursion (IsCommitBy schema) log → AreTypedMutations schema (mutations_of (upto log s))
-typed_upto schema log s all = typed_mutations schema (upto log s) (all_in_order (IsCommitBy schema) is_before (filter (λ c. nat_le c.timestamp s) log) (all_filtered (IsCommitBy schema) (λ c. nat_le c.timestamp s) log all))
+typed_upto schema log s all = typed_mutations schema (upto log s) (all_in_order (IsCommitBy schema) is_before (filter (λ c. nat_le c.timestamp s) log) (all_filter (IsCommitBy schema) (λ c. nat_le c.timestamp s) log all))
 
 -- so are those in a slot
 pub typed_in : (schema : List Table) (slot_state : SlotState) (ms : List CheckedMutation) → AreTypedMutations schema ms → AreTypedMutations schema (mutations_in schema slot_state ms)
-typed_in schema slot_state ms all = all_filtered (IsTypedMutation schema) (λ m. holds schema slot_state (root_at schema m)) ms all
+typed_in schema slot_state ms all = all_filter (IsTypedMutation schema) (λ m. holds schema slot_state (root_at schema m)) ms all
 
 -- what is typed has a value for each key column
 pub keyed_of : (schema : List Table) (n : ℕ) (key : List Value) → IsCodedKey schema n key → IsKeyed schema n key
 keyed_of schema n key coded = (coded.0.0, sym (fit_length (key_columns schema n) key coded.0.1))
 
-pub keyed_all : (schema : List Table) (ms : List CheckedMutation) → AreTypedMutations schema ms → AreKeyed schema ms
-keyed_all schema [] all = tt
-keyed_all schema (m ∷ ms) all = (keyed_of schema m.table m.key all.0.0, keyed_all schema ms all.1)
-
 pub keyed_upto : (schema : List Table) (log : List Commit) (s : ℕ) → AllByRecursion (IsCommitBy schema) log → AreKeyed schema (mutations_of (upto log s))
-keyed_upto schema log s all = keyed_all schema (mutations_of (upto log s)) (typed_upto schema log s all)
+keyed_upto schema log s all = typed_keyed schema (mutations_of (upto log s)) (typed_upto schema log s all)
 
 pub keyed_in : (schema : List Table) (slot_state : SlotState) (ms : List CheckedMutation) → AreTypedMutations schema ms → AreKeyed schema (mutations_in schema slot_state ms)
-keyed_in schema slot_state ms all = keyed_all schema (mutations_in schema slot_state ms) (typed_in schema slot_state ms all)
+keyed_in schema slot_state ms all = typed_keyed schema (mutations_in schema slot_state ms) (typed_in schema slot_state ms all)
 
 -- ---- the steps
 

@@ -22,17 +22,18 @@ use Rattle.span_truetime.specs.Time.{timestamp_of}
 use Rattle.span_machine.specs.declared.step.Reply.TheVariants as reply
 use Rattle.span_machine.specs.declared.step.Reply.TheVariants.{Refused}
 use Rattle.span_machine_laws.proofs.Causes.{may_commit}
-use Rattle.span_machine_laws.proofs.Tests.{first_true, second_true, equal_number, number_same}
 use Rattle.span_machine_laws.proofs.Splits.{part_below, part_from, below_parts, from_parts, found_has, split_place}
 use Rattle.span_machine_laws.proofs.Holdings.{IsHolding, AreHolding}
 use Rattle.std.proofs.lemmas.Option.{slice_get_within}
-use Rattle.span_machine_laws.proofs.Lists.{slice_get-set, all_push, all_changed, all_without, all_found, all_weaker, one_or_other, all_filtered}
+use Rattle.span_machine_laws.proofs.Lists.{slice_get-set, all_changed, all_without, all_found, one_or_other}
 use Rattle.span_machine_laws.proofs.Walks.{Ends, answer_by}
 use Rattle.span_machine_laws.proofs.Stability.{changes_at, touches, is_some_of, changes_at-more}
 use Rattle.span_machine_laws.proofs.Locality.{IsRoot, own_root}
 use Rattle.span_value.specs.declared.refusal.Refusal.{Refusal}
 use Rattle.span_query.specs.declared.query.Statement.{Statement}
 use Rattle.std.specs.Prelude.{Result}
+use Rattle.std.proofs.lemmas.Bool.{eq-eqb, eqb-true, and_parts}
+use Rattle.span_value.proofs.Lists.{all_filter, all_push, all_weaker}
 
 -- ---- lists
 
@@ -76,7 +77,7 @@ abbrev pub from_cut : ℕ → ℕ → ℕ → ℕ
 from_cut count slot i = cond (i == count) slot i
 
 from_new : (count slot i : ℕ) → i ≡ count → from_cut count slot i ≡ slot
-from_new count slot i e = ap (λ b. cond b slot i) (equal_number i count e)
+from_new count slot i e = ap (λ b. cond b slot i) (eq-eqb i count e)
 
 from_other : (count slot i : ℕ) → i < count → from_cut count slot i ≡ i
 from_other count slot i low = ap (λ b. cond b slot i) (apart i count low)
@@ -118,7 +119,7 @@ above_beyond s count i high ts all = all_weaker (IsHolding count) (IsAbove s i)
 
 above_cut : (s count slot i : ℕ) (ts : List OpenTransaction) → AllByRecursion (IsHolding count) ts → AllByRecursion (IsAbove s (from_cut count slot i)) ts → AllByRecursion (IsAbove s i) ts
 above_cut s count slot i ts holding = elim (i == count) as (λ v. (i == count) ≡ v → AllByRecursion (IsAbove s (cond v slot i)) ts → AllByRecursion (IsAbove s i) ts) [
-  | true ↦ λ e above. let at : i ≡ count = number_same i count e in above_beyond s count i (omega arith) ts holding
+  | true ↦ λ e above. let at : i ≡ count = eqb-true i count e in above_beyond s count i (omega arith) ts holding
   | false ↦ λ e above. above
 ] refl
 
@@ -190,8 +191,8 @@ module _ (schema : List Table) (root : Root) (is : IsRoot schema root) (s : ℕ)
   some_prepared t [] = λ e all above. cc
   some_prepared t (mu ∷ ms) = elim (is_at schema root mu) as (λ v. is_at schema root mu ≡ v → is_some_of (cond v (mu ∷ filter (is_at schema root) ms) (filter (is_at schema root) ms)) ≡ true → (is_prepared_for schema m t mu && list_all (is_prepared_for schema m t) ms) ≡ true
       → ((i : ℕ) (b : SlotState) → slice_get m.slots i ≡ Some b → holds schema b root ≡ true → IsAbove s i t) → s < greatest t.prepared) [
-        | true ↦ λ at e all above. prepared_above (root_at schema mu) t.prepared (first_true _ _ all) (λ i b h k. above i b h (subst (λ (q : Root). holds schema b q ≡ true) (sym (own_root schema root mu is at)) k))
-        | false ↦ λ at e all above. some_prepared t ms e (second_true _ _ all) above
+        | true ↦ λ at e all above. prepared_above (root_at schema mu) t.prepared ((and_parts _ _ all).0) (λ i b h k. above i b h (subst (λ (q : Root). holds schema b q ≡ true) (sym (own_root schema root mu is at)) k))
+        | false ↦ λ at e all above. some_prepared t ms e ((and_parts _ _ all).1) above
       ] refl
 
   -- a commit that touches the directory is above s
@@ -201,13 +202,13 @@ module _ (schema : List Table) (root : Root) (is : IsRoot schema root) (s : ℕ)
     | false ↦ λ e. inl refl
     | true ↦ λ e.
         let ready : is_all_prepared schema m t ≡ true = (may_commit (is_undecided t) (is_all_prepared schema m t) (nat_le timestamp_end (commit_timestamp m t interval)) accepted).1 in
-        let above : s < greatest t.prepared = some_prepared t t.mutations e (second_true (not (length t.prepared == 0)) (list_all (is_prepared_for schema m t) t.mutations) ready) (λ i b h k. all_found (IsAbove s i) (is_transaction owner txn) m.transactions t found (sealed.prepared i b h k)) in
+        let above : s < greatest t.prepared = some_prepared t t.mutations e ((and_parts (not (length t.prepared == 0)) (list_all (is_prepared_for schema m t) t.mutations) ready).1) (λ i b h k. all_found (IsAbove s i) (is_transaction owner txn) m.transactions t found (sealed.prepared i b h k)) in
         inr (omega arith)
   ] refl
 
   pub applied_above : (owner txn slot : ℕ) (t : OpenTransaction) (i : ℕ) → AllByRecursion (IsAbove s i) m.transactions → AllByRecursion (IsAbove s i) (applied m owner txn slot t)
   applied_above owner txn slot t i all = one_or_other (AllByRecursion (IsAbove s i)) (length (without_prepared slot t).prepared == 0) _ _ (all_without (IsAbove s i) (is_transaction owner txn) m.transactions all)
-      (all_changed (IsAbove s i) (is_transaction owner txn) (without_prepared slot) (λ u above. all_filtered (λ p. p.slot ≡ i → s < p.timestamp) (λ p. not (p.slot == slot)) u.prepared above) m.transactions all)
+      (all_changed (IsAbove s i) (is_transaction owner txn) (without_prepared slot) (λ u above. all_filter (λ p. p.slot ≡ i → s < p.timestamp) (λ p. not (p.slot == slot)) u.prepared above) m.transactions all)
 
   applied_keeps : (o : Decision) (owner txn slot : ℕ) (t : OpenTransaction) → Keeps schema root s m (applied_at o m owner txn slot t)
   applied_keeps decision.Undecided owner txn slot t = kept_as_is (refused m refusal.WrongState) refl
@@ -216,7 +217,7 @@ module _ (schema : List Table) (root : Root) (is : IsRoot schema root) (s : ℕ)
 
   pub rises_risen : (slot q : ℕ) (interval : Interval) (slot_state : SlotState) → slice_get m.slots slot ≡ Some slot_state → Rises itself m.slots (slice_set m.slots slot (with_risen_floor slot_state q interval))
   rises_risen slot q interval slot_state here = elim (nat_lt slot_state.floor q && nat_le q interval.latest) as (λ v. (nat_lt slot_state.floor q && nat_le q interval.latest) ≡ v → Rises itself m.slots (slice_set m.slots slot (cond v (record slot_state { floor = q }) slot_state))) [
-    | true ↦ λ e. rises_set m.slots slot slot_state (record slot_state { floor = q }) here (let low : nat_lt slot_state.floor q ≡ true = first_true (nat_lt slot_state.floor q) (nat_le q interval.latest) e in grind (arith, nat_tests)) (λ _ k. k)
+    | true ↦ λ e. rises_set m.slots slot slot_state (record slot_state { floor = q }) here (let low : nat_lt slot_state.floor q ≡ true = (and_parts (nat_lt slot_state.floor q) (nat_le q interval.latest) e).0 in grind (arith, nat_tests)) (λ _ k. k)
     | false ↦ λ e. rises_set m.slots slot slot_state slot_state here (omega arith) (λ _ k. k)
   ] refl
 

@@ -18,8 +18,7 @@ use Rattle.span_machine.specs.declared.query.ScanLeaf.{ScanLeaf}
 use Rattle.span_machine.specs.Slots.{has_key, root_code}
 use Rattle.span_machine.specs.Machine.{Machine, Understanding, IsStep, answer, start, holds, with_risen_floor, with_slot_state, as_opened, cover, gap_in, changed_first, is_query, is_safe, applied_at, statement_plan}
 use Rattle.span_machine.specs.Run.{Run}
-use Rattle.span_machine_laws.proofs.Tests.{first_true, second_true}
-use Rattle.span_machine_laws.proofs.Lists.{slice_get-set, set_here, all_push, all_without, all_true, all_weaker, all_found, all_changed_found}
+use Rattle.span_machine_laws.proofs.Lists.{slice_get-set, set_here, all_without, all_true, all_found, all_changed_found}
 use Rattle.span_machine_laws.proofs.Pieces.{AllCovered, none_covered, all_covered_piece}
 use Rattle.span_machine_laws.proofs.Ranges.{HasRanges, home_only}
 use Rattle.span_machine_laws.proofs.Stability.{changes_at}
@@ -32,6 +31,9 @@ use Rattle.span_machine_laws.proofs.Locality.{IsRoot}
 use Rattle.span_value.specs.declared.refusal.Refusal.{Refusal}
 use Rattle.span_query.specs.declared.query.Statement.{Statement}
 use Rattle.std.specs.Prelude.{Result}
+use Rattle.std.proofs.lemmas.Option.{same_Some}
+use Rattle.std.proofs.lemmas.Bool.{and_parts}
+use Rattle.span_value.proofs.Lists.{all_push, all_weaker}
 
 -- ---- the invariant
 
@@ -50,11 +52,8 @@ pub record IsSound (schema : List Table) (m : Machine) : Type 0 where
 abbrev pub GoesSound : List Table → Machine → Machine → Type 0
 GoesSound schema m n = ((q : OpenQuery) → IsCoveredSealed schema m q → IsCoveredSealed schema n q) → AllByRecursion (IsCoveredSealed schema n) n.queries
 
-above_by : (p slot s ts : ℕ) → (not (p == slot) || nat_lt s ts) ≡ true → p ≡ slot → s < ts
+pub above_by : (p slot s ts : ℕ) → (not (p == slot) || nat_lt s ts) ≡ true → p ≡ slot → s < ts
 above_by p slot s ts e same = grind (arith, nat_tests)
-
-some_same : (a b : SlotState) → Some a ≡ Some b → a ≡ b
-some_same a b e = cc
 
 module _ (schema : List Table) (m : Machine) (sound : IsSound schema m) where
   -- the same queries
@@ -64,11 +63,11 @@ module _ (schema : List Table) (m : Machine) (sound : IsSound schema m) where
   -- where s is safe at a slot, the floor has reached it, and what is prepared there is above it
   pub above_of_safe : (slot s : ℕ) (slot_state : SlotState) → is_safe m slot slot_state s ≡ true → (s ≤ slot_state.floor) × AllByRecursion (IsAbove s slot) m.transactions
   above_of_safe slot s slot_state safe =
-      let low : nat_le s slot_state.floor ≡ true = first_true (nat_le s slot_state.floor) _ safe in (
+      let low : nat_le s slot_state.floor ≡ true = (and_parts (nat_le s slot_state.floor) _ safe).0 in (
         grind (arith, nat_tests),
         all_true (IsAbove s slot) (λ t. list_all (λ p. not (p.slot == slot) || nat_lt s p.timestamp) t.prepared)
             (λ t e. all_true (λ p. p.slot ≡ slot → s < p.timestamp) (λ p. not (p.slot == slot) || nat_lt s p.timestamp) (λ p e same. above_by p.slot slot s p.timestamp e same) t.prepared e)
-            m.transactions (second_true (nat_le s slot_state.floor) _ safe),
+            m.transactions ((and_parts (nat_le s slot_state.floor) _ safe).1),
       )
 
   -- the directories of a slot that is safe are sealed
@@ -99,7 +98,7 @@ module _ (schema : List Table) (m : Machine) (sound : IsSound schema m) where
       let above = above_of_safe slot s slot_state safe in
       record {
         floors = λ i b h k. let is : Some slot_state ≡ Some b = sym here ∙ subst (λ j. slice_get m.slots j ≡ Some b) (only i b h k) h in
-            subst (λ (c : SlotState). s ≤ c.floor) (some_same slot_state b is) above.0;
+            subst (λ (c : SlotState). s ≤ c.floor) (same_Some slot_state b is) above.0;
         prepared = λ i b h k. subst (λ j. AllByRecursion (IsAbove s j) m.transactions) (sym (only i b h k)) above.1;
       }
 

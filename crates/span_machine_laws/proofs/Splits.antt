@@ -2,7 +2,7 @@
 use Rattle.std.proofs.Common.{◌≡◌, ◌≢◌, ℕ, zero, suc, Bool, true, false, not, List, [], ◌∷◌, ◌++◌, length, Option, Some, None, refl, ap, subst, inl, inr, ◌⊎◌}
 use Rattle.std.specs.Prelude.{slice_get, slice_set}
 use Rattle.std.specs.Ordering.{is_lt}
-use Rattle.std.proofs.lemmas.Bool.{not-true, not_from_false}
+use Rattle.std.proofs.lemmas.Bool.{not-true, not_from_false, and_from, and_parts}
 use Rattle.std.proofs.lemmas.Option.{get_or_from_slice_get}
 use Rattle.std.proofs.lemmas.List.Quantifiers.{position-Some}
 use Rattle.span_value.specs.Results.{first_cause}
@@ -12,7 +12,6 @@ use Rattle.span_keycode.proofs.Befores.{IsBefore, IsUpto, upto_upto, lt_lt}
 use Rattle.span_machine.specs.declared.slot.SlotState.{SlotState}
 use Rattle.span_machine.specs.Machine.{slot_of}
 use Rattle.span_machine.specs.Slots.{is_from, is_upto, is_between, has_key}
-use Rattle.span_machine_laws.proofs.Tests.{first_true, second_true, both_of}
 
 -- ---- the keys of the two parts
 
@@ -35,30 +34,30 @@ from_above (Some l) code key low high = not_from_false (is_lt (byte_order key l)
 pub below_parts : (code : List ℕ) (slot_state : SlotState) (key : List ℕ) → has_key slot_state code ≡ true → has_key (part_below code slot_state) key ≡ true → (has_key slot_state key ≡ true) × IsBefore key code
 unfolding is_between
 below_parts code slot_state key inside e =
-    let low : is_from slot_state.lo key ≡ true = first_true (is_from slot_state.lo key) (is_lt (byte_order key code)) e in
-    let before : IsBefore key code = second_true (is_from slot_state.lo key) (is_lt (byte_order key code)) e in
-    let high : is_upto slot_state.hi code ≡ true = second_true (is_from slot_state.lo code) (is_upto slot_state.hi code) inside in
-    (both_of (is_from slot_state.lo key) (is_upto slot_state.hi key) low (upto_before slot_state.hi code key high before), before)
+    let low : is_from slot_state.lo key ≡ true = (and_parts (is_from slot_state.lo key) (is_lt (byte_order key code)) e).0 in
+    let before : IsBefore key code = (and_parts (is_from slot_state.lo key) (is_lt (byte_order key code)) e).1 in
+    let high : is_upto slot_state.hi code ≡ true = (and_parts (is_from slot_state.lo code) (is_upto slot_state.hi code) inside).1 in
+    (and_from (is_from slot_state.lo key) (is_upto slot_state.hi key) low (upto_before slot_state.hi code key high before), before)
 
 -- a key of the part from the cut on is one of the slot, and not before the cut
 pub from_parts : (code : List ℕ) (slot_state : SlotState) (key : List ℕ) → has_key slot_state code ≡ true → has_key (part_from code slot_state) key ≡ true → (has_key slot_state key ≡ true) × IsUpto code key
 unfolding is_between
 from_parts code slot_state key inside e =
-    let after : IsUpto code key = not-true (is_lt (byte_order key code)) (first_true (not (is_lt (byte_order key code))) (is_upto slot_state.hi key) e) in
-    let high : is_upto slot_state.hi key ≡ true = second_true (not (is_lt (byte_order key code))) (is_upto slot_state.hi key) e in
-    let low : is_from slot_state.lo code ≡ true = first_true (is_from slot_state.lo code) (is_upto slot_state.hi code) inside in
-    (both_of (is_from slot_state.lo key) (is_upto slot_state.hi key) (from_above slot_state.lo code key low after) high, after)
+    let after : IsUpto code key = not-true (is_lt (byte_order key code)) ((and_parts (not (is_lt (byte_order key code))) (is_upto slot_state.hi key) e).0) in
+    let high : is_upto slot_state.hi key ≡ true = (and_parts (not (is_lt (byte_order key code))) (is_upto slot_state.hi key) e).1 in
+    let low : is_from slot_state.lo code ≡ true = (and_parts (is_from slot_state.lo code) (is_upto slot_state.hi code) inside).0 in
+    (and_from (is_from slot_state.lo key) (is_upto slot_state.hi key) (from_above slot_state.lo code key low after) high, after)
 
 -- and the other way
 pub below_has : (code : List ℕ) (slot_state : SlotState) (key : List ℕ) → has_key slot_state key ≡ true → IsBefore key code → has_key (part_below code slot_state) key ≡ true
 unfolding is_between
 below_has code slot_state key has before =
-    both_of (is_from slot_state.lo key) (is_lt (byte_order key code)) (first_true (is_from slot_state.lo key) (is_upto slot_state.hi key) has) before
+    and_from (is_from slot_state.lo key) (is_lt (byte_order key code)) ((and_parts (is_from slot_state.lo key) (is_upto slot_state.hi key) has).0) before
 
 pub from_has : (code : List ℕ) (slot_state : SlotState) (key : List ℕ) → has_key slot_state key ≡ true → IsUpto code key → has_key (part_from code slot_state) key ≡ true
 unfolding is_between
 from_has code slot_state key has after =
-    both_of (not (is_lt (byte_order key code))) (is_upto slot_state.hi key) (not_from_false (is_lt (byte_order key code)) after) (second_true (is_from slot_state.lo key) (is_upto slot_state.hi key) has)
+    and_from (not (is_lt (byte_order key code))) (is_upto slot_state.hi key) (not_from_false (is_lt (byte_order key code)) after) ((and_parts (is_from slot_state.lo key) (is_upto slot_state.hi key) has).1)
 
 -- the slot that a key is found in has it
 pub found_has : (slots : List SlotState) (key : List ℕ) (slot : ℕ) (slot_state : SlotState) → slot_of slots key ≡ Some slot → slice_get slots slot ≡ Some slot_state → has_key slot_state key ≡ true

@@ -5,6 +5,7 @@ use Rattle.std.specs.List.{AllByRecursion}
 use Rattle.std.specs.Ordering.{is_lt}
 use Rattle.std.specs.declared.cmp.Ordering.{Ordering}
 use Rattle.std.specs.declared.cmp.Ordering.TheVariants.{Less}
+use Rattle.std.proofs.lemmas.Bool.{eqb-true}
 use Rattle.span_schema.specs.declared.table.Table.{Table}
 use Rattle.span_schema.specs.Lineages.{MeetsRules}
 use Rattle.span_schema.specs.Numbers.{key_columns, root_of}
@@ -16,7 +17,6 @@ use Rattle.span_mutate.specs.Database.{rows_of}
 use Rattle.span_mutate.specs.Directories.{IsRising, IsDatabase, by_key}
 use Rattle.span_mutate.specs.Rows.{key_order}
 use Rattle.span_mutate.specs.Typed.{IsTyped, AreTyped}
-use Rattle.span_mutate.proofs.Begins.{same_number}
 use Rattle.span_mutate.proofs.TableLists.{rows_in_order}
 use Rattle.span_shard.specs.Rows.{code_of}
 use Rattle.span_machine.specs.Meaning.{row_within}
@@ -43,7 +43,7 @@ of_table schema n [] all = tt
 of_table schema n (r ∷ rows) all = by_test (r.table == n) refl (of_table schema n rows all.1)
   where
     by_test : (b : Bool) → (r.table == n) ≡ b → AllByRecursion (IsOfTable schema n) (rows_of n rows) → AllByRecursion (IsOfTable schema n) (cond b (r ∷ rows_of n rows) (rows_of n rows))
-    by_test true e rest = ((all.0, same_number r.table n e), rest)
+    by_test true e rest = ((all.0, eqb-true r.table n e), rest)
     by_test false e rest = rest
 
 module _ (schema : List Table) (rules : MeetsRules schema) where
@@ -69,7 +69,7 @@ all_in_family schema n (r ∷ db) = by_test (r.table == n) refl (all_in_family s
     by_test false e again = again
     by_test true e again =
         let first = root_first schema r.table r.key in
-        let code : code_of schema r ≡ root_of schema n ∷ first.0 = first.1 ∙ ap (λ (k : ℕ). root_of schema k ∷ first.0) (same_number r.table n e) in
+        let code : code_of schema r ≡ root_of schema n ∷ first.0 = first.1 ∙ ap (λ (k : ℕ). root_of schema k ∷ first.0) (eqb-true r.table n e) in
         let within : row_within schema (family (root_of schema n)) r ≡ true = ap (is_within (family (root_of schema n))) code ∙ first_within (root_of schema n) first.0 in
         ap (λ (b : Bool). cond b (r ∷ filter (row_within schema (family (root_of schema n))) (rows_of n db)) (filter (row_within schema (family (root_of schema n))) (rows_of n db))) within ∙ ap (λ (l : List TableRow). r ∷ l) again
 

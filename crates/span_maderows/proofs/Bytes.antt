@@ -1,30 +1,23 @@
 -- Keys with the same bytes, and bytes that begin with others, in byte order.
-use Rattle.std.proofs.Common.{◌≡◌, ◌≢◌, ℕ, Bool, true, false, ◌&&◌, List, [], ◌∷◌, ◌++◌, length, take, drop, refl, sym, ap, ◌∙◌, arith}
+use Rattle.std.proofs.Common.{◌≡◌, ◌≢◌, ℕ, Bool, true, false, ◌&&◌, List, [], ◌∷◌, ◌++◌, length, take, drop, refl, sym, ap, ◌∙◌}
 use Rattle.std.specs.Prelude.{nat_eq}
 use Rattle.std.specs.declared.cmp.Ordering.{Ordering}
 use Rattle.std.specs.declared.cmp.Ordering.TheVariants.{Less, Equal, Greater}
-use Rattle.std.specs.Ordering.{nat_cmp, ordering_then, is_lt, is_eq}
-use Rattle.std.specs.Cmp.{IsTotalOrder, tied_itself}
-use Rattle.std.specs.Cmp.Lexicographic.{pointwise, same_text, texts_ties}
-use Rattle.std.proofs.lemmas.Bool.Decides.{nat_tests}
+use Rattle.std.specs.Ordering.{nat_cmp, ordering_then, is_lt}
+use Rattle.std.specs.Cmp.{IsTotalOrder}
+use Rattle.std.specs.Cmp.Lexicographic.{pointwise}
 use Rattle.std.proofs.lemmas.Cmp.{nat_list_cmp_total}
-use Rattle.std.proofs.lemmas.List.{append-nil, take-append-drop}
+use Rattle.std.proofs.lemmas.List.{take-append-drop}
 use Rattle.std.proofs.lemmas.Slice.Eq.{bytes_eq-Decides}
 use Rattle.std.proofs.Math.Seq.{take-append_seam}
+use Rattle.std.proofs.lemmas.Bool.{eq-eqb}
 use Rattle.span_keycode.specs.Order.{byte_order, is_same}
-use Rattle.span_keycode.proofs.Comparing.{front_same}
 use Rattle.span_maderows.specs.Made.{begins_with}
 use Rattle.span_value.proofs.Comparisons.{same_number}
+use Rattle.span_keycode.proofs.Order.{front_not_after, same_bytes, bytes_same}
 
 pub bytes_total : IsTotalOrder byte_order
 bytes_total = nat_list_cmp_total
-
--- keys that compare as equal are the same
-pub same_bytes : (a b : List ℕ) → is_same a b ≡ true → a ≡ b
-same_bytes a b e = same_text a b (sym (texts_ties a b ∙ e))
-
-pub bytes_same : (a b : List ℕ) → a ≡ b → is_same a b ≡ true
-bytes_same a b e = ap (is_same a) (sym e) ∙ ap is_eq (tied_itself bytes_total a)
 
 pub turned : (k l : List ℕ) → is_same k l ≡ is_same l k
 turned k l = cases (is_same k l) (is_same l k) refl refl
@@ -43,23 +36,12 @@ begins_front b p e =
 pub front_begins : (p rest : List ℕ) → begins_with (p ++ rest) p ≡ true
 front_begins p rest = (bytes_eq-Decides p (take (length p) (p ++ rest))).1 (sym (take-append_seam p rest))
 
--- bytes are not before their front
-front_not_after : (p rest : List ℕ) → is_lt (byte_order (p ++ rest) p) ≡ false
-front_not_after p rest = ap (λ (l : List ℕ). is_lt (byte_order (p ++ rest) l)) (sym (append-nil p)) ∙ ap is_lt (front_same p rest []) ∙ from_nothing rest
-  where
-    from_nothing : (r : List ℕ) → is_lt (byte_order r []) ≡ false
-    from_nothing [] = refl
-    from_nothing (b ∷ r) = refl
-
 pub before_begins_not : (b p : List ℕ) → is_lt (byte_order b p) ≡ true → begins_with b p ≡ false
 before_begins_not b p less = cases (begins_with b p) refl
   where
     cases : (c : Bool) → begins_with b p ≡ c → c ≡ false
     cases false e = refl
     cases true e = absurd (let f : true ≡ false = sym less ∙ ap (λ (l : List ℕ). is_lt (byte_order l p)) (sym (begins_front b p e)) ∙ front_not_after p (drop (length p) b) in cc)
-
-nat_eq_same : (n : ℕ) → nat_eq n n ≡ true
-nat_eq_same n = grind (arith, nat_tests)
 
 -- what is between bytes and others that begin with them begins with them too
 pub between : (p a rest : List ℕ) → is_lt (byte_order a p) ≡ false → byte_order a (p ++ rest) ≢ Greater → begins_with a p ≡ true
@@ -71,5 +53,5 @@ between (x ∷ p) (y ∷ a) rest h g = cases (nat_cmp y x) refl h g (between p a
         → (is_lt (byte_order a p) ≡ false → byte_order a (p ++ rest) ≢ Greater → begins_with a p ≡ true) → begins_with (y ∷ a) (x ∷ p) ≡ true
     cases Less e f k again = absurd (let i : true ≡ false = f in cc)
     cases Equal e f k again =
-        ap (λ (n : ℕ). nat_eq x n && pointwise nat_eq p (take (length p) a)) (same_number y x e) ∙ ap (λ (c : Bool). c && pointwise nat_eq p (take (length p) a)) (nat_eq_same x) ∙ again f k
+        ap (λ (n : ℕ). nat_eq x n && pointwise nat_eq p (take (length p) a)) (same_number y x e) ∙ ap (λ (c : Bool). c && pointwise nat_eq p (take (length p) a)) (eq-eqb x x refl) ∙ again f k
     cases Greater e f k again = absurd (k refl)

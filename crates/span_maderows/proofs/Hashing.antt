@@ -12,10 +12,11 @@ use Rattle.std.proofs.lemmas.List.Sorted.{Contains-permutation, IsPermutation-sy
 use Rattle.std.proofs.lemmas.Map.Keys.{IsDistinct-IsPermutation}
 use Rattle.std.proofs.lemmas.Map.Views.{Contains-from_lookup, lookup-from_Contains}
 use Rattle.indexmap.specs.IndexMap as hash
+use Rattle.span_value.proofs.Lists.{all_weaker}
 use Rattle.span_keycode.specs.Order.{byte_order, is_same}
+use Rattle.span_keycode.proofs.Order.{same_bytes, bytes_same}
 use Rattle.span_maderows.specs.Made.{made_at, AreInKeyOrder, HaveDistinctKeys, HasSameRows, IsAfterAll, IsBeforeAll, IsSetAt, in_key_order}
-use Rattle.span_maderows.proofs.Bytes.{bytes_total, same_bytes, bytes_same, turned}
-use Rattle.span_maderows.proofs.Lists.{all_map}
+use Rattle.span_maderows.proofs.Bytes.{bytes_total, turned}
 use Rattle.span_maderows.proofs.Pushing.{Made}
 use Rattle.span_maderows.proofs.MadeRows.{order_apart, not_same, back_all, front_all, both_all, not_in_first, not_in_second}
 
@@ -111,7 +112,7 @@ pub hashed_next : (whole made next left rest : Made) (key row : List ℕ) → Ar
 hashed_next whole made next left rest key row order parts is put =
     let ordered : AreInKeyOrder (made ++ (key, row) ∷ rest) = subst AreInKeyOrder (sym parts ∙ ap (λ (l : Made). made ++ l) is) order in
     let after : IsAfterAll key made =
-    all_map (λ (k : List ℕ). IsBeforeAll k ((key, row) ∷ rest)) (λ (k : List ℕ). byte_order k key ≡ Less) (λ k h. h.0) (keys_of made) (order_apart made ((key, row) ∷ rest) ordered) in
+    all_weaker (λ (k : List ℕ). IsBeforeAll k ((key, row) ∷ rest)) (λ (k : List ℕ). byte_order k key ≡ Less) (λ k h. h.0) (keys_of made) (order_apart made ((key, row) ∷ rest) ordered) in
     ap (λ (l : Made). l ++ rest) (put ∙ hashed_end made key row after) ∙ append_assoc made ((key, row) ∷ []) rest ∙ ap (λ (l : Made). made ++ l) (sym is) ∙ parts
 
 -- ---- the same rows in another order

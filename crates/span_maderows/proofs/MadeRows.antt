@@ -1,5 +1,5 @@
 -- Rows in the order of their keys, as two lists one after the other: what is at a key, and what stays in order.
-use Rattle.std.proofs.Common.{◌≡◌, ℕ, zero, suc, ◌<◌, ◌≤◌, ◌+◌, ◌-◌, Bool, true, false, not, ◌||◌, cond, List, [], ◌∷◌, ◌++◌, Option, Some, None, is_none, is_some, take, drop, length, get_or, slice_get, refl, sym, ap, subst, ◌∙◌, append_assoc, arith, MatchBool}
+use Rattle.std.proofs.Common.{◌≡◌, ℕ, zero, suc, ◌<◌, ◌≤◌, ◌-◌, Bool, true, false, not, ◌||◌, cond, List, [], ◌∷◌, ◌++◌, Option, Some, None, is_none, is_some, take, drop, length, get_or, slice_get, refl, sym, ap, subst, ◌∙◌, append_assoc, arith, MatchBool}
 use Rattle.std.specs.List.{filter, list_any, AllByRecursion}
 use Rattle.std.specs.List.Sorted.{IsStrictlySortedBy, IsPartitionedBy}
 use Rattle.std.specs.Ordering.{is_eq, is_lt, ordering_reverse, match_ordering}
@@ -8,25 +8,23 @@ use Rattle.std.specs.declared.cmp.Ordering.TheVariants.{Less, Equal, Greater}
 use Rattle.std.specs.BTreeMap.{insert_entry, is_at}
 use Rattle.std.specs.Map.{keys_of, remove_entry}
 use Rattle.std.proofs.lemmas.Cmp.{eq_by_cmp_equiv}
-use Rattle.std.proofs.lemmas.List.{drop_more, length-drop, take-append-drop}
+use Rattle.std.proofs.lemmas.List.{length-drop, take-append-drop, take_all}
 use Rattle.std.proofs.lemmas.List.Elements.{filter-append, recursion_from_All, All-from_recursion}
 use Rattle.std.proofs.lemmas.List.Folds.{list_any-append}
 use Rattle.std.proofs.lemmas.Map.Entries.{lookup_at_gap, lookup_from_place}
 use Rattle.std.proofs.lemmas.Map.Keys.{IsDistinct-from_sorted}
 use Rattle.std.proofs.lemmas.Map.Views.{All-keys-insert_entry, All-map-remove_entry}
 use Rattle.std.proofs.lemmas.Option.{slice_get_within, get_or_from_slice_get}
+use Rattle.span_value.proofs.Lists.{all_append, all_weaker, filter_all, filter_none}
+use Rattle.span_value.proofs.Comparisons.{is_less}
 use Rattle.span_keycode.specs.Order.{byte_order, is_same}
+use Rattle.span_keycode.proofs.Order.{same_bytes}
 use Rattle.span_maderows.specs.Made.{begins_with, made_at, AddsMade, AreInKeyOrder, IsAfterAll, IsBeforeAll, IsFromFirst, IsCountBefore, IsSetAt}
-use Rattle.span_maderows.proofs.Bytes.{bytes_total, same_bytes, turned}
-use Rattle.span_maderows.proofs.Lists.{all_map, all_append, all_front, all_rest, filter_all, filter_none}
+use Rattle.span_maderows.proofs.Bytes.{bytes_total, turned}
+use Rattle.span_maderows.proofs.Lists.{all_front, all_rest}
 use Rattle.span_maderows.proofs.Pushing.{Made, is_from, from_is}
 
 -- ---- keys before one, and after one
-
-lt_less : (o : Ordering) → is_lt o ≡ true → o ≡ Less
-lt_less Less e = refl
-lt_less Equal e = absurd (let f : false ≡ true = e in cc)
-lt_less Greater e = absurd (let f : false ≡ true = e in cc)
 
 pub not_same : (k l : List ℕ) → byte_order k l ≡ Less → is_same k l ≡ false
 not_same k l e = ap is_eq e
@@ -134,7 +132,7 @@ in_second ps qs k row apart e = not_in_first ps qs k (apart_none ps qs k row apa
 from_first_none : (key : List ℕ) (ps qs : Made) → AreApart ps qs → IsFromFirst key qs → made_at ps key ≡ None
 from_first_none key ps [] apart from = absurd from
 from_first_none key ps (q ∷ qs) apart from =
-    after_none key ps (all_map (λ (k : List ℕ). IsBeforeAll k (q ∷ qs)) (λ (k : List ℕ). byte_order k key ≡ Less) (λ k h. before_up_to k q.0 key h.0 from) (keys_of ps) apart)
+    after_none key ps (all_weaker (λ (k : List ℕ). IsBeforeAll k (q ∷ qs)) (λ (k : List ℕ). byte_order k key ≡ Less) (λ k h. before_up_to k q.0 key h.0 from) (keys_of ps) apart)
 
 -- a key beside the first one
 pub first_cases : (key : List ℕ) (made : Made) (e : List ℕ × List ℕ) → AreInKeyOrder made → slice_get made 0 ≡ Some e → (b : Bool) → b ≡ is_lt (byte_order key e.0) → MatchBool b (IsBeforeAll key made) (IsFromFirst key made)
@@ -150,8 +148,8 @@ first_cases key (x ∷ xs) e order at b is = cases b is
 
     cases : (b : Bool) → b ≡ is_lt (byte_order key e.0) → MatchBool b (IsBeforeAll key (x ∷ xs)) (IsFromFirst key (x ∷ xs))
     cases true f =
-        let less : byte_order key x.0 ≡ Less = lt_less (byte_order key x.0) (sym (f ∙ first)) in
-        (less, all_map (λ (k : List ℕ). byte_order x.0 k ≡ Less) (λ (k : List ℕ). byte_order key k ≡ Less) (λ k h. bytes_total.trans key x.0 k less h) (keys_of xs) order.0)
+        let less : byte_order key x.0 ≡ Less = is_less (byte_order key x.0) (sym (f ∙ first)) in
+        (less, all_weaker (λ (k : List ℕ). byte_order x.0 k ≡ Less) (λ (k : List ℕ). byte_order key k ≡ Less) (λ k h. bytes_total.trans key x.0 k less h) (keys_of xs) order.0)
     cases false f = sym (f ∙ first)
 
 -- ---- a look-up
@@ -182,18 +180,18 @@ pub after_both : (key : List ℕ) (ps qs : Made) (e : List ℕ × List ℕ) (i :
 after_both key ps [] e i order at after = absurd (let f : None ≡ Some e = at in cc)
 after_both key ps (q ∷ qs) e i order at after =
     both_all (λ (k : List ℕ). byte_order k key ≡ Less) ps (q ∷ qs)
-    (all_map (λ (k : List ℕ). IsBeforeAll k (q ∷ qs)) (λ (k : List ℕ). byte_order k key ≡ Less) (λ k h. bytes_total.trans k q.0 key h.0 after.0) (keys_of ps) (order_apart ps (q ∷ qs) order))
+    (all_weaker (λ (k : List ℕ). IsBeforeAll k (q ∷ qs)) (λ (k : List ℕ). byte_order k key ≡ Less) (λ k h. bytes_total.trans k q.0 key h.0 after.0) (keys_of ps) (order_apart ps (q ∷ qs) order))
     after
 
 less_of : (k l : List ℕ) → is_lt (byte_order k l) ≡ true → byte_order k l ≡ Less
-less_of k l e = lt_less (byte_order k l) e
+less_of k l e = is_less (byte_order k l) e
 
 pub after_end : (key : List ℕ) (ps qs : Made) (e : List ℕ × List ℕ) → AreInKeyOrder (ps ++ qs) → slice_get qs (length qs - 1) ≡ Some e → is_lt (byte_order e.0 key) ≡ true → IsAfterAll key (ps ++ qs)
 after_end key ps qs e order at less = after_both key ps qs e (length qs - 1) order at (after_last key qs e (order_back ps qs order) at (less_of e.0 key less))
 
 -- ... which no key of a list is after
 pub after_greatest : (key last : List ℕ) (made : Made) → is_lt (byte_order last key) ≡ true → AllByRecursion (λ (k : List ℕ). is_lt (byte_order last k) ≡ false) (keys_of made) → IsAfterAll key made
-after_greatest key last made less greatest = all_map (λ (k : List ℕ). is_lt (byte_order last k) ≡ false) (λ (k : List ℕ). byte_order k key ≡ Less) (λ k h. cases k h (byte_order last k) refl) (keys_of made) greatest
+after_greatest key last made less greatest = all_weaker (λ (k : List ℕ). is_lt (byte_order last k) ≡ false) (λ (k : List ℕ). byte_order k key ≡ Less) (λ k h. cases k h (byte_order last k) refl) (keys_of made) greatest
   where
     cases : (k : List ℕ) → is_lt (byte_order last k) ≡ false → (o : Ordering) → byte_order last k ≡ o → byte_order k key ≡ Less
     cases k h Less e = absurd (let f : true ≡ false = sym (ap is_lt e) ∙ h in cc)
@@ -203,7 +201,7 @@ after_greatest key last made less greatest = all_map (λ (k : List ℕ). is_lt (
 -- its row is put at the end
 end_order : (made : Made) (key row : List ℕ) → IsAfterAll key made → AreInKeyOrder made → AreInKeyOrder (made ++ (key, row) ∷ [])
 end_order made key row after order =
-    order_join made ((key, row) ∷ []) order (order_one (key, row)) (all_map (λ (k : List ℕ). byte_order k key ≡ Less) (λ (k : List ℕ). IsBeforeAll k ((key, row) ∷ [])) (λ k e. (e, tt)) (keys_of made) after)
+    order_join made ((key, row) ∷ []) order (order_one (key, row)) (all_weaker (λ (k : List ℕ). byte_order k key ≡ Less) (λ (k : List ℕ). IsBeforeAll k ((key, row) ∷ [])) (λ k e. (e, tt)) (keys_of made) after)
 
 end_set : (made : Made) (key row : List ℕ) → IsAfterAll key made → IsSetAt key (Some row) made (made ++ (key, row) ∷ [])
 end_set made key row after k = appended made ((key, row) ∷ []) k ∙ cases (is_same key k) refl
@@ -288,7 +286,7 @@ pub moved_next : (whole map next left rest : Made) (key row : List ℕ) → AreI
 moved_next whole map next left rest key row order parts is put =
     let ordered : AreInKeyOrder (map ++ (key, row) ∷ rest) = subst AreInKeyOrder (sym parts ∙ ap (λ (l : Made). map ++ l) is) order in
     let after : IsAfterAll key map =
-    all_map (λ (k : List ℕ). IsBeforeAll k ((key, row) ∷ rest)) (λ (k : List ℕ). byte_order k key ≡ Less) (λ k h. h.0) (keys_of map) (order_apart map ((key, row) ∷ rest) ordered) in
+    all_weaker (λ (k : List ℕ). IsBeforeAll k ((key, row) ∷ rest)) (λ (k : List ℕ). byte_order k key ≡ Less) (λ k h. h.0) (keys_of map) (order_apart map ((key, row) ∷ rest) ordered) in
     ap (λ (l : Made). l ++ rest) (put ∙ insert_end map key row after) ∙ append_assoc map ((key, row) ∷ []) rest ∙ ap (λ (l : Made). map ++ l) (sym is) ∙ parts
 
 -- ---- the second list is taken out
@@ -327,26 +325,17 @@ rest_is key made n le count =
   where
     none : AllByRecursion (λ (e : List ℕ × List ℕ). is_from key e ≡ false) (take n made)
     none =
-        all_map (λ (e : List ℕ × List ℕ). is_lt (byte_order e.0 key) ≡ true) (λ (e : List ℕ × List ℕ). is_from key e ≡ false) (λ e f. from_is key e ∙ ap not f) (take n made)
+        all_weaker (λ (e : List ℕ × List ℕ). is_lt (byte_order e.0 key) ≡ true) (λ (e : List ℕ × List ℕ). is_from key e ≡ false) (λ e f. from_is key e ∙ ap not f) (take n made)
         (all_front (λ (e : List ℕ × List ℕ). is_lt (byte_order e.0 key) ≡ true) made n le count.0)
 
     all : AllByRecursion (λ (e : List ℕ × List ℕ). is_from key e ≡ true) (drop n made)
     all =
-        all_map (λ (e : List ℕ × List ℕ). is_lt (byte_order e.0 key) ≡ false) (λ (e : List ℕ × List ℕ). is_from key e ≡ true) (λ e f. from_is key e ∙ ap not f) (drop n made)
+        all_weaker (λ (e : List ℕ × List ℕ). is_lt (byte_order e.0 key) ≡ false) (λ (e : List ℕ × List ℕ). is_from key e ≡ true) (λ e f. from_is key e ∙ ap not f) (drop n made)
         (all_rest (λ (e : List ℕ × List ℕ). is_lt (byte_order e.0 key) ≡ false) made n count.1)
-
-take_all : {X : Type 0} (xs : List X) (n : ℕ) → length xs ≤ n → take n xs ≡ xs
-take_all [] zero le = refl
-take_all [] (suc n) le = refl
-take_all (x ∷ xs) zero le = absurd (let l : suc (length xs) ≤ 0 = le in omega arith)
-take_all {X} (x ∷ xs) (suc n) le = ap (λ (l : List X). x ∷ l) (take_all xs n (omega arith))
 
 -- the same, as a slice gives it
 pub slice_is : (key : List ℕ) (made : Made) (n : ℕ) → n ≤ length made → IsCountBefore key made n → take (length made - n) (drop n made) ≡ filter (is_from key) made
-slice_is key made n le count = take_all (drop n made) (length made - n) (omega (arith, length-drop n made)) ∙ rest_is key made n le count
-
-pub next_is : {X : Type 0} (xs : List X) (i : ℕ) (x : X) → i < length xs → x ≡ get_or xs i x → drop i xs ≡ x ∷ drop (i + 1) xs
-next_is {X} xs i x less e = drop_more xs i x less ∙ ap (λ (y : X). y ∷ drop (i + 1) xs) (sym e)
+slice_is key made n le count = take_all (length made - n) (drop n made) (omega (arith, length-drop n made)) ∙ rest_is key made n le count
 
 -- a row at the key is found
 pub place_some : (key : List ℕ) (made : Made) (n : ℕ) (k row : List ℕ) → AreInKeyOrder made → slice_get made n ≡ Some (k, row) → is_same key k ≡ true → made_at made key ≡ Some row
@@ -386,8 +375,8 @@ added_both ps qs front old middle new order g h = record {
   added = g.added ++ h.added;
   whole = h.whole ∙ ap (λ (l : List (List ℕ)). l ++ h.added) g.whole ∙ append_assoc old g.added h.added;
   are = record {
-    sound = all_append (Is (ps ++ qs)) g.added h.added (all_map (Is ps) (Is (ps ++ qs)) (λ k e. (e.0, (e.1.0, in_first ps qs k e.1.0 e.1.1))) g.added g.are.sound)
-        (all_map (Is qs) (Is (ps ++ qs)) (λ k e. (e.0, (e.1.0, in_second ps qs k e.1.0 (order_apart ps qs order) e.1.1))) h.added h.are.sound);
+    sound = all_append (Is (ps ++ qs)) g.added h.added (all_weaker (Is ps) (Is (ps ++ qs)) (λ k e. (e.0, (e.1.0, in_first ps qs k e.1.0 e.1.1))) g.added g.are.sound)
+        (all_weaker (Is qs) (Is (ps ++ qs)) (λ k e. (e.0, (e.1.0, in_second ps qs k e.1.0 (order_apart ps qs order) e.1.1))) h.added h.are.sound);
     complete = λ k row b e. list_any-append (is_same k) g.added h.added ∙ of_first k row b e (made_at ps k) refl;
   };
 }

@@ -14,10 +14,12 @@ use Rattle.std.proofs.lemmas.List.Folds.{list_any-append}
 use Rattle.std.proofs.lemmas.List.Kept.{IsStrictlySortedBy-filter}
 use Rattle.std.proofs.lemmas.Map.Entries.{lookup-filter-keys}
 use Rattle.std.proofs.lemmas.Map.Keys.{sorted_head, sorted_tail}
+use Rattle.span_value.proofs.Lists.{all_append, all_weaker, filter-map}
 use Rattle.span_keycode.specs.Order.{byte_order, is_same}
+use Rattle.span_keycode.proofs.Order.{same_bytes, bytes_same}
 use Rattle.span_maderows.specs.Made.{begins_with, made_at, AddsMade}
-use Rattle.span_maderows.proofs.Bytes.{bytes_total, same_bytes, bytes_same, begins_front, before_begins_not, between}
-use Rattle.span_maderows.proofs.Lists.{all_map, all_append, all_filter_itself, filter-map}
+use Rattle.span_maderows.proofs.Bytes.{bytes_total, begins_front, before_begins_not, between}
+use Rattle.span_maderows.proofs.Lists.{all_filter_itself}
 
 abbrev pub Made : Type 0
 Made = List (List ℕ × List ℕ)
@@ -77,7 +79,7 @@ pushing_first es front old rest sorted is = subst (λ (l : Made). IsPushing es f
   left = λ k row b e. inr (from_at front k es ∙ ap (λ (c : Bool). cond c (made_at es k) None) (begun_from front k b) ∙ e);
   own = λ k o e. from_own front k o es e;
   sorted = subst (IsStrictlySortedBy byte_order) (sym (keys_filter (is_from_key front) es)) (IsStrictlySortedBy-filter byte_order (is_from_key front) (keys_of es) sorted);
-  from = all_map (λ (e : List ℕ × List ℕ). is_from front e ≡ true) (λ (e : List ℕ × List ℕ). is_lt (byte_order e.0 front) ≡ false) (λ e f. not-true (is_lt (byte_order e.0 front)) (sym (from_is front e) ∙ f)) (filter (is_from front) es) (all_filter_itself (is_from front) es);
+  from = all_weaker (λ (e : List ℕ × List ℕ). is_from front e ≡ true) (λ (e : List ℕ × List ℕ). is_lt (byte_order e.0 front) ≡ false) (λ e f. not-true (is_lt (byte_order e.0 front)) (sym (from_is front e) ∙ f)) (filter (is_from front) es) (all_filter_itself (is_from front) es);
 })
 
 here_at : (key : List ℕ) (o : List ℕ) (rest : Made) → made_at ((key, o) ∷ rest) key ≡ Some o

@@ -8,10 +8,9 @@ use Rattle.span_mutate.specs.declared.row.TableRow.{TableRow}
 use Rattle.span_mutate.specs.Directories.{Root, is_in_directory, directory, IsKeyed, root_row, rows_cmp, OneDatabase}
 use Rattle.span_mutate.proofs.Filters.{filter_yes, filter_no}
 use Rattle.span_mutate.proofs.Orders.{rows_total}
-use Rattle.span_mutate.proofs.Placing.{all_filter}
 use Rattle.span_mutate.proofs.Families.{root_is_table}
 use Rattle.span_mutate.proofs.ByRoots.{root_keyed, in_own}
-use Rattle.span_value.proofs.Lists.{cons_inj}
+use Rattle.span_value.proofs.Lists.{cons_inj, all_filter}
 
 abbrev of_root : List Table → Root → TableRow → Bool
 of_root tables root q = is_in_directory tables root q.table q.key

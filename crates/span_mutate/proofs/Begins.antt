@@ -1,11 +1,11 @@
 -- What is at the front of a key.
 use Rattle.std.proofs.Common.{◌≡◌, ℕ, zero, suc, ◌≤◌, true, false, ◌==◌, List, [], ◌∷◌, length, take, refl, sym, ap, ◌∙◌, arith}
-use Rattle.std.proofs.lemmas.Bool.Decides.{nat_tests}
 use Rattle.std.specs.declared.cmp.Ordering.{Ordering}
 use Rattle.std.specs.declared.cmp.Ordering.TheVariants.{Less, Equal, Greater}
 use Rattle.std.specs.Ordering.{eq_by_cmp, is_eq}
 use Rattle.std.specs.Cmp.{tied_itself}
-use Rattle.std.proofs.lemmas.Bool.{and_parts, and_from}
+use Rattle.std.proofs.lemmas.Bool.{and_parts, and_from, eqb-true, eq-eqb}
+use Rattle.std.proofs.lemmas.List.{length-take-le}
 use Rattle.span_value.specs.declared.value.Value.{Value}
 use Rattle.span_value.specs.Orders.{value_order}
 use Rattle.span_value.proofs.Total.{value_order_total, value_order_equal}
@@ -22,12 +22,6 @@ same_value v w e = value_order_equal v w (equal_from (value_order v w) e)
 same_itself : (v w : Value) → v ≡ w → eq_by_cmp value_order v w ≡ true
 same_itself v w e = ap (λ (u : Value). eq_by_cmp value_order v u) (sym e) ∙ ap is_eq (tied_itself value_order_total v)
 
-pub same_number : (m n : ℕ) → (m == n) ≡ true → m ≡ n
-same_number m n e = grind (arith, nat_tests)
-
-pub number_itself : (m n : ℕ) → m ≡ n → (m == n) ≡ true
-number_itself m n e = grind (arith, nat_tests)
-
 whole : (vs ws : List Value) → length vs ≡ length ws → begins vs ws ≡ true → vs ≡ ws
 whole [] [] h e = refl
 whole [] (w ∷ ws) h e = absurd (omega arith)
@@ -40,7 +34,7 @@ whole (v ∷ vs) (w ∷ ws) h e =
 
 -- keys that are the same are equal
 pub same_key : (vs ws : List Value) → is_same_key vs ws ≡ true → vs ≡ ws
-same_key vs ws e = let parts = and_parts (length vs == length ws) (begins vs ws) e in whole vs ws (same_number (length vs) (length ws) parts.0) parts.1
+same_key vs ws e = let parts = and_parts (length vs == length ws) (begins vs ws) e in whole vs ws (eqb-true (length vs) (length ws) parts.0) parts.1
 
 -- a front of a front is a front
 pub front_on : (us vs ws : List Value) → begins us vs ≡ true → begins vs ws ≡ true → begins us ws ≡ true
@@ -81,3 +75,9 @@ pub front_within : (us ws : List Value) → begins us ws ≡ true → length us 
 front_within [] ws e = omega arith
 front_within (u ∷ us) [] e = absurd (let g : false ≡ true = e in cc)
 front_within (u ∷ us) (w ∷ ws) e = let again = front_within us ws (and_parts (eq_by_cmp value_order u w) (begins us ws) e).1 in omega arith
+
+-- what begins a key is its front of that length
+pub front_taken : (us vs : List Value) → begins us vs ≡ true → us ≡ take (length us) vs
+front_taken us vs e =
+    same_key us (take (length us) vs)
+    (and_from _ _ (eq-eqb (length us) (length (take (length us) vs)) (sym (length-take-le (length us) vs (front_within us vs e)))) (front_of_taken us vs (length us) e (omega arith)))

@@ -11,8 +11,8 @@ use Rattle.span_mutate.specs.declared.row.TableRow.{TableRow}
 use Rattle.span_value.specs.Results.{and_then}
 use Rattle.span_mutate.specs.Database.{apply_one, apply}
 use Rattle.span_mutate.specs.Directories.{is_in_directory, directory, mutations_in, key_len, IsKeyed, root_row, IsDatabase, RunsTo, FirstFault, IsPutTogether, RootByRoot}
-use Rattle.span_mutate.proofs.Begins.{number_itself, taken_begins}
-use Rattle.std.proofs.lemmas.Bool.{and_from}
+use Rattle.span_mutate.proofs.Begins.{taken_begins}
+use Rattle.std.proofs.lemmas.Bool.{and_from, eq-eqb}
 use Rattle.span_mutate.proofs.Families.{root_short}
 use Rattle.span_mutate.proofs.Filters.{filter_yes, filter_no}
 use Rattle.span_mutate.proofs.Local.{with_rows, step_same, step_apart, step_database}
@@ -39,7 +39,7 @@ pub root_keyed : (tables : List Table) → MeetsRules tables → (n : ℕ) (key 
 root_keyed tables rules n key keyed = length-take-le (key_len tables (root_of tables n)) key (omega (arith, root_short tables rules n keyed.0, keyed.1))
 
 pub in_own : (tables : List Table) (n : ℕ) (key : List Value) → is_in_directory tables (root_row tables n key) n key ≡ true
-in_own tables n key = and_from _ _ (number_itself (root_of tables n) (root_of tables n) refl) (taken_begins key (key_len tables (root_of tables n)))
+in_own tables n key = and_from _ _ (eq-eqb (root_of tables n) (root_of tables n) refl) (taken_begins key (key_len tables (root_of tables n)))
 
 faults_here : (tables : List Table) → MeetsRules tables → (db : List TableRow) (m : CheckedMutation) (ms : List CheckedMutation) (why : Refusal) → IsKeyed tables m.table m.key → apply_one tables db m ≡ Err why
     → FirstFault tables db (m ∷ ms) why

@@ -1,24 +1,13 @@
 -- Filters of lists.
 use Rattle.std.proofs.Common.{◌≡◌, ℕ, Bool, true, false, ◌==◌, ◌||◌, cond, List, [], ◌∷◌, Option, Some, refl, sym, ap, ◌∙◌}
 use Rattle.std.specs.List.{filter, find, list_any}
-use Rattle.span_mutate.proofs.Begins.{same_number}
+use Rattle.std.proofs.lemmas.Bool.{eqb-true}
 
 pub filter_yes : {X : Type 0} (p : X → Bool) (x : X) (xs : List X) → p x ≡ true → filter p (x ∷ xs) ≡ x ∷ filter p xs
 filter_yes p x xs h = ap (λ (b : Bool). cond b (x ∷ filter p xs) (filter p xs)) h
 
 pub filter_no : {X : Type 0} (p : X → Bool) (x : X) (xs : List X) → p x ≡ false → filter p (x ∷ xs) ≡ filter p xs
 filter_no p x xs h = ap (λ (b : Bool). cond b (x ∷ filter p xs) (filter p xs)) h
-
--- two filters in either order
-pub filters_turned : {X : Type 0} (p q : X → Bool) (xs : List X) → filter p (filter q xs) ≡ filter q (filter p xs)
-filters_turned p q [] = refl
-filters_turned {X} p q (x ∷ xs) = cases (p x) (q x) (filters_turned p q xs) refl refl
-  where
-    cases : (a b : Bool) → filter p (filter q xs) ≡ filter q (filter p xs) → p x ≡ a → q x ≡ b → filter p (filter q (x ∷ xs)) ≡ filter q (filter p (x ∷ xs))
-    cases true true again e f = ap (filter p) (filter_yes q x xs f) ∙ filter_yes p x (filter q xs) e ∙ ap (λ (l : List X). x ∷ l) again ∙ sym (ap (filter q) (filter_yes p x xs e) ∙ filter_yes q x (filter p xs) f)
-    cases true false again e f = ap (filter p) (filter_no q x xs f) ∙ again ∙ sym (ap (filter q) (filter_yes p x xs e) ∙ filter_no q x (filter p xs) f)
-    cases false true again e f = ap (filter p) (filter_yes q x xs f) ∙ filter_no p x (filter q xs) e ∙ again ∙ sym (ap (filter q) (filter_no p x xs e))
-    cases false false again e f = ap (filter p) (filter_no q x xs f) ∙ again ∙ sym (ap (filter q) (filter_no p x xs e))
 
 -- a filter that keeps all that the next one keeps
 pub filter_within : {X : Type 0} (p q : X → Bool) → ((x : X) → p x ≡ true → q x ≡ true) → (xs : List X) → filter p (filter q xs) ≡ filter p xs
@@ -47,7 +36,7 @@ found_passes p n [] h = absurd (let g : false ≡ true = h in cc)
 found_passes p n (k ∷ ns) h = cases (p k) (k == n) (found_passes p n ns) refl refl
   where
     cases : (a b : Bool) → (list_any (λ (k : ℕ). k == n) (filter p ns) ≡ true → p n ≡ true) → p k ≡ a → (k == n) ≡ b → p n ≡ true
-    cases true true again e f = ap p (sym (same_number k n f)) ∙ e
+    cases true true again e f = ap p (sym (eqb-true k n f)) ∙ e
     cases true false again e f = again
         (sym (ap (λ (b : Bool). b || list_any (λ (k : ℕ). k == n) (filter p ns)) f) ∙ sym (ap (list_any (λ (k : ℕ). k == n)) (filter_yes p k ns e)) ∙ h)
     cases false b again e f = again (sym (ap (list_any (λ (k : ℕ). k == n)) (filter_no p k ns e)) ∙ h)

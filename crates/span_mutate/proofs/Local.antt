@@ -20,12 +20,13 @@ use Rattle.span_mutate.specs.Database.{unless}
 use Rattle.span_mutate.specs.Rows.{begins, is_same_key, is_at, row_at, with_row}
 use Rattle.span_mutate.specs.Database.{is_at_or_below, cascades, blocks_delete, tables_under, tables_blocking_delete, all_tables, is_in, is_under, is_delete_blocked, lacks_parent, is_insert, is_update, cells_after, causes, row_after, without_rows, changed, apply_to, apply_one}
 use Rattle.span_mutate.specs.Directories.{Root, is_in_directory, directory, key_len, IsKeyed, rows_cmp, IsInOrder, IsDatabase}
-use Rattle.span_mutate.proofs.Begins.{same_key, same_number, number_itself, front_on, front_of_front, front_of_taken}
-use Rattle.std.proofs.lemmas.Bool.{and_from, and_parts}
+use Rattle.span_mutate.proofs.Begins.{same_key, front_on, front_of_front, front_of_taken}
+use Rattle.std.proofs.lemmas.Bool.{and_from, and_parts, eqb-true, eq-eqb}
+use Rattle.span_value.proofs.Lists.{all_filter, filter_swap}
 use Rattle.span_mutate.proofs.Families.{parent_family, below_root, root_short}
-use Rattle.span_mutate.proofs.Filters.{filters_turned, filter_within, find_kept, found_passes}
+use Rattle.span_mutate.proofs.Filters.{filter_within, find_kept, found_passes}
 use Rattle.span_mutate.proofs.Orders.{rows_equal, rows_total}
-use Rattle.span_mutate.proofs.Placing.{put_kept, put_lost, put_in_order, put_all, rising_filter, all_filter}
+use Rattle.span_mutate.proofs.Placing.{put_kept, put_lost, put_in_order, put_all, rising_filter}
 
 abbrev AreKeyedRows : List Table → List TableRow → Type 0
 AreKeyedRows tables db = AllByRecursion (λ (r : TableRow). IsKeyed tables r.table r.key) db
@@ -39,7 +40,7 @@ moved tables root n m vs ws h same front =
 at_is_of : (tables : List Table) (root : Root) (n : ℕ) (key : List Value) → is_in_directory tables root n key ≡ true → (q : TableRow) → is_at n key q ≡ true → is_in_directory tables root q.table q.key ≡ true
 at_is_of tables root n key h q at =
     let parts = and_parts (q.table == n) (is_same_key key q.key) at in
-    let table : n ≡ q.table = sym (same_number q.table n parts.0) in
+    let table : n ≡ q.table = sym (eqb-true q.table n parts.0) in
     ap (λ (m : ℕ). is_in_directory tables root m q.key) (sym table) ∙ ap (is_in_directory tables root n) (sym (same_key key q.key parts.1)) ∙ h
 
 pub row_same : (tables : List Table) (root : Root) (n : ℕ) (key : List Value) → is_in_directory tables root n key ≡ true → (db : List TableRow) → row_at n key (directory tables root db) ≡ row_at n key db
@@ -51,7 +52,7 @@ parent_same tables rules root len n key is h None e db = refl
 parent_same tables rules root len n key is h (Some q) e db =
     let above = parent_family tables n q is e in
     let parts = and_parts (root_of tables n == root.table) (begins root.key key) h in
-    let named : root_of tables q ≡ root.table = above.1 ∙ same_number (root_of tables n) root.table parts.0 in
+    let named : root_of tables q ≡ root.table = above.1 ∙ eqb-true (root_of tables n) root.table parts.0 in
     let short : length root.key ≤ key_len tables q = omega (arith, len, ap (key_len tables) named, root_short tables rules q above.0) in
     ap (λ (r : Option TableRow). is_none r)
     (row_same tables root q (take (key_len tables q) key)
@@ -98,7 +99,7 @@ changed_same tables root m h db before = pick (is_delete m.kind)
   where
     removed : (o : Option TableRow) → without_rows tables m.table m.key o (directory tables root db) ≡ directory tables root (without_rows tables m.table m.key o db)
     removed None = refl
-    removed (Some r) = filters_turned (λ (q : TableRow). not (is_under tables m.table m.key q)) (λ (q : TableRow). is_in_directory tables root q.table q.key) db
+    removed (Some r) = filter_swap (λ (q : TableRow). not (is_under tables m.table m.key q)) (λ (q : TableRow). is_in_directory tables root q.table q.key) db
 
     pick : (b : Bool) → cond b (without_rows tables m.table m.key before (directory tables root db)) (with_row (key_columns tables m.table) (row_after m before) (directory tables root db))
         ≡ directory tables root (cond b (without_rows tables m.table m.key before db) (with_row (key_columns tables m.table) (row_after m before) db))
@@ -116,9 +117,9 @@ changed_apart tables rules root len m keyed h db sorted before = pick (is_delete
         let parts = and_parts (list_any (λ (k : ℕ). k == q.table) (tables_under tables m.table)) (begins m.key q.key) e in
         let family : root_of tables q.table ≡ root_of tables m.table = below_root tables m.table q.table (found_passes (is_at_or_below tables m.table) q.table (all_tables tables) parts.0) in
         let mine = and_parts (root_of tables q.table == root.table) (begins root.key q.key) t in
-        let named : root_of tables m.table ≡ root.table = sym family ∙ same_number (root_of tables q.table) root.table mine.0 in
+        let named : root_of tables m.table ≡ root.table = sym family ∙ eqb-true (root_of tables q.table) root.table mine.0 in
         let short : length root.key ≤ length m.key = omega (arith, len, ap (key_len tables) named, root_short tables rules m.table keyed.0, keyed.1) in
-        let inside : is_in_directory tables root m.table m.key ≡ true = and_from _ _ (number_itself (root_of tables m.table) root.table named) (front_of_front root.key m.key q.key mine.1 parts.1 short) in
+        let inside : is_in_directory tables root m.table m.key ≡ true = and_from _ _ (eq-eqb (root_of tables m.table) root.table named) (front_of_front root.key m.key q.key mine.1 parts.1 short) in
         absurd (let g : false ≡ true = sym h ∙ inside in cc)
 
     removed : (o : Option TableRow) → directory tables root (without_rows tables m.table m.key o db) ≡ directory tables root db

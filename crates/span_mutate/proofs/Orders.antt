@@ -17,6 +17,7 @@ use Rattle.span_mutate.specs.declared.row.TableRow.{TableRow}
 use Rattle.span_mutate.specs.Rows.{is_descending, order_from, key_order}
 use Rattle.span_mutate.specs.Directories.{rows_cmp}
 use Rattle.span_value.proofs.Comparisons.{same_number}
+use Rattle.span_keycode.proofs.Order.{then_is_equal}
 
 -- one column
 abbrev column_order : Bool → Value → Value → Ordering
@@ -43,11 +44,6 @@ then_less Less b e = inl refl
 then_less Equal b e = inr (refl, e)
 then_less Greater b e = absurd cc
 
-then_equal : (a b : Ordering) → ordering_then a b ≡ Equal → (a ≡ Equal) × (b ≡ Equal)
-then_equal Less b e = absurd cc
-then_equal Equal b e = (refl, e)
-then_equal Greater b e = absurd cc
-
 first_less : (a b : Ordering) → a ≡ Less → ordering_then a b ≡ Less
 first_less a b e = ap (λ (o : Ordering). ordering_then o b) e
 
@@ -60,7 +56,7 @@ from_equal columns i [] [] e = refl
 from_equal columns i [] (w ∷ ws) e = absurd cc
 from_equal columns i (v ∷ vs) [] e = absurd cc
 from_equal columns i (v ∷ vs) (w ∷ ws) e =
-    let parts = then_equal (column_order (is_descending (slice_get columns i)) v w) (order_from columns (i + 1) vs ws) e in
+    let parts = then_is_equal (column_order (is_descending (slice_get columns i)) v w) (order_from columns (i + 1) vs ws) e in
     let first : v ≡ w = column_equal (is_descending (slice_get columns i)) v w parts.0 in
     let rest : vs ≡ ws = from_equal columns (i + 1) vs ws parts.1 in
     cc
@@ -97,7 +93,7 @@ from_less columns i (u ∷ us) (v ∷ vs) (w ∷ ws) e f =
 -- rows that are equal in the order have one table and one key
 pub rows_equal : (tables : List Table) (q r : TableRow) → rows_cmp tables q r ≡ Equal → (q.table ≡ r.table) × (q.key ≡ r.key)
 rows_equal tables q r e =
-    let parts = then_equal (nat_cmp q.table r.table) (key_order (key_columns tables r.table) q.key r.key) e in
+    let parts = then_is_equal (nat_cmp q.table r.table) (key_order (key_columns tables r.table) q.key r.key) e in
     (same_number q.table r.table parts.0, from_equal (key_columns tables r.table) 0 q.key r.key parts.1)
 
 both_turned : (o p a b : Ordering) → p ≡ ordering_reverse o → (o ≡ Equal → a ≡ ordering_reverse b) → ordering_then p a ≡ ordering_reverse (ordering_then o b)

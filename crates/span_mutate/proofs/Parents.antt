@@ -1,5 +1,5 @@
 -- Each row keeps its parent row.
-use Rattle.std.proofs.Common.{◌≡◌, ℕ, zero, suc, ◌+◌, ◌-◌, ◌<◌, ◌≤◌, Bool, true, false, ◌==◌, ◌||◌, ◌&&◌, not, cond, List, [], ◌∷◌, Option, Some, None, is_some, is_none, Result, Ok, Err, length, take, refl, sym, ap, subst, ◌∙◌, arith}
+use Rattle.std.proofs.Common.{◌≡◌, ℕ, zero, suc, ◌+◌, ◌-◌, ◌<◌, ◌≤◌, Bool, true, false, ◌==◌, ◌||◌, ◌&&◌, not, cond, List, [], ◌∷◌, Option, Some, None, is_some, is_none, Result, Ok, Err, length, take, refl, sym, ap, subst, ◌∙◌, arith, add-sub_cancel}
 use Rattle.std.specs.Prelude.{nat_lt}
 use Rattle.span_rowcode.specs.Rows.{row_code}
 use Rattle.span_rowcode.specs.Limits.{longest_row}
@@ -16,7 +16,6 @@ use Rattle.span_schema.specs.declared.table.Table.{Table}
 use Rattle.span_schema.specs.Lineages.{parent_at, path_at}
 use Rattle.span_value.specs.Results.{first_cause}
 use Rattle.span_schema.specs.Numbers.{IsTable, parent_of, key_columns}
-use Rattle.span_keycode.proofs.Levels.{back}
 use Rattle.span_keycode.proofs.LevelLaws.{path_child}
 use Rattle.span_mutate.specs.declared.mutation.CheckedMutation.{CheckedMutation}
 use Rattle.span_mutate.specs.declared.row.TableRow.{TableRow}
@@ -24,14 +23,16 @@ use Rattle.span_mutate.specs.Kinds.{is_delete}
 use Rattle.span_mutate.specs.Rows.{begins, is_same_key, is_at, row_at, with_row}
 use Rattle.span_mutate.specs.Database.{is_at_or_below, all_tables, tables_under, is_under, is_delete_blocked, lacks_parent, is_insert, is_update, cells_after, causes, row_after, without_rows, changed, apply_one, apply}
 use Rattle.span_mutate.specs.Directories.{key_len, IsKeyed, rows_cmp, IsDatabase, HasParents, ParentsStay}
-use Rattle.span_mutate.proofs.Begins.{same_key, same_number, front_on, taken_begins}
-use Rattle.std.proofs.lemmas.Bool.{and_from, not-true, and_parts}
+use Rattle.span_mutate.proofs.Begins.{same_key, front_on, taken_begins}
+use Rattle.std.proofs.lemmas.Bool.{and_from, not-true, and_parts, eqb-true}
+use Rattle.std.proofs.Math.Bool.{or-true}
+use Rattle.span_value.proofs.Lists.{all_weaker}
 use Rattle.span_mutate.proofs.Families.{number_here}
 use Rattle.span_mutate.proofs.Filters.{filter_yes, filter_no, find_kept, found_passes}
 use Rattle.span_mutate.proofs.Orders.{rows_equal}
 use Rattle.span_mutate.proofs.Placing.{put, put_all}
 use Rattle.span_mutate.proofs.Local.{step_database}
-use Rattle.span_mutate.proofs.Runs.{run_on, run_faults, all_map}
+use Rattle.span_mutate.proofs.Runs.{run_on, run_faults}
 use Rattle.span_mutate.proofs.Causes.{unless_none}
 
 -- a number of a range is found in it
@@ -53,7 +54,7 @@ passes_found p n (k ∷ ns) h g = cases (k == n) (p k) refl refl (λ f. passes_f
   where
     cases : (a b : Bool) → (k == n) ≡ a → p k ≡ b → (list_any (λ (k : ℕ). k == n) ns ≡ true → list_any (λ (k : ℕ). k == n) (filter p ns) ≡ true) → list_any (λ (k : ℕ). k == n) (filter p (k ∷ ns)) ≡ true
     cases true b e f again =
-        ap (list_any (λ (k : ℕ). k == n)) (filter_yes p k ns (ap p (same_number k n e) ∙ h)) ∙ ap (λ (x : Bool). x || list_any (λ (k : ℕ). k == n) (filter p ns)) e
+        ap (list_any (λ (k : ℕ). k == n)) (filter_yes p k ns (ap p (eqb-true k n e) ∙ h)) ∙ ap (λ (x : Bool). x || list_any (λ (k : ℕ). k == n) (filter p ns)) e
     cases false true e f again =
         ap (list_any (λ (k : ℕ). k == n)) (filter_yes p k ns f) ∙ ap (λ (x : Bool). x || list_any (λ (k : ℕ). k == n) (filter p ns)) e
         ∙ again (sym (ap (λ (x : Bool). x || list_any (λ (k : ℕ). k == n) ns) e) ∙ g)
@@ -66,7 +67,7 @@ below_child tables n m q e h =
     let found = number_here (parent_at tables (m - 1)) q e in
     let p = found.0 in
     let above : list_any (λ (k : ℕ). k == n) (path_at tables p) ≡ true =
-    ap (λ (i : ℕ). list_any (λ (k : ℕ). k == n) (path_at tables i)) (sym (ap (λ (k : ℕ). k - 1) found.2 ∙ back p)) ∙ h in
+    ap (λ (i : ℕ). list_any (λ (k : ℕ). k == n) (path_at tables i)) (sym (ap (λ (k : ℕ). k - 1) found.2 ∙ add-sub_cancel p 1)) ∙ h in
     ap (list_any (λ (k : ℕ). k == n)) (path_child tables (m - 1) p found.1)
     ∙ list_any-append (λ (k : ℕ). k == n) (path_at tables p) ((m - 1 + 1) ∷ [])
     ∙ ap (λ (b : Bool). b || list_any (λ (k : ℕ). k == n) ((m - 1 + 1) ∷ [])) above
@@ -77,7 +78,7 @@ under_child : (tables : List Table) (n : ℕ) (key : List Value) (r x : TableRow
 under_child tables n key r x q is e at under =
     let here = and_parts (x.table == q) (is_same_key (take (key_len tables q) r.key) x.key) at in
     let parts = and_parts (list_any (λ (k : ℕ). k == x.table) (tables_under tables n)) (begins key x.key) under in
-    let table : x.table ≡ q = same_number x.table q here.0 in
+    let table : x.table ≡ q = eqb-true x.table q here.0 in
     let above : is_at_or_below tables n q ≡ true = ap (is_at_or_below tables n) (sym table) ∙ found_passes (is_at_or_below tables n) x.table (all_tables tables) parts.0 in
     let front : begins key (take (key_len tables q) r.key) ≡ true = ap (begins key) (same_key (take (key_len tables q) r.key) x.key here.1) ∙ parts.1 in
     and_from _ _
@@ -113,10 +114,6 @@ some_found {X} p (x ∷ xs) = cases (some_found p xs) (p x) refl
     cases again true e = ap (λ (b : Bool). is_none (cond b (Some x) (find p xs))) e ∙ sym (ap (λ (b : Bool). not (b || list_any p xs)) e)
     cases again false e = ap (λ (b : Bool). is_none (cond b (Some x) (find p xs))) e ∙ again ∙ sym (ap (λ (b : Bool). not (b || list_any p xs)) e)
 
-or_true : (b : Bool) → (b || true) ≡ true
-or_true true = refl
-or_true false = refl
-
 -- found before an item, at it or after it
 abbrev there : {X : Type 0} → (X → X → Ordering) → (X → Bool) → X → List X → Bool
 there R p r l = list_any p (filter (λ x. is_lt (R x r)) l) || (p r || list_any p (filter (λ x. is_gt (R x r)) l))
@@ -150,11 +147,11 @@ found_put {X} R p r same (x ∷ xs) g = cases (R x r) (p x) refl refl (λ f. fou
         before e ∙ ap (λ (b : Bool). (b || list_any p (filter (λ x. is_lt (R x r)) xs)) || (p r || list_any p (filter (λ x. is_gt (R x r)) xs))) f ∙ again (rest f)
     cases Equal true e f again =
         at e ∙ ap (λ (b : Bool). list_any p (filter (λ x. is_lt (R x r)) xs) || (b || list_any p (filter (λ x. is_gt (R x r)) xs))) (same x e f)
-        ∙ or_true (list_any p (filter (λ x. is_lt (R x r)) xs))
+        ∙ or-true (list_any p (filter (λ x. is_lt (R x r)) xs))
     cases Equal false e f again = at e ∙ again (rest f)
     cases Greater true e f again =
         later e ∙ ap (λ (b : Bool). list_any p (filter (λ x. is_lt (R x r)) xs) || (p r || (b || list_any p (filter (λ x. is_gt (R x r)) xs)))) f
-        ∙ ap (λ (b : Bool). list_any p (filter (λ x. is_lt (R x r)) xs) || b) (or_true (p r)) ∙ or_true (list_any p (filter (λ x. is_lt (R x r)) xs))
+        ∙ ap (λ (b : Bool). list_any p (filter (λ x. is_lt (R x r)) xs) || b) (or-true (p r)) ∙ or-true (list_any p (filter (λ x. is_lt (R x r)) xs))
     cases Greater false e f again =
         later e ∙ ap (λ (b : Bool). list_any p (filter (λ x. is_lt (R x r)) xs) || (p r || (b || list_any p (filter (λ x. is_gt (R x r)) xs)))) f ∙ again (rest f)
 
@@ -206,7 +203,7 @@ changed_parents tables m db is has before own = pick (is_delete m.kind) refl
     pick false e =
         let r = row_after m before in
         put_all (Has tables (put (rows_cmp tables) r db)) (rows_cmp tables) r db (parent_placed tables (parent_of tables m.table) m.key r db (own e))
-        (all_map (Has tables db) (Has tables (put (rows_cmp tables) r db)) (λ x h. parent_placed tables (parent_of tables x.table) x.key r db h) db has)
+        (all_weaker (Has tables db) (Has tables (put (rows_cmp tables) r db)) (λ x h. parent_placed tables (parent_of tables x.table) x.key r db h) db has)
 
 step_parents : (tables : List Table) (m : CheckedMutation) (db next : List TableRow) → IsDatabase tables db → HasParents tables db → apply_one tables db m ≡ Ok next → HasParents tables next
 step_parents tables m db next is has e =

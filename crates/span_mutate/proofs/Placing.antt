@@ -7,16 +7,9 @@ use Rattle.std.specs.Ordering.{ordering_reverse, is_lt, is_gt}
 use Rattle.std.specs.Cmp.{IsTotalOrder}
 use Rattle.std.proofs.lemmas.List.Elements.{filter-append}
 use Rattle.span_mutate.specs.Directories.{IsRising}
-use Rattle.span_mutate.proofs.Filters.{filter_yes, filter_no, filters_turned}
+use Rattle.span_mutate.proofs.Filters.{filter_yes, filter_no}
 use Rattle.span_value.proofs.Comparisons.{is_less, is_greater}
-
-pub all_filter : {X : Type 0} (P : X → Type 0) (p : X → Bool) (xs : List X) → AllByRecursion P xs → AllByRecursion P (filter p xs)
-all_filter P p [] h = tt
-all_filter {X} P p (x ∷ xs) h = cases (all_filter P p xs h.1) (p x) refl
-  where
-    cases : AllByRecursion P (filter p xs) → (b : Bool) → p x ≡ b → AllByRecursion P (filter p (x ∷ xs))
-    cases again true e = subst (AllByRecursion P) (sym (filter_yes p x xs e)) (h.0, again)
-    cases again false e = subst (AllByRecursion P) (sym (filter_no p x xs e)) again
+use Rattle.span_value.proofs.Lists.{all_filter, filter_swap}
 
 -- what is kept of items in order is in order
 pub rising_filter : {X : Type 0} (R : X → X → Ordering) (p : X → Bool) (xs : List X) → IsRising R xs → IsRising R (filter p xs)
@@ -36,8 +29,8 @@ pub put_kept : {X : Type 0} (R : X → X → Ordering) (p : X → Bool) (r : X) 
 put_kept {X} R p r xs h =
     filter-append p (filter (λ x. is_lt (R x r)) xs) (r ∷ filter (λ x. is_gt (R x r)) xs)
     ∙ ap (λ (l : List X). filter p (filter (λ x. is_lt (R x r)) xs) ++ l) (filter_yes p r (filter (λ x. is_gt (R x r)) xs) h)
-    ∙ ap (λ (l : List X). l ++ r ∷ filter p (filter (λ x. is_gt (R x r)) xs)) (filters_turned p (λ x. is_lt (R x r)) xs)
-    ∙ ap (λ (l : List X). filter (λ x. is_lt (R x r)) (filter p xs) ++ r ∷ l) (filters_turned p (λ x. is_gt (R x r)) xs)
+    ∙ ap (λ (l : List X). l ++ r ∷ filter p (filter (λ x. is_gt (R x r)) xs)) (filter_swap p (λ x. is_lt (R x r)) xs)
+    ∙ ap (λ (l : List X). filter (λ x. is_lt (R x r)) (filter p xs) ++ r ∷ l) (filter_swap p (λ x. is_gt (R x r)) xs)
 
 abbrev AllGreater : {X : Type 0} → (X → X → Ordering) → X → List X → Type 0
 AllGreater R r xs = AllByRecursion (λ x. R x r ≡ Greater) xs

@@ -1,6 +1,6 @@
 -- Steps along lists: tables that pass a test, and mutations one after another.
-use Rattle.std.proofs.Common.{◌≡◌, ℕ, suc, ◌+◌, ◌-◌, ◌<◌, Bool, true, false, cond, List, [], ◌∷◌, ◌++◌, length, drop, get_or, Result, Ok, Err, sym, ap, ◌∙◌, append_assoc, add-one, drop-cons, arith}
-use Rattle.std.specs.List.{AllByRecursion, filter, range_with_len}
+use Rattle.std.proofs.Common.{◌≡◌, ℕ, suc, ◌+◌, ◌-◌, ◌<◌, Bool, true, false, cond, List, [], ◌∷◌, ◌++◌, Result, Ok, Err, sym, ap, ◌∙◌, append_assoc, arith}
+use Rattle.std.specs.List.{filter, range_with_len}
 use Rattle.span_value.specs.declared.refusal.Refusal.{Refusal}
 use Rattle.span_schema.specs.declared.table.Table.{Table}
 use Rattle.span_mutate.specs.declared.mutation.CheckedMutation.{CheckedMutation}
@@ -25,16 +25,6 @@ pub number_passed : (p : ℕ → Bool) (n i : ℕ) (found : List ℕ) → i < n 
 number_passed p n i found h t =
     ap (λ (b : Bool). found ++ cond b ((i + 1) ∷ filter p (range_with_len (i + 1 + 1) (n - (i + 1)))) (filter p (range_with_len (i + 1 + 1) (n - (i + 1))))) (sym t)
     ∙ ap (λ (ns : List ℕ). found ++ filter p ns) (sym (range_next n i h))
-
--- the item at a place, and the rest after it
-pub item_first : {X : Type 0} (xs : List X) (i : ℕ) (x : X) → i < length xs → x ≡ get_or xs i x → drop i xs ≡ x ∷ drop (i + 1) xs
-item_first {X} xs i x h e =
-    drop-cons xs i x h ∙ ap (λ (y : X). y ∷ drop (suc i) xs) (sym e) ∙ ap (λ (k : ℕ). x ∷ drop k xs) (sym (add-one i))
-
--- what all items have, where it follows from what they all have
-pub all_map : {X : Type 0} (P Q : X → Type 0) → ((x : X) → P x → Q x) → (xs : List X) → AllByRecursion P xs → AllByRecursion Q xs
-all_map P Q f [] h = tt
-all_map P Q f (x ∷ xs) h = (f x h.0, all_map P Q f xs h.1)
 
 -- a mutation has run
 pub run_on : (tables : List Table) (db : List TableRow) (m : CheckedMutation) (ms : List CheckedMutation) (next : List TableRow) → apply_one tables db m ≡ Ok next → apply tables db (m ∷ ms) ≡ apply tables next ms

@@ -6,13 +6,13 @@ use Rattle.std.specs.declared.cmp.Ordering.TheVariants.{Less}
 use Rattle.std.specs.Ordering.{nat_cmp, ordering_then}
 use Rattle.std.specs.Cmp.{tied_itself}
 use Rattle.std.proofs.lemmas.Cmp.{nat_cmp_total}
+use Rattle.std.proofs.lemmas.Bool.{eqb-true}
 use Rattle.span_schema.specs.declared.table.Table.{Table}
 use Rattle.span_schema.specs.Numbers.{key_columns}
 use Rattle.span_mutate.specs.declared.row.TableRow.{TableRow}
 use Rattle.span_mutate.specs.Rows.{key_order}
 use Rattle.span_mutate.specs.Database.{rows_of}
 use Rattle.span_mutate.specs.Directories.{rows_cmp, IsRising, by_key, RowsInOrder}
-use Rattle.span_mutate.proofs.Begins.{same_number}
 use Rattle.span_mutate.proofs.Filters.{filter_yes, filter_no}
 use Rattle.span_mutate.proofs.Placing.{rising_filter}
 
@@ -24,7 +24,7 @@ all_of n [] = tt
 all_of n (r ∷ db) = cases (all_of n db) (r.table == n) refl
   where
     cases : AreOf n (rows_of n db) → (b : Bool) → (r.table == n) ≡ b → AreOf n (rows_of n (r ∷ db))
-    cases again true e = subst (AreOf n) (sym (filter_yes (λ (r : TableRow). r.table == n) r db e)) (same_number r.table n e, again)
+    cases again true e = subst (AreOf n) (sym (filter_yes (λ (r : TableRow). r.table == n) r db e)) (eqb-true r.table n e, again)
     cases again false e = subst (AreOf n) (sym (filter_no (λ (r : TableRow). r.table == n) r db e)) again
 
 one_table : (tables : List Table) (n : ℕ) (q r : TableRow) → q.table ≡ n → r.table ≡ n → rows_cmp tables q r ≡ by_key tables n q r

@@ -15,9 +15,10 @@ use Rattle.span_mutate.specs.Rows.{begins, row_at, with_row}
 use Rattle.span_mutate.specs.Database.{is_at_or_below, tables_under, all_tables, is_under, causes, row_after, without_rows, changed, apply_one, apply}
 use Rattle.span_mutate.specs.Directories.{Root, is_in_directory, directory, IsKeyed, AreKeyed, root_row, rows_cmp, IsInOrder, IsDatabase}
 use Rattle.span_mutate.specs.Touched.{is_touched, IsSameOutcome, TouchedAlone}
-use Rattle.std.proofs.lemmas.Bool.{and_parts}
+use Rattle.std.proofs.lemmas.Bool.{and_parts, not_from_true}
+use Rattle.span_value.proofs.Lists.{filter_swap}
 use Rattle.span_mutate.proofs.Families.{below_root}
-use Rattle.span_mutate.proofs.Filters.{filters_turned, filter_within, found_passes}
+use Rattle.span_mutate.proofs.Filters.{filter_within, found_passes}
 use Rattle.span_mutate.proofs.Orders.{rows_equal, rows_total}
 use Rattle.span_mutate.proofs.Placing.{put_kept, put_lost}
 use Rattle.span_mutate.proofs.Local.{with_rows, step_same, step_database, row_same, under_is_of, unless_ok}
@@ -33,9 +34,6 @@ kept q db = filter (λ (r : TableRow). q r.table r.key) db
 abbrev others : (ℕ → List Value → Bool) → List TableRow → List TableRow
 others q db = filter (λ (r : TableRow). not (q r.table r.key)) db
 
-not_true : (b : Bool) → b ≡ true → not b ≡ false
-not_true b e = ap not e
-
 -- what a mutation makes of the rows that pass is what passes of what it makes of all rows
 changed_kept : (tables : List Table) (q : ℕ → List Value → Bool) (m : CheckedMutation) → q m.table m.key ≡ true → (db : List TableRow) (before : Option TableRow)
     → changed tables (kept q db) m before ≡ kept q (changed tables db m before)
@@ -43,7 +41,7 @@ changed_kept tables q m h db before = pick (is_delete m.kind)
   where
     removed : (o : Option TableRow) → without_rows tables m.table m.key o (kept q db) ≡ kept q (without_rows tables m.table m.key o db)
     removed None = refl
-    removed (Some r) = filters_turned (λ (p : TableRow). not (is_under tables m.table m.key p)) (λ (p : TableRow). q p.table p.key) db
+    removed (Some r) = filter_swap (λ (p : TableRow). not (is_under tables m.table m.key p)) (λ (p : TableRow). q p.table p.key) db
 
     pick : (b : Bool) → cond b (without_rows tables m.table m.key before (kept q db)) (with_row (key_columns tables m.table) (row_after m before) (kept q db))
         ≡ kept q (cond b (without_rows tables m.table m.key before db) (with_row (key_columns tables m.table) (row_after m before) db))
@@ -66,7 +64,7 @@ changed_others tables q m covers db sorted before = pick (is_delete m.kind)
 
     other : (p : TableRow) → not (q p.table p.key) ≡ true → (b : Bool) → is_under tables m.table m.key p ≡ b → not b ≡ true
     other p t false e = refl
-    other p t true e = absurd (let g : false ≡ true = sym (not_true (q p.table p.key) (inside p e)) ∙ t in cc)
+    other p t true e = absurd (let g : false ≡ true = sym (not_from_true (q p.table p.key) (inside p e)) ∙ t in cc)
 
     removed : (o : Option TableRow) → others q (without_rows tables m.table m.key o db) ≡ others q db
     removed None = refl
@@ -75,11 +73,11 @@ changed_others tables q m covers db sorted before = pick (is_delete m.kind)
     lost : (p : TableRow) → rows_cmp tables p (row_after m before) ≡ Equal → not (q p.table p.key) ≡ false
     lost p e =
         let same = rows_equal tables p (row_after m before) e in
-        not_true (q p.table p.key) (ap (λ (n : ℕ). q n p.key) same.0 ∙ ap (q m.table) same.1 ∙ own)
+        not_from_true (q p.table p.key) (ap (λ (n : ℕ). q n p.key) same.0 ∙ ap (q m.table) same.1 ∙ own)
 
     pick : (b : Bool) → others q (cond b (without_rows tables m.table m.key before db) (with_row (key_columns tables m.table) (row_after m before) db)) ≡ others q db
     pick true = removed before
-    pick false = put_lost (rows_cmp tables) (rows_total tables) (λ (p : TableRow). not (q p.table p.key)) (row_after m before) (not_true (q m.table m.key) own) lost db sorted
+    pick false = put_lost (rows_cmp tables) (rows_total tables) (λ (p : TableRow). not (q p.table p.key)) (row_after m before) (not_from_true (q m.table m.key) own) lost db sorted
 
 -- a directory lies within the rows that pass
 directory_kept : (tables : List Table) (q : ℕ → List Value → Bool) (m : CheckedMutation) → Covers tables q m → (db : List TableRow)

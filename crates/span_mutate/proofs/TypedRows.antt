@@ -21,10 +21,10 @@ use Rattle.span_mutate.specs.Rows.{is_same_key, is_at, row_at, with_row}
 use Rattle.span_mutate.specs.Database.{is_insert, is_update, is_delete_blocked, lacks_parent, is_under, merge_cells, cells_after, causes, row_after, without_rows, changed, apply_one, apply}
 use Rattle.span_mutate.specs.Directories.{rows_cmp}
 use Rattle.span_mutate.specs.Typed.{IsTyped, AreTyped, AreNamed, IsTypedMutation, TypedStay}
-use Rattle.span_mutate.proofs.Begins.{same_number}
-use Rattle.std.proofs.lemmas.Bool.{and_parts}
+use Rattle.std.proofs.lemmas.Bool.{and_parts, eqb-true}
+use Rattle.span_value.proofs.Lists.{all_filter}
 use Rattle.span_mutate.proofs.Causes.{first_none, unless_none, rest_none}
-use Rattle.span_mutate.proofs.Placing.{put_all, all_filter}
+use Rattle.span_mutate.proofs.Placing.{put_all}
 
 -- a cell that is named fits, or else the old one does
 over_fits : (k : Kind) (o : Option Value) (v : Value) → IfSome o (Fits k) → Fits k v → Fits k (unwrap_or o v)
@@ -53,7 +53,7 @@ found_typed tables n key [] h = tt
 found_typed tables n key (r ∷ db) h = cases (is_at n key r) refl (found_typed tables n key db h.1)
   where
     cases : (b : Bool) → is_at n key r ≡ b → IfSome (row_at n key db) (IsTypedOf tables n) → IfSome (cond b (Some r) (row_at n key db)) (IsTypedOf tables n)
-    cases true e again = (same_number r.table n (and_parts (r.table == n) (is_same_key key r.key) e).0, h.0)
+    cases true e again = (eqb-true r.table n (and_parts (r.table == n) (is_same_key key r.key) e).0, h.0)
     cases false e again = again
 
 after_cells : (tables : List Table) (m : CheckedMutation) → IsTypedMutation tables m → (before : Option TableRow) → IfSome before (IsTypedOf tables m.table) → AreCells (other_kinds tables m.table) (cells_after m before)

@@ -110,10 +110,6 @@ covered_apart leaves leaf part all = elim (slice_get leaves leaf) as (λ o. slic
 
 -- ---- what a call of `add_piece` leaves
 
-pub on_ok : {A E P Q : Type 0} (r : Result A E) → OnOk r P → (P → Q) → OnOk r Q
-on_ok (Ok x) p f = f p
-on_ok (Err e) p f = tt
-
 module _ {E : Type 0} (r : Result (Unit {0}) E) (leaves leaves' : List ScanLeaf) (pieces pieces' : List (List Piece)) (leaf : ℕ) (part : KeyRange) (piece : Piece) where
   -- after a piece was added, or was not
   pub counted_after : AreCounted leaves pieces

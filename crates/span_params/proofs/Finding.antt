@@ -3,6 +3,7 @@ use Rattle.std.proofs.Common.{◌≡◌, ◌∙◌, sym, refl, ap, ℕ, Bool, tr
 use Rattle.std.specs.Str.{bytes_eq, str_to_ascii_lowercase}
 use Rattle.std.proofs.lemmas.Slice.Eq.{bytes_eq-Decides}
 use Rattle.span_schema.specs.Tables.{is_same_name}
+use Rattle.span_schema.proofs.Names.{not_other_way}
 use Rattle.span_params.specs.declared.params.Parameter.{Parameter}
 use Rattle.span_params.specs.Parameters.{parameter_named, with_parameter}
 use Rattle.span_params.specs.Laws.{AddedIsFound, AreDistinct, StayDistinct}
@@ -16,21 +17,12 @@ low = str_to_ascii_lowercase
 alike : (a b : List ℕ) → is_same_name a b ≡ true → low a ≡ low b
 alike a b = (bytes_eq-Decides (low a) (low b)).0
 
-other_way : (a b : List ℕ) → is_same_name a b ≡ true → is_same_name b a ≡ true
-other_way a b is = (bytes_eq-Decides (low b) (low a)).1 (sym (alike a b is))
-
 -- a name is the same as another of which one is the same
 through : (a b c : List ℕ) → is_same_name a b ≡ true → is_same_name a c ≡ is_same_name b c
 through a b c is = ap (λ (xs : List ℕ). bytes_eq xs (low c)) (alike a b is)
 
 from_either : (c a b : List ℕ) → is_same_name a b ≡ true → is_same_name c a ≡ is_same_name c b
 from_either c a b is = ap (λ (xs : List ℕ). bytes_eq (low c) xs) (alike a b is)
-
-not_other_way : (a b : List ℕ) → is_same_name a b ≡ false → is_same_name b a ≡ false
-not_other_way a b isnt = go (is_same_name b a) refl where
-  go : (t : Bool) → is_same_name b a ≡ t → t ≡ false
-  go true is = cc (other_way b a is)
-  go false is = refl
 
 -- ---- the added parameter is found
 

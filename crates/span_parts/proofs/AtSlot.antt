@@ -1,13 +1,12 @@
 -- A scan that is cut in three, at one slot.
-use Rattle.std.proofs.Common.{◌≡◌, ℕ, Bool, true, false, not, nat_lt, List, [], ◌∷◌, Option, Some, None, Result, Ok, Err, refl, ap, sym, ◌∙◌, subst, inl, inr}
-use Rattle.std.specs.Prelude.{find, IfErr, IfSome, OnOk, slice_get}
+use Rattle.std.proofs.Common.{◌≡◌, ℕ, Bool, true, not, nat_lt, List, [], ◌∷◌, Option, Some, None, Result, Ok, Err, ap, sym, ◌∙◌, subst, inl, inr}
+use Rattle.std.specs.Prelude.{IfErr, IfSome, OnOk, slice_get}
 use Rattle.span_value.specs.declared.refusal.Refusal.{Refusal}
 use Rattle.span_value.specs.declared.refusal.Refusal.TheVariants as refusal
 use Rattle.span_value.specs.Results.{first_cause}
 use Rattle.span_truetime.specs.declared.interval.Interval.{Interval}
 use Rattle.span_schema.specs.declared.table.Table.{Table}
 use Rattle.span_keycode.specs.declared.range.KeyRange.{KeyRange}
-use Rattle.span_columns.specs.declared.leaf.Leaf.{Leaf}
 use Rattle.span_fragment.specs.declared.piece.Piece.{Piece}
 use Rattle.span_shard.specs.KeyVersions.{KeyVersions}
 use Rattle.span_machine.specs.declared.step.Step.TheVariants as step
@@ -15,15 +14,15 @@ use Rattle.span_machine.specs.declared.step.Reply.TheVariants as reply
 use Rattle.span_machine.specs.declared.slot.SlotState.{SlotState}
 use Rattle.span_machine.specs.declared.query.ScanLeaf.{ScanLeaf}
 use Rattle.span_machine.specs.declared.query.OpenQuery.{OpenQuery}
-use Rattle.span_machine.specs.Machine.{Machine, Answer, Answers, IsAnswer, if_some, is_safe, with_risen_floor, scan}
+use Rattle.span_machine.specs.Machine.{Machine, Answer, Answers, if_some, is_safe, with_risen_floor, scan}
 use Rattle.span_machine.specs.Pieces.{Journaled, machine_of}
 use Rattle.span_journal.specs.declared.journal.Gap.{Gap}
 use Rattle.span_journal.specs.Judged.{leaf_of, IsUnclaimed, MayScan, IsRegistered, IsUnregistered, IsUnchanged}
 use Rattle.span_journal.specs.Scans.{piece_refusal, register_refusal}
 use Rattle.span_openqueries.specs.Targets.{is_free}
-use Rattle.span_parts.specs.Whole.{Shards, IsWhole, GoesWith, StaysAt, IsRead}
-use Rattle.span_parts.proofs.Changes.{of_some, some_same}
-use Rattle.span_parts.proofs.Scanning.{scanned_leaf, scanned_answer, scanned_whole}
+use Rattle.span_parts.specs.Whole.{GoesWith, StaysAt, IsRead}
+use Rattle.span_parts.proofs.Changes.{of_some}
+use Rattle.span_parts.proofs.Scanning.{scanned_leaf, scanned_whole}
 use Rattle.span_parts.proofs.Wholes.{no_text, goes_same, goes_by, pieces_same}
 
 -- why nothing is claimed is the scan's answer, or out of memory
@@ -38,10 +37,6 @@ module _ (schema : List Table) (j k : Journaled) (query leaf slot : ℕ) (interv
   pub claimed_goes : (r : Result (Option Gap) Refusal) → IfErr r (λ why. IsUnclaimed (machine_of j) query leaf slot interval why (machine_of k)) → OnOk r (machine_of k ≡ machine_of j) → k.queries ≡ j.queries → GoesWith schema j k
   claimed_goes (Ok gap) is same queries = goes_same schema j k same queries
   claimed_goes (Err why) is same queries = unclaimed_goes why is queries
-
-pub if_err : {A : Type 0} {E : Type 0} (r : Result A E) (P Q : E → Type 0) → IfErr r P → ((why : E) → P why → Q why) → IfErr r Q
-if_err (Ok x) P Q p f = p
-if_err (Err why) P Q p f = f why p
 
 -- ---- a piece that is registered
 

@@ -1,7 +1,7 @@
 -- The shards of all slots, where one is changed.
-use Rattle.std.proofs.Common.{◌≡◌, ℕ, zero, suc, ◌<◌, List, [], ◌∷◌, Option, Some, None, Result, Ok, Err, length, get_or, refl, ap, sym, subst, arith}
-use Rattle.std.specs.Prelude.{slice_get, slice_set, IfSome, IfErr, OnOk}
-use Rattle.std.proofs.lemmas.Option.{slice_get_within}
+use Rattle.std.proofs.Common.{◌≡◌, ℕ, zero, suc, ◌<◌, List, [], ◌∷◌, Option, Some, None, length, refl, ap, sym, subst, arith}
+use Rattle.std.specs.Prelude.{slice_get, slice_set, IfSome}
+use Rattle.std.proofs.lemmas.Option.{slice_get_within, same_Some}
 use Rattle.span_schema.specs.declared.table.Table.{Table}
 use Rattle.span_machine.specs.declared.slot.SlotState.{SlotState}
 use Rattle.span_machine.specs.Machine.{Machine}
@@ -9,9 +9,6 @@ use Rattle.span_version_laws.specs.Kept.{AreAllKept}
 use Rattle.span_shard.specs.KeyVersions.{KeyVersions}
 use Rattle.span_machine.specs.Pieces.{Journaled, machine_of}
 use Rattle.span_parts.specs.Whole.{Shards, IsWhole}
-
-pub some_same : {A : Type 0} (x y : A) → Some x ≡ Some y → x ≡ y
-some_same x y e = cc
 
 -- what is set at a place in use is there
 pub set_there : {A : Type 0} (xs : List A) (i : ℕ) (old new : A) → slice_get xs i ≡ Some old → slice_get (slice_set xs i new) i ≡ Some new
@@ -27,7 +24,7 @@ set_twice (a ∷ xs) (suc i) x y = ap (λ l. a ∷ l) (set_twice xs i x y)
 
 pub set_again : {A : Type 0} (xs : List A) (i : ℕ) (x : A) → slice_get xs i ≡ Some x → slice_set xs i x ≡ xs
 set_again [] i x here = refl
-set_again (a ∷ xs) zero x here = let same : a ≡ x = some_same a x here in ap (λ b. b ∷ xs) (sym same)
+set_again (a ∷ xs) zero x here = let same : a ≡ x = same_Some a x here in ap (λ b. b ∷ xs) (sym same)
 set_again (a ∷ xs) (suc i) x here = ap (λ l. a ∷ l) (set_again xs i x here)
 
 -- there is something at each place within
@@ -52,21 +49,7 @@ all_some P (Some x) each = each x refl
 
 -- ---- what holds of a result
 
-pub on_ok : {A : Type 0} {E : Type 0} (r : Result A E) {P : Type 0} {Q : Type 0} → OnOk r P → (P → Q) → OnOk r Q
-on_ok (Ok x) p f = f p
-on_ok (Err why) p f = p
-
-pub on_err : {A : Type 0} {E : Type 0} (r : Result A E) (P : E → Type 0) (Q : E → Type 0) → IfErr r P → ((why : E) → P why → Q why) → IfErr r Q
-on_err (Ok x) P Q p f = p
-on_err (Err why) P Q p f = f why p
-
 -- the shard of a slot in use
 pub shard_there : (schema : List Table) (j : Journaled) (shards : Shards) → IsWhole schema j shards → (slot : ℕ) (slot_state : SlotState) → slice_get (machine_of j).slots slot ≡ Some slot_state
     → (cs : List KeyVersions) × (slice_get shards slot ≡ Some cs)
 shard_there schema j shards w slot slot_state here = there_is shards slot (within schema (machine_of j) shards w.kept slot slot_state here)
-
--- what is found at a place is there, whatever is given for a place that is not
-pub at_index : {A : Type 0} (xs : List A) (i : ℕ) (d x : A) → slice_get xs i ≡ Some x → get_or xs i d ≡ x
-at_index [] i d x here = absurd (cc here)
-at_index (y ∷ xs) zero d x here = some_same y x here
-at_index (y ∷ xs) (suc i) d x here = at_index xs i d x here

@@ -1,10 +1,9 @@
 -- What steps leave: the log, but for a commit, and what open queries ask.
-use Rattle.std.proofs.Common.{◌≡◌, ℕ, zero, suc, Bool, true, false, cond, List, [], ◌∷◌, ◌++◌, Option, Some, None, Result, Ok, Err, refl, ap, sym, ◌∙◌, subst, inl, inr}
+use Rattle.std.proofs.Common.{◌≡◌, ℕ, Bool, true, false, List, [], ◌∷◌, Option, Some, None, Result, Ok, Err, refl, ap, sym, ◌∙◌, subst, inl, inr}
 use Rattle.std.specs.Prelude.{find, if◌then◌else◌, IfOk, IfErr, OnOk, OnErr}
-use Rattle.std.specs.List.{AllByRecursion}
 use Rattle.span_value.specs.declared.refusal.Refusal.{Refusal}
 use Rattle.span_value.specs.declared.refusal.Refusal.TheVariants as refusal
-use Rattle.span_value.specs.Results.{first_cause}
+use Rattle.span_value.proofs.Lists.{all_push}
 use Rattle.span_schema.specs.declared.table.Table.{Table}
 use Rattle.span_keycode.specs.declared.range.KeyRange.{KeyRange}
 use Rattle.span_truetime.specs.declared.bound.Bound.{Bound}
@@ -21,14 +20,13 @@ use Rattle.span_machine.specs.declared.transaction.Decision.{Decision}
 use Rattle.span_machine.specs.declared.transaction.Decision.TheVariants as decision
 use Rattle.span_machine.specs.declared.transaction.OpenTransaction.{OpenTransaction}
 use Rattle.span_machine.specs.declared.query.OpenQuery.{OpenQuery}
-use Rattle.span_machine.specs.Machine.{Machine, Answer, Answers, IsAnswer, answer, refused, if_some, unless_refused, is_transaction, is_query, changed_first, without_first, cover, as_opened, opened, open_query, open_refusal, applied_at, commit_refusal, commit_timestamp, committed, decide, decide_transaction}
+use Rattle.span_machine.specs.Machine.{Machine, Answer, Answers, IsAnswer, answer, refused, if_some, unless_refused, is_transaction, is_query, changed_first, cover, as_opened, opened, open_query, open_refusal, applied_at, commit_refusal, commit_timestamp, committed, decide, decide_transaction}
 use Rattle.span_machine_laws.proofs.Walks.{Ends, answer_by}
-use Rattle.span_machine_laws.proofs.Lists.{all_push, all_without}
+use Rattle.span_machine_laws.proofs.Lists.{all_without}
 use Rattle.span_parts.specs.Asked.{Asks, AreAsked}
 use Rattle.span_journal.specs.declared.journal.Opened.{Opened}
 use Rattle.span_parts.specs.Replies.{as_reply, opened_reply}
 use Rattle.span_parts.specs.Whole.{IsCommitted}
-use Rattle.span_parts.proofs.Changes.{some_same}
 
 -- a step that adds no commit and opens no query
 abbrev pub IsQuiet : Step → Type 0

@@ -3,6 +3,7 @@ use Rattle.std.proofs.Common.{◌≡◌, ℕ, ◌<◌, ◌≤◌, ◌==◌, Bool
 use Rattle.std.specs.Prelude.{slice_get, slice_set, Ok, Err, ◌⊎◌}
 use Rattle.std.specs.List.{AllByRecursion}
 use Rattle.std.proofs.lemmas.Bool.Decides.{nat_tests}
+use Rattle.std.proofs.lemmas.Option.{same_Some}
 use Rattle.span_value.specs.declared.refusal.Refusal.{Refusal}
 use Rattle.span_value.specs.declared.refusal.Refusal.TheVariants as refusal
 use Rattle.span_truetime.specs.Limits.{timestamp_end}
@@ -35,7 +36,6 @@ use Rattle.span_transactions.specs.States.{has_wrong_state}
 use Rattle.span_journal.specs.Judged.{MayPrepare, IsNoted, IsUnnoted, note_cause}
 use Rattle.span_journal.proofs.Preparing.{timestamp_refusal, note_stamp}
 use Rattle.span_parts.specs.Whole.{Shards, IsWhole}
-use Rattle.span_parts.proofs.Changes.{some_same}
 use Rattle.span_parts.proofs.Wholes.{no_text, goes_to, pieces_same}
 
 above : (n k : ℕ) → n ≡ k → most_versions < n → nat_lt most_versions k ≡ true
@@ -132,8 +132,8 @@ module _ (schema : List Table) (j : Journaled) (shards : Shards) (w : IsWhole sc
     -- a transaction that is noted is prepared
     prepared_is : (ts : ℕ) (n : Machine) → (d : IsNoted m owner txn slot ts n) → prepare schema m owner txn slot ≡ prepared m owner txn slot d.slot_state
     prepared_is ts n d =
-        let same : d.slot_state ≡ may.slot_state = some_same d.slot_state may.slot_state (sym d.here ∙ may.here) in
-        let one : d.transaction ≡ may.transaction = some_same d.transaction may.transaction (sym d.found ∙ may.found) in
+        let same : d.slot_state ≡ may.slot_state = same_Some d.slot_state may.slot_state (sym d.here ∙ may.here) in
+        let one : d.transaction ≡ may.transaction = same_Some d.transaction may.transaction (sym d.found ∙ may.found) in
         let stamp : timestamp_refusal d.slot_state ≡ None =
         sym (ap (λ b. first_cause ((b, refusal.WrongState) ∷ (nat_le timestamp_end (prepare_timestamp d.slot_state), refusal.TimestampRange) ∷ [])) right)
         ∙ ap (λ (t : OpenTransaction). note_cause slot t d.slot_state) (sym one) ∙ d.accepted in
@@ -149,7 +149,7 @@ module _ (schema : List Table) (j : Journaled) (shards : Shards) (w : IsWhole sc
     noted_whole ts k d queries =
         let e = prepared_is ts (machine_of k) d in
         let is : machine_of k ≡ (prepare schema m owner txn slot).1 = d.after ∙ sym (ap (λ (a : Answer). a.1) e) in
-        let same : may.slot_state ≡ d.slot_state = some_same may.slot_state d.slot_state (sym may.here ∙ d.here) in
+        let same : may.slot_state ≡ d.slot_state = same_Some may.slot_state d.slot_state (sym may.here ∙ d.here) in
         let kept = kept_prepared schema w.rules m w.reached cs here_kept owner txn may.transaction may.slot_state may.found may.here may.accepted ws (are_in ws are) in
         let after : AreKept schema (prepare schema m owner txn slot).1 slot (with_writes txn ws cs) =
         subst (λ (a : Answer). AreKept schema a.1 slot (with_writes txn ws cs)) (sym e) (subst (λ (b : SlotState). AreKept schema (prepared m owner txn slot b).1 slot (with_writes txn ws cs)) same kept) in

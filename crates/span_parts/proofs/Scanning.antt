@@ -1,11 +1,12 @@
 -- Scan of a leaf in a slot.
-use Rattle.std.proofs.Common.{◌≡◌, ℕ, ◌≤◌, arith, nat_lt, cond, true, false, List, Option, Some, None, refl, ap, sym, ◌∙◌, subst, inl, inr}
+use Rattle.std.proofs.Common.{◌≡◌, ℕ, ◌≤◌, cond, true, List, Option, Some, None, refl, ap, sym, ◌∙◌, subst, inl, inr}
 use Rattle.std.specs.Prelude.{IfSome, MatchOption, Result, Err, find, slice_get, option_map}
 use Rattle.std.specs.List.{AllByRecursion}
 use Rattle.span_schema.specs.Numbers.{IsTable}
 use Rattle.span_columns.specs.declared.leaf.Leaf.{Leaf}
 use Rattle.span_leaves.specs.Maskable.{IsMaskable}
-use Rattle.std.proofs.lemmas.Bool.Decides.{nat_tests}
+use Rattle.std.proofs.lemmas.Bool.{ltb-false}
+use Rattle.std.proofs.lemmas.Option.{same_Some}
 use Rattle.span_value.specs.declared.refusal.Refusal.{Refusal}
 use Rattle.span_value.specs.declared.refusal.Refusal.TheVariants as refusal
 use Rattle.span_truetime.specs.declared.interval.Interval.{Interval}
@@ -29,7 +30,6 @@ use Rattle.span_version_laws.proofs.Snapshots.{snapshot_when_safe}
 use Rattle.span_version_laws.proofs.Covers.{pieced_tables, pieced_maskable, pieced_scanned, covered-queries, find-queries, found_query}
 use Rattle.span_journal.specs.Judged.{leaf_of, MayScan, IsRegistered}
 use Rattle.span_parts.specs.Whole.{Shards, IsWhole, IsRead, IsUnread}
-use Rattle.span_parts.proofs.Changes.{some_same}
 use Rattle.span_parts.proofs.Wholes.{no_text}
 
 -- the answer of a scan that covers a part of a leaf
@@ -42,14 +42,11 @@ waits m slot slot_state = (reply.Refused refusal.NotYet, with_slot_state m slot 
 abbrev nothing : Machine → Answer
 nothing m = (reply.Nothing, m)
 
-not_below : (s floor : ℕ) → nat_lt s floor ≡ false → floor ≤ s
-not_below s floor e = grind (arith, nat_tests)
-
 -- the pieces of an open query
 pub piece_of : (ps : List Pieced) (query : ℕ) (q : OpenQuery) → find (is_query query) (queries_of ps) ≡ Some q → (p : Pieced) × (find (λ (x : Pieced). is_query query x.query) ps ≡ Some p) × (p.query ≡ q)
 piece_of ps query q found = elim (find (λ (x : Pieced). is_query query x.query) ps) as (λ o. find (λ (x : Pieced). is_query query x.query) ps ≡ o → (p : Pieced) × (o ≡ Some p) × (p.query ≡ q)) [
   | None ↦ λ e. absurd (none_found (sym found ∙ find-queries (is_query query) ps ∙ ap (option_map (λ (x : Pieced). x.query)) e))
-  | Some p ↦ λ e. (p, refl, some_same p.query q (sym (ap (option_map (λ (x : Pieced). x.query)) e) ∙ sym (find-queries (is_query query) ps) ∙ found))
+  | Some p ↦ λ e. (p, refl, same_Some p.query q (sym (ap (option_map (λ (x : Pieced). x.query)) e) ∙ sym (find-queries (is_query query) ps) ∙ found))
 ] refl
   where
     none_found : Some q ≡ None → ⊥
@@ -96,17 +93,17 @@ module _ (schema : List Table) (j : Journaled) (shards : Shards) (w : IsWhole sc
   reads cs there why (inl memory) = memory
   reads cs there why (inr none) =
       let made = reached_tables schema w.rules m d.question.s w.reached in
-      let seen = snapshot_when_safe schema w.rules m slot d.slot_state risen cs d.question.s w.reached (w.kept.each slot cs there) d.here d.safe (not_below d.question.s d.slot_state.horizon d.above) made.0 made.1 range in
+      let seen = snapshot_when_safe schema w.rules m slot d.slot_state risen cs d.question.s w.reached (w.kept.each slot cs there) d.here d.safe (ltb-false d.question.s d.slot_state.horizon d.above) made.0 made.1 range in
       absurd (none seen.rows seen.typed (ap (λ i. snapshot range i cs) d.at ∙ seen.entries_are))
 
   module _ (piece : Piece) (k : Journaled) (g : IsRegistered j query leaf slot interval range piece k) where
     same : g.question.query ≡ d.question
-    same = some_same _ _ (sym (found_query query j.queries g.question g.found) ∙ d.found)
+    same = same_Some _ _ (sym (found_query query j.queries g.question g.found) ∙ d.found)
 
     -- the journal has taken the step
     registered_is : machine_of k ≡ (scan m query leaf slot interval).1
     registered_is =
-        let slot_state_same : g.slot_state ≡ d.slot_state = some_same _ _ (sym g.here ∙ d.here) in
+        let slot_state_same : g.slot_state ≡ d.slot_state = same_Some _ _ (sym g.here ∙ d.here) in
         let risen_same : with_risen_floor g.slot_state g.question.query.s interval ≡ risen =
         ap (λ (b : SlotState). with_risen_floor b g.question.query.s interval) slot_state_same ∙ ap (λ (q : OpenQuery). with_risen_floor d.slot_state q.s interval) same in
         ap machine_of g.after
@@ -123,7 +120,7 @@ module _ (schema : List Table) (j : Journaled) (shards : Shards) (w : IsWhole sc
     scanned_whole cs there reading =
         let read_at : s ≡ g.question.query.s = d.at ∙ ap (λ (q : OpenQuery). q.s) (sym same) in
         let safe : is_safe m slot risen g.question.query.s ≡ true = ap (λ (q : OpenQuery). is_safe m slot risen q.s) same ∙ d.safe in
-        let high : d.slot_state.horizon ≤ g.question.query.s = subst (λ (q : OpenQuery). d.slot_state.horizon ≤ q.s) (sym same) (not_below d.question.s d.slot_state.horizon d.above) in
+        let high : d.slot_state.horizon ≤ g.question.query.s = subst (λ (q : OpenQuery). d.slot_state.horizon ≤ q.s) (sym same) (ltb-false d.question.s d.slot_state.horizon d.above) in
         let leaf_there : slice_get g.question.query.leaves leaf ≡ Some d.gap = ap (λ (q : OpenQuery). slice_get q.leaves leaf) same ∙ d.there in
         let part : gap_in d.slot_state d.gap ≡ Some range = d.uncovered ∙ ap (λ (r : KeyRange). Some r) (sym d.of_part) in
         let reading_there : IsPieceOf schema d.gap.leaf (snapshot range g.question.query.s cs) piece =

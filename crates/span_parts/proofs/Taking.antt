@@ -1,24 +1,21 @@
 -- A query that is closed, with what answers it.
-use Rattle.std.proofs.Common.{◌≡◌, ℕ, List, Option, Some, None, Result, Ok, Err, refl, ap, sym, ◌∙◌, subst, inl}
-use Rattle.std.specs.Prelude.{find, IfOk, IfErr, OnErr}
+use Rattle.std.proofs.Common.{◌≡◌, ℕ, List, Some, None, Result, Ok, Err, refl, ap, sym, ◌∙◌, subst, inl}
+use Rattle.std.specs.Prelude.{find, IfOk, OnErr}
 use Rattle.span_value.specs.declared.refusal.Refusal.{Refusal}
 use Rattle.span_value.specs.declared.refusal.Refusal.TheVariants as refusal
 use Rattle.span_schema.specs.declared.table.Table.{Table}
 use Rattle.span_query.specs.Rows.{Row, Rows}
 use Rattle.span_gather.specs.declared.rows.Rows.{Rows as Found}
 use Rattle.span_gather.specs.Gathered.{gathered}
-use Rattle.span_machine.specs.declared.query.OpenQuery.{OpenQuery}
-use Rattle.span_machine.specs.declared.step.Reply.{Reply}
 use Rattle.span_machine.specs.declared.step.Reply.TheVariants as reply
 use Rattle.span_machine.specs.declared.step.Step.TheVariants as step
-use Rattle.span_machine.specs.Machine.{Machine, Answer, IsAnswer, answer_on, rows_or_refusal, is_query, close, finish, refused}
+use Rattle.span_machine.specs.Machine.{Answer, IsAnswer, answer_on, rows_or_refusal, is_query, close}
 use Rattle.span_machine.specs.Meaning.{means}
 use Rattle.span_machine.specs.Pieces.{Pieced, Journaled, machine_of, queries_of}
 use Rattle.span_machine_laws.proofs.Reached.{reached_tables, finish_meant}
 use Rattle.span_version_laws.specs.Kept.{ArePieced}
 use Rattle.span_version_laws.proofs.Covers.{found_query, pieced_finish, pieced_without}
 use Rattle.span_openqueries.specs.declared.taken.Taken.{Taken}
-use Rattle.span_openqueries.specs.Targets.{taken_of}
 use Rattle.span_journal.specs.Judged.{IsTaken}
 use Rattle.span_journal.proofs.Stepping.{close_some}
 use Rattle.span_parts.specs.Asked.{IsQuestionOf}
@@ -93,14 +90,6 @@ module _ (schema : List Table) (j k : Journaled) (query : ℕ) (taken : Taken) (
       (λ n all. subst (ArePieced schema n) (sym (ap (λ (l : Journaled). l.queries) t.after)) (pieced_without schema n j.queries (λ (p : Pieced). is_query query p.query) all))
 
 -- ---- what holds of a result
-
-pub if_ok : {A : Type 0} {E : Type 0} (r : Result A E) (P Q : A → Type 0) → IfOk r P → ((x : A) → P x → Q x) → IfOk r Q
-if_ok (Ok x) P Q p f = f x p
-if_ok (Err why) P Q p f = p
-
-pub if_err : {A : Type 0} {E : Type 0} (r : Result A E) (P Q : E → Type 0) → IfErr r P → ((e : E) → P e → Q e) → IfErr r Q
-if_err (Ok x) P Q p f = p
-if_err (Err why) P Q p f = f why p
 
 -- whether the query was taken or not, the journal goes with the same shards
 pub taken_goes : (schema : List Table) (j k : Journaled) (query : ℕ) (r : Result Taken Refusal) → IfOk r (λ taken. IsTaken j query taken k) → OnErr r (k ≡ j) → GoesWith schema j k

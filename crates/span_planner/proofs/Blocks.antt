@@ -13,7 +13,7 @@ use Rattle.span_query.specs.declared.query.Block.{Block}
 use Rattle.span_query.specs.declared.query.Item.{Item}
 use Rattle.span_query.specs.declared.query.Item.TheVariants as item
 use Rattle.span_query.specs.declared.query.Join.{Join}
-use Rattle.span_query.specs.Rows.{Row, OrFault, Rows, ◌>>=◌, filter_where, project_rows}
+use Rattle.span_query.specs.Rows.{Row, Rows, ◌>>=◌, filter_where, project_rows}
 use Rattle.span_query.specs.Groups.{group_rows}
 use Rattle.span_query.specs.Meaning.{item_rows, join_rows, join_next, from, distinct_if, block_rows, meaning_over}
 use Rattle.span_query.proofs.Layers.{map_item, map_join, map_block}
@@ -24,14 +24,13 @@ use Rattle.span_leaves.specs.Conditions.{have_total_ons, where_conjuncts, conjun
 use Rattle.span_leaves.specs.Leaves.{table_of, width_of, is_joined, leaf_len, leaf_join, join_table, widths, reads_of, first_leaf, unless_left}
 use Rattle.span_planner.specs.Plans.{Planned, join_leaves, rest_leaves, leaves_from, block_leaves, count_leaves, top_join, top_joins, top_from, top_block}
 use Rattle.span_leaves.specs.Results.{as_join, join_tables, leaf_rows}
-use Rattle.span_leaves.proofs.Joins.{Joined, run_join, run_joins, run_where, AreGiven, AreTotal, AllGiven, all_map}
-use Rattle.span_leaves.proofs.Pushing.{is_kept, AreOfWidth, filter_where-all_true, left_out_below}
-use Rattle.span_leaves.proofs.Narrowing.{own, are_on, all_total, refused_by, narrowing, Further, narrow_item, narrow, joined_of, IsWide, AreWide, wide_join, wide_filter, narrowed_below, some_of}
-use Rattle.std.proofs.lemmas.List.{map-append}
-
-bind-same : {A B : Type 0} (o : OrFault A) (g h : A → OrFault B) → ((x : A) → g x ≡ h x) → (o >>= g) ≡ (o >>= h)
-bind-same (Some x) g h same = same x
-bind-same None g h same = refl
+use Rattle.span_leaves.proofs.Joins.{Joined, run_join, run_joins, run_where, AreGiven, AreTotal, AllGiven}
+use Rattle.span_leaves.proofs.Pushing.{is_kept, AreOfWidth, filter_where-all_true, left_out_below, all_of_given}
+use Rattle.span_leaves.proofs.Narrowing.{own, are_on, all_total, refused_by, narrowing, Further, narrow_item, narrow, joined_of, IsWide, AreWide, wide_join, wide_filter, narrowed_below}
+use Rattle.std.proofs.lemmas.List.{map-append, take-map, drop-map, take-append-drop}
+use Rattle.std.proofs.lemmas.Simd.{map-map}
+use Rattle.span_value.proofs.Lists.{all_weaker, all_drop}
+use Rattle.span_leaves.proofs.Narrowed.{bind-same}
 
 -- ---- a FROM as joins one after another
 
@@ -187,21 +186,6 @@ module _ (schema : List Table) (tables : List ℕ) (w : ℕ → List Row) (f0 f 
 
   -- ---- widths and ONs of a part of the items
 
-  all_drop : {A : Type 0} (P : A → Type 0) (n : ℕ) (xs : List A) → AllByRecursion P xs → AllByRecursion P (drop n xs)
-  all_drop P zero xs all = all
-  all_drop P (suc n) [] all = tt {0}
-  all_drop P (suc n) (x ∷ xs) all = all_drop P n xs all.1
-
-  map_take : {A B : Type 0} (g : A → B) (n : ℕ) (xs : List A) → take n (map g xs) ≡ map g (take n xs)
-  map_take g zero xs = refl
-  map_take g (suc n) [] = refl
-  map_take g (suc n) (x ∷ xs) = ap (λ (l : List _). g x ∷ l) (map_take g n xs)
-
-  map_drop : {A B : Type 0} (g : A → B) (n : ℕ) (xs : List A) → drop n (map g xs) ≡ map g (drop n xs)
-  map_drop g zero xs = refl
-  map_drop g (suc n) [] = refl
-  map_drop g (suc n) (x ∷ xs) = map_drop g n xs
-
   all_total_ons : (joins : List (Join Q)) → have_total_ons (map planned_join joins) ≡ true → AreTotal (joined_of (map further joins))
   all_total_ons [] is = tt {0}
   all_total_ons (j ∷ joins) is = let parts = and_parts (is_total j.on) (have_total_ons (map planned_join joins)) is in (parts.0, all_total_ons joins parts.1)
@@ -212,11 +196,11 @@ module _ (schema : List Table) (tables : List ℕ) (w : ℕ → List Row) (f0 f 
   -- joined tables give rows, which have the columns of all
   wide_joins : (joins : List (Join Q)) → AreGiven (joined_of (map further joins)) → AreTotal (joined_of (map further joins)) → AreWide (map further joins) → (at : ℕ) (rows : List Row) → AreOfWidth at rows
       → AllGiven (λ (r : Row). length r ≡ at + width_of_items joins) (run_joins (joined_of (map further joins)) rows)
-  wide_joins [] given total wide at rows is = all_map (λ (r : Row). length r ≡ at) (λ (r : Row). length r ≡ at + 0) (λ r e. omega arith) rows is
+  wide_joins [] given total wide at rows is = all_weaker (λ (r : Row). length r ≡ at) (λ (r : Row). length r ≡ at + 0) (λ r e. omega arith) rows is
   wide_joins (j ∷ joins) given total wide at rows is =
       let i : Joined = (further j).0 in
       let right_wide : AreOfWidth j.width given.0.0 = subst (IsWide j.width) given.0.1 wide.0 in
-      let found = some_of (λ (r : Row). length r ≡ at + j.width) (join_rows (as_join i.join) rows given.0.0) (wide_join i.join total.0 at rows given.0.0 is right_wide) in
+      let found = all_of_given (λ (r : Row). length r ≡ at + j.width) (join_rows (as_join i.join) rows given.0.0) (wide_join i.join total.0 at rows given.0.0 is right_wide) in
       let joined : run_join i rows ≡ Some found.0 = ap (λ (o : Rows). o >>= join_rows (as_join i.join) rows) given.0.1 ∙ found.1 in
       let sum : (at + j.width) + width_of_items joins ≡ at + (j.width + width_of_items joins) = omega arith in
       subst (λ (o : Rows). AllGiven (λ (r : Row). length r ≡ at + (j.width + width_of_items joins)) (o >>= run_joins (joined_of (map further joins)))) (sym joined)
@@ -228,18 +212,13 @@ module _ (schema : List Table) (tables : List ℕ) (w : ℕ → List Row) (f0 f 
       bind-same (run_join x rows) (run_joins (xs ++ ys)) (λ (next : List Row). run_joins xs next >>= run_joins ys) (run_joins-split xs ys)
       ∙ sym (bind-assoc (run_join x rows) (run_joins xs) (run_joins ys))
 
-  take_drop : {A : Type 0} (n : ℕ) (xs : List A) → take n xs ++ drop n xs ≡ xs
-  take_drop zero xs = refl
-  take_drop (suc n) [] = refl
-  take_drop (suc n) (x ∷ xs) = ap (λ (l : List _). x ∷ l) (take_drop n xs)
-
   -- the items of the first leaf, and those after them
   abbrev joined_items : List (Join Q) → List Joined
   joined_items joins = joined_of (map further joins)
 
   run-split : (n : ℕ) (joins : List (Join Q)) (rows : List Row) → run_joins (joined_items joins) rows ≡ (run_joins (joined_items (take n joins)) rows >>= run_joins (joined_items (drop n joins)))
   run-split n joins rows =
-      ap (λ (js : List (Join Q)). run_joins (joined_items js) rows) (sym (take_drop n joins))
+      ap (λ (js : List (Join Q)). run_joins (joined_items js) rows) (sym (take-append-drop n joins))
       ∙ ap (λ (fs : List Further). run_joins (joined_of fs) rows) (map-append further (take n joins) (drop n joins))
       ∙ ap (λ (xs : List Joined). run_joins xs rows) (map-append (λ (i : Further). i.0) (map further (take n joins)) (map further (drop n joins)))
       ∙ run_joins-split (joined_items (take n joins)) (joined_items (drop n joins)) rows
@@ -298,23 +277,19 @@ module _ (schema : List Table) (tables : List ℕ) (w : ℕ → List Row) (f0 f 
     of_list [] = refl
     of_list (x ∷ xs) = of_list xs
 
-  map-map : {A B C : Type 0} (g : A → B) (h : B → C) (xs : List A) → map h (map g xs) ≡ map (λ x. h (g x)) xs
-  map-map g h [] = refl
-  map-map g h (x ∷ xs) = ap (λ (l : List _). h (g x) ∷ l) (map-map g h xs)
-
   -- FROM and WHERE above the leaves, as joins after the first item
   from-above : (first : Item Rows) (joins : List (Join BoundQuery)) (filter : Option Expr)
       → (from f first (map (map_join (meaning_over f)) joins) >>= filter_where filter) ≡ (item_rows f first >>= run_where filter (map above joins))
   from-above first joins filter =
       ap (λ (o : Rows). o >>= filter_where filter) (fold-joins f (map (map_join (meaning_over f)) joins) (item_rows f first))
-      ∙ ap (λ (xs : List Joined). (item_rows f first >>= run_joins xs) >>= filter_where filter) (map-map (map_join (meaning_over f)) (joined_item f) joins)
+      ∙ ap (λ (xs : List Joined). (item_rows f first >>= run_joins xs) >>= filter_where filter) (map-map (joined_item f) (map_join (meaning_over f)) joins)
       ∙ bind-assoc (item_rows f first) (run_joins (map above joins)) (filter_where filter)
 
   from-whole : (first : Item Rows) (joins : List (Join Q)) (filter : Option Expr)
       → (from f0 first (map (map_join mean) joins) >>= filter_where filter) ≡ (item_rows f0 first >>= run_where filter (joined_items joins))
   from-whole first joins filter =
       ap (λ (o : Rows). o >>= filter_where filter) (fold-joins f0 (map (map_join mean) joins) (item_rows f0 first))
-      ∙ ap (λ (xs : List Joined). (item_rows f0 first >>= run_joins xs) >>= filter_where filter) (map-map (map_join mean) (joined_item f0) joins ∙ sym (map-map further (λ (i : Further). i.0) joins))
+      ∙ ap (λ (xs : List Joined). (item_rows f0 first >>= run_joins xs) >>= filter_where filter) (map-map (joined_item f0) (map_join mean) joins ∙ sym (map-map (λ (i : Further). i.0) further joins))
       ∙ bind-assoc (item_rows f0 first) (run_joins (joined_items joins)) (filter_where filter)
 
   -- the rows of the first item have its columns
@@ -367,7 +342,7 @@ module _ (schema : List Table) (tables : List ℕ) (w : ℕ → List Row) (f0 f 
         → ((leaf_found >>= filter_where b.filter) >>= run_where None (map above (top_joins before (drop len planned_joins)))) ≡ (Some (w table) >>= run_where b.filter (joined_items b.joins))
     whole_leaf is before =
         let none_left : drop len planned_joins ≡ [] = drop_length len planned_joins is in
-        let none : drop len b.joins ≡ [] = map_nil (drop len b.joins) (sym (map_drop planned_join len b.joins) ∙ none_left) in
+        let none : drop len b.joins ≡ [] = map_nil (drop len b.joins) (sym (drop-map planned_join len b.joins) ∙ none_left) in
         ap (λ (js : List (Join Planned)). (leaf_found >>= filter_where b.filter) >>= run_where None (map above (top_joins before js))) none_left
         ∙ bind-Some (leaf_found >>= filter_where b.filter)
         ∙ sym (ap (λ (o : Rows). o >>= filter_where b.filter) (run-split len b.joins (w table) ∙ ap (λ (js : List (Join Q)). leaf_found >>= run_joins (joined_items js)) none ∙ bind-Some leaf_found))
@@ -398,7 +373,7 @@ module _ (schema : List Table) (tables : List ℕ) (w : ℕ → List Row) (f0 f 
         let total_all = all_total_ons b.joins total in
         let found : AllGiven (λ (r : Row). length r ≡ wide_first + width_of_items (take len b.joins)) leaf_found =
         wide_joins (take len b.joins) (leaf_given given table wide_first b.joins) (take_total len b.joins total_all) (take_wide len b.joins sized.rest) wide_first (w table) first_wide in
-        let width : wide_first + width_of_items (take len b.joins) ≡ leaf_width = ap (λ (js : List (Join Planned)). wide_first + widths js) (sym (map_take planned_join len b.joins)) in
+        let width : wide_first + width_of_items (take len b.joins) ≡ leaf_width = ap (λ (js : List (Join Planned)). wide_first + widths js) (sym (take-map planned_join len b.joins)) in
         subst (λ (m : ℕ). AreOfWidth m rows) width (subst (AllGiven (λ (r : Row). length r ≡ wide_first + width_of_items (take len b.joins))) is found)
 
     -- what comes after the leaf, above it and on whole tables
@@ -415,14 +390,14 @@ module _ (schema : List Table) (tables : List ℕ) (w : ℕ → List Row) (f0 f 
     part_found given keeps sized first_wide before agrees (Some rows) is =
         after_first given first_reads b.filter b.joins (drop len b.joins)
         (λ total. drop_total len b.joins (all_total_ons b.joins total)) (all_drop KeepsJoin len b.joins keeps.rest) (drop_wide len b.joins sized.rest) before leaf_width
-        (subst (λ (js : List (Join Planned)). AgreesAt w before (rest_leaves schema tables first_reads (pushed b.filter b.joins) leaf_width js) f) (map_drop planned_join len b.joins) agrees)
+        (subst (λ (js : List (Join Planned)). AgreesAt w before (rest_leaves schema tables first_reads (pushed b.filter b.joins) leaf_width js) f) (drop-map planned_join len b.joins) agrees)
         rows (λ total. leaf_wide given sized first_wide total rows is)
 
     part_leaf : IsTableGiven → KeepsBlock b → IsSized b → AreOfWidth wide_first (w table) → (before : ℕ) → AgreesAt w before (rest_leaves schema tables first_reads (pushed b.filter b.joins) leaf_width (drop len planned_joins)) f
         → ((leaf_found >>= filter_where (all_true (conjuncts_on 0 leaf_width (pushed b.filter b.joins)))) >>= run_where b.filter (map above (top_joins before (drop len planned_joins)))) ≡ (Some (w table) >>= run_where b.filter (joined_items b.joins))
     part_leaf given keeps sized first_wide before agrees =
         bind-assoc leaf_found (first_rows b.filter b.joins leaf_width) (run_where b.filter (map above (top_joins before (drop len planned_joins))))
-        ∙ ap (λ (js : List (Join Planned)). leaf_found >>= (λ rows. first_rows b.filter b.joins leaf_width rows >>= run_where b.filter (map above (top_joins before js)))) (map_drop planned_join len b.joins)
+        ∙ ap (λ (js : List (Join Planned)). leaf_found >>= (λ rows. first_rows b.filter b.joins leaf_width rows >>= run_where b.filter (map above (top_joins before js)))) (drop-map planned_join len b.joins)
         ∙ part_found given keeps sized first_wide before agrees leaf_found refl
         ∙ sym (ap (λ (o : Rows). o >>= filter_where b.filter) (run-split len b.joins (w table)) ∙ bind-assoc leaf_found (run_joins (joined_items (drop len b.joins))) (filter_where b.filter))
 

@@ -3,13 +3,14 @@ use Rattle.std.proofs.Common.{◌≡◌, ℕ, ◌+◌, Bool, true, false, List, 
 use Rattle.std.specs.List.{AllByRecursion}
 use Rattle.std.proofs.lemmas.List.{length-replicate}
 use Rattle.span_value.specs.declared.value.Value.TheVariants.{Null}
+use Rattle.span_value.proofs.Lists.{all_weaker}
 use Rattle.span_expr.specs.declared.expr.Expr.{Expr}
 use Rattle.span_query.specs.declared.query.Join.{Join}
 use Rattle.span_query.specs.Rows.{Row, OrFault, Rows, ◌>>=◌, append_results, concat_map, keep_if, holds, filter_rows, filter_where}
 use Rattle.span_query.specs.Meaning.{or_unmatched, pairs_of, join_rows}
-use Rattle.span_leaves.proofs.Joins.{all_map}
 use Rattle.span_leaves.proofs.Pushing.{AreOfWidth}
 use Rattle.span_leaves.proofs.Narrowing.{IsWide}
+use Rattle.span_leaves.proofs.Picked.{wide_pairs}
 use Rattle.span_planner.proofs.Widths.{wide_concat_map}
 
 -- ---- lists of rows
@@ -30,15 +31,11 @@ wide_kept n row (Some false) is = tt {0}
 pub wide_filter_rows : (n : ℕ) (e : Expr) (rows : List Row) → AreOfWidth n rows → IsWide n (filter_rows e rows)
 wide_filter_rows n e rows wide =
     wide_concat_map n (λ row. holds e row >>= (λ b. Some (keep_if row b))) rows
-    (all_map (λ (row : Row). length row ≡ n) (λ row. IsWide n (holds e row >>= (λ b. Some (keep_if row b)))) (λ row is. wide_kept n row (holds e row) is) rows wide)
+    (all_weaker (λ (row : Row). length row ≡ n) (λ row. IsWide n (holds e row >>= (λ b. Some (keep_if row b)))) (λ row is. wide_kept n row (holds e row) is) rows wide)
 
 pub wide_filter_where : (n : ℕ) (w : Option Expr) (rows : List Row) → AreOfWidth n rows → IsWide n (filter_where w rows)
 wide_filter_where n None rows wide = wide
 wide_filter_where n (Some e) rows wide = wide_filter_rows n e rows wide
-
-wide_pairs : (at width : ℕ) (l : Row) → length l ≡ at → (right : List Row) → AreOfWidth width right → AreOfWidth (at + width) (map (λ (r : Row). l ++ r) right)
-wide_pairs at width l is [] wide = tt {0}
-wide_pairs at width l is (r ∷ right) wide = ((let here : length r ≡ width = wide.0 in length-append l r ∙ omega arith), wide_pairs at width l is right wide.1)
 
 wide_unmatched : (n : ℕ) (is_left : Bool) (alone : Row) (o : Rows) → length alone ≡ n → IsWide n o → IsWide n (o >>= (λ pairs. Some (or_unmatched is_left alone pairs)))
 wide_unmatched n is_left alone None one wide = tt {0}
@@ -56,4 +53,4 @@ wide_pairs_of j at right wide l is =
 pub wide_join_rows : {A : Type 0} (j : Join A) (at : ℕ) (rows right : List Row) → AreOfWidth at rows → AreOfWidth j.width right → IsWide (at + j.width) (join_rows j rows right)
 wide_join_rows j at rows right wide wide_right =
     wide_concat_map (at + j.width) (pairs_of j right) rows
-    (all_map (λ (l : Row). length l ≡ at) (λ l. IsWide (at + j.width) (pairs_of j right l)) (λ l is. wide_pairs_of j at right wide_right l is) rows wide)
+    (all_weaker (λ (l : Row). length l ≡ at) (λ l. IsWide (at + j.width) (pairs_of j right l)) (λ l is. wide_pairs_of j at right wide_right l is) rows wide)

@@ -5,6 +5,7 @@ use Rattle.std.specs.Option.{unwrap_or}
 use Rattle.std.specs.List.{list_all, AllByRecursion}
 use Rattle.std.proofs.lemmas.Bool.Decides.{nat_tests}
 use Rattle.std.proofs.lemmas.Bool.{and_parts}
+use Rattle.std.proofs.lemmas.List.Folds.{list_all-map}
 use Rattle.span_schema.specs.declared.table.Table.{Table}
 use Rattle.span_schema.specs.Numbers.{IsTable}
 use Rattle.span_query.specs.declared.query.BoundQuery.{BoundQuery}
@@ -16,7 +17,6 @@ use Rattle.span_query.specs.Layers.{map_join, map_block}
 use Rattle.span_query.proofs.Layers.{layer_mapped}
 use Rattle.span_leaves.specs.Numbered.{is_number, numbered_join, numbered_block, numbered_query, is_numbered, is_numbered_item, is_numbered_block, are_numbered_blocks}
 use Rattle.span_leaves.specs.Leaves.{table_of}
-use Rattle.span_leaves.proofs.Loops.{list_all-map}
 
 module _ (tables : List ℕ) where
   abbrev test : BoundQuery → Bool

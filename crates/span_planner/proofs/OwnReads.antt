@@ -1,9 +1,10 @@
 -- The ONs and the condition of a leaf of a plan read within the leaf's mask.
-use Rattle.std.proofs.Common.{◌≡◌, ◌∙◌, ℕ, zero, suc, ◌+◌, ◌-◌, ◌==◌, ◌≤◌, Bool, true, false, not, cond, ◌&&◌, List, [], ◌∷◌, ◌++◌, map, take, drop, length, Option, Some, None, refl, ap, sym, subst, arith}
+use Rattle.std.proofs.Common.{◌≡◌, ◌∙◌, ℕ, zero, suc, ◌+◌, ◌-◌, ◌==◌, ◌≤◌, Bool, true, false, not, cond, ◌&&◌, List, [], ◌∷◌, map, take, drop, length, Option, Some, None, refl, ap, sym, subst, arith}
 use Rattle.std.specs.Prelude.{flat_map, if◌then◌else◌}
 use Rattle.std.specs.List.{AllByRecursion, list_all}
 use Rattle.std.proofs.lemmas.Bool.Decides.{nat_tests}
 use Rattle.std.proofs.lemmas.Bool.{and_from, and_parts}
+use Rattle.span_value.proofs.Lists.{all_append, all_drop}
 use Rattle.span_schema.specs.declared.table.Table.{Table}
 use Rattle.span_expr.specs.declared.expr.Expr.{Expr}
 use Rattle.span_expr.specs.Conjuncts.{all_true}
@@ -27,17 +28,6 @@ use Rattle.span_planner.specs.Plans.{Planned, join_leaves, rest_leaves, leaves_f
 use Rattle.span_columns.specs.Reads.{has_place, is_not, condition_reads, on_reads, selection_reads, leaf_on_reads, reads_own}
 use Rattle.span_planner.proofs.Queries.{layer_twice}
 use Rattle.span_leaves.proofs.Reading.{expr_by, covered}
-
--- ---- lists
-
-all_append : {A : Type 0} (P : A → Type 0) (xs ys : List A) → AllByRecursion P xs → AllByRecursion P ys → AllByRecursion P (xs ++ ys)
-all_append P [] ys a b = b
-all_append P (x ∷ xs) ys a b = (a.0, all_append P xs ys a.1 b)
-
-all_drop : {A : Type 0} (P : A → Type 0) (n : ℕ) (xs : List A) → AllByRecursion P xs → AllByRecursion P (drop n xs)
-all_drop P zero xs all = all
-all_drop P (suc n) [] all = tt {0}
-all_drop P (suc n) (x ∷ xs) all = all_drop P n xs all.1
 
 -- ---- masks
 

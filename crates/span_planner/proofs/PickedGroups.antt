@@ -1,10 +1,12 @@
 -- Groups and a select list of picked rows are those of the rows, with what they read moved to its ranks.
-use Rattle.std.proofs.Common.{◌≡◌, ℕ, suc, Bool, true, false, cond, List, [], ◌∷◌, ◌++◌, map, length, Option, Some, None, refl, ap, ◌∙◌}
+use Rattle.std.proofs.Common.{◌≡◌, ℕ, Bool, true, false, cond, List, [], ◌∷◌, ◌++◌, map, length, Option, Some, None, refl, ap, ◌∙◌}
 use Rattle.std.specs.Prelude.{pos}
 use Rattle.std.specs.List.{AllByRecursion, list_all}
 use Rattle.std.specs.Option.{option_map}
 use Rattle.std.proofs.lemmas.Bool.{and_parts}
+use Rattle.std.proofs.lemmas.List.{length-map}
 use Rattle.span_value.specs.declared.value.Value.{Value}
+use Rattle.span_value.proofs.Lists.{all_weaker, all_whole}
 use Rattle.span_expr.specs.declared.expr.Expr.{Expr}
 use Rattle.span_expr.specs.Operators.{number, column_of}
 use Rattle.span_expr.specs.Meaning.{val}
@@ -15,7 +17,6 @@ use Rattle.span_query.specs.declared.query.Grouping.{Grouping}
 use Rattle.span_query.specs.Rows.{Row, OrFault, Rows, ◌>>=◌, value_of, singleton, each, values, project_rows, filter_where}
 use Rattle.span_query.specs.Groups.{are_equal, distinct, columns_at, group_keys, rows_with, operands, without_nulls, of_values, aggregate, group_row, groups, group_rows}
 use Rattle.span_query.proofs.Results.{concat_map-same}
-use Rattle.span_leaves.proofs.Joins.{all_map}
 use Rattle.span_leaves.proofs.Pushing.{AreOfWidth}
 use Rattle.span_leaves.proofs.Narrowing.{wide_filter}
 use Rattle.span_columns.specs.Reads.{has_place, reads_within, aggregate_reads, selection_reads}
@@ -23,15 +24,6 @@ use Rattle.span_planner.proofs.Masked.{concat_map-unmasked}
 use Rattle.span_columns.specs.Picks.{picked}
 use Rattle.span_columns.specs.Narrow.{moved_aggregate, moved_grouping, moved_outputs}
 use Rattle.span_leaves.proofs.Picked.{Agrees, val-picked}
-
--- what holds of all items holds of those of a list
-everywhere : {A : Type 0} (P : A → Type 0) → ((x : A) → P x) → (xs : List A) → AllByRecursion P xs
-everywhere P is [] = tt {0}
-everywhere P is (x ∷ xs) = (is x, everywhere P is xs)
-
-length_map : {A B : Type 0} (f : A → B) (xs : List A) → length (map f xs) ≡ length xs
-length_map f [] = refl
-length_map f (x ∷ xs) = ap suc (length_map f xs)
 
 module _ (all ms : List Bool) (agree : Agrees all ms) where
   -- ---- the select list at rows of a FROM
@@ -50,7 +42,7 @@ module _ (all ms : List Bool) (agree : Agrees all ms) where
       → project_rows (map (moved (rank all)) es) (map (picked ms) rows) ≡ project_rows es rows
   project_rows-picked es reads rows wide =
       concat_map-unmasked (picked ms) (λ row. option_map singleton (values es row)) (λ row. option_map singleton (values (map (moved (rank all)) es) row)) rows
-      (all_map (λ (row : Row). length row ≡ length ms) (λ row. option_map singleton (values (map (moved (rank all)) es) (picked ms row)) ≡ option_map singleton (values es row))
+      (all_weaker (λ (row : Row). length row ≡ length ms) (λ row. option_map singleton (values (map (moved (rank all)) es) (picked ms row)) ≡ option_map singleton (values es row))
       (λ row is. ap (option_map singleton) (values-picked es reads row is)) rows wide)
 
   -- ---- keys
@@ -89,11 +81,11 @@ module _ (all ms : List Bool) (agree : Agrees all ms) where
   operands-picked : (e : Expr) → reads_within all e ≡ true → (rows : List Row) → AreOfWidth (length ms) rows → operands (moved (rank all) e) (map (picked ms) rows) ≡ operands e rows
   operands-picked e reads rows wide =
       concat_map-unmasked (picked ms) (λ row. option_map singleton (value_of (val row e))) (λ row. option_map singleton (value_of (val row (moved (rank all) e)))) rows
-      (all_map (λ (row : Row). length row ≡ length ms) (λ row. option_map singleton (value_of (val (picked ms row) (moved (rank all) e))) ≡ option_map singleton (value_of (val row e)))
+      (all_weaker (λ (row : Row). length row ≡ length ms) (λ row. option_map singleton (value_of (val (picked ms row) (moved (rank all) e))) ≡ option_map singleton (value_of (val row e)))
       (λ row is. ap (λ o. option_map singleton (value_of o)) (val-picked all ms agree row e is reads)) rows wide)
 
   aggregate-picked : (a : Aggregate) → aggregate_reads (has_place all) a ≡ true → (rows : List Row) → AreOfWidth (length ms) rows → aggregate (map (picked ms) rows) (moved_aggregate (rank all) a) ≡ aggregate rows a
-  aggregate-picked CountRows reads rows wide = ap (λ (n : ℕ). value_of (number (pos n))) (length_map (picked ms) rows)
+  aggregate-picked CountRows reads rows wide = ap (λ (n : ℕ). value_of (number (pos n))) (length-map rows (picked ms))
   aggregate-picked (Of f e) reads rows wide = ap (λ (o : OrFault (List Value)). o >>= (λ vs. value_of (of_values f (without_nulls vs)))) (operands-picked e reads rows wide)
 
   aggregates-picked : (items : List Aggregate) → list_all (aggregate_reads (has_place all)) items ≡ true → (rows : List Row) → AreOfWidth (length ms) rows
@@ -119,7 +111,7 @@ module _ (all ms : List Bool) (agree : Agrees all ms) where
   groups-picked g keys aggregates rows wide =
       ap (each (group_row (moved_grouping (rank all) g) (map (picked ms) rows))) (group_keys-picked g.keys keys rows wide)
       ∙ concat_map-same (λ key. option_map singleton (group_row (moved_grouping (rank all) g) (map (picked ms) rows) key)) (λ key. option_map singleton (group_row g rows key)) (group_keys g.keys rows)
-      (everywhere (λ key. option_map singleton (group_row (moved_grouping (rank all) g) (map (picked ms) rows) key) ≡ option_map singleton (group_row g rows key))
+      (all_whole (λ key. option_map singleton (group_row (moved_grouping (rank all) g) (map (picked ms) rows) key) ≡ option_map singleton (group_row g rows key))
       (λ key. ap (option_map singleton) (group_row-picked g keys aggregates rows wide key)) (group_keys g.keys rows))
 
   -- the groups, or the rows, and then the select list

@@ -5,7 +5,7 @@ use Rattle.std.specs.List.{AllByRecursion, list_all, fold}
 use Rattle.std.specs.Option.{option_map}
 use Rattle.std.proofs.lemmas.Bool.{and_parts}
 use Rattle.std.proofs.lemmas.Bool.Decides.{nat_tests}
-use Rattle.std.proofs.lemmas.List.{length-replicate}
+use Rattle.std.proofs.lemmas.List.{length-replicate, append-nil}
 use Rattle.span_expr.specs.declared.expr.Expr.{Expr}
 use Rattle.span_expr.specs.Places.{moved, rank}
 use Rattle.span_query.specs.declared.query.BoundQuery.{BoundQuery}
@@ -22,7 +22,6 @@ use Rattle.span_query.specs.Groups.{group_rows}
 use Rattle.span_query.specs.Sorting.{sorted}
 use Rattle.span_query.specs.Meaning.{item_rows, join_rows, join_next, from, distinct_if, block_rows, limit_rows, query_rows, meaning_over}
 use Rattle.span_query.proofs.Layers.{map_item, map_join, map_block, map_layer, layer_mapped}
-use Rattle.span_query.proofs.Results.{append-nil}
 use Rattle.span_leaves.proofs.Pushing.{AreOfWidth}
 use Rattle.span_leaves.proofs.Narrowing.{IsWide}
 use Rattle.span_planner.proofs.Widths.{wide_query}

@@ -5,7 +5,7 @@ use Rattle.std.specs.List.{AllByRecursion, list_all}
 use Rattle.std.proofs.lemmas.Bool.Decides.{nat_tests}
 use Rattle.std.proofs.lemmas.Bool.{and_parts}
 use Rattle.std.proofs.lemmas.List.FromFn.{length-map-range_with_len}
-use Rattle.std.proofs.lemmas.List.{length-replicate}
+use Rattle.std.proofs.lemmas.List.{length-replicate, length-take-le, drop-map}
 use Rattle.span_value.specs.declared.value.Value.TheVariants.{Null}
 use Rattle.span_schema.specs.declared.table.Table.{Table}
 use Rattle.span_schema.specs.declared.layout.KeyPart.{KeyPart}
@@ -19,6 +19,7 @@ use Rattle.span_expr.specs.Meaning.{is_total}
 use Rattle.span_expr.specs.Conjuncts.{conjuncts, all_true}
 use Rattle.span_expr.specs.Places.{is_in}
 use Rattle.span_expr.proofs.Conjuncts.{is_refused-conjuncts, is_refused-all_true}
+use Rattle.span_expr.proofs.Places.{column_of-append}
 use Rattle.span_query.specs.declared.query.BoundQuery.{BoundQuery}
 use Rattle.span_query.specs.declared.query.Block.{Block}
 use Rattle.span_query.specs.declared.query.Item.{Item}
@@ -34,7 +35,7 @@ use Rattle.span_leaves.specs.Leaves.{table_of, width_of, root_places, is_joined_
 use Rattle.span_planner.specs.Plans.{Planned, join_leaves, rest_leaves, leaves_from, block_leaves, planned}
 use Rattle.span_columns.specs.Reads.{is_read, leaf_widths}
 use Rattle.span_planner.specs.Sizes.{Shape, item_shape, is_sized_join, is_sized_block, shape, is_sized}
-use Rattle.span_leaves.proofs.Pushing.{is_left_out, column_of-append, column_of-after}
+use Rattle.span_leaves.proofs.Pushing.{is_left_out, column_of-after}
 use Rattle.span_leaves.proofs.Narrowing.{are_on, own, left_out_among, left_out-own}
 use Rattle.span_leaves.proofs.Bounding.{is_in_bounds, left_out_of_bounds}
 use Rattle.span_leaves.proofs.Narrowed.{AreTotalJoins, IsRefusedBy, IsLost}
@@ -74,13 +75,8 @@ pub record IsPlanned (schema : List Table) (leaf : Leaf) : Type 0 where
 
 -- ---- which columns are read
 
-taken_len : {A : Type 0} (n : ℕ) (xs : List A) → n ≤ length xs → length (take n xs) ≡ n
-taken_len zero xs fits = refl
-taken_len (suc n) [] fits = absurd (omega arith)
-taken_len (suc n) (x ∷ xs) fits = ap suc (taken_len n xs (omega arith))
-
 pub part_len : {A : Type 0} (xs : List A) (at width : ℕ) → at + width ≤ length xs → length (take width (drop at xs)) ≡ width
-part_len xs zero width fits = taken_len width xs (omega arith)
+part_len xs zero width fits = length-take-le width xs (omega arith)
 part_len [] (suc at) width fits = absurd (omega arith)
 part_len (x ∷ xs) (suc at) width fits = part_len xs at width (omega arith)
 
@@ -101,7 +97,7 @@ pub first_reads_len : {Q : Type 0} (width n : ℕ) (b : Block Q) → length (tak
 first_reads_len width n b =
     let split : widths (take n b.joins) + widths (drop n b.joins) ≡ widths b.joins = widths_split n b.joins in
     let all : length (reads_of width b) ≡ width + widths b.joins = reads_of_len width b in
-    taken_len (width + widths (take n b.joins)) (reads_of width b) (omega arith) ∙ ap (λ (m : ℕ). width + m) (sym (leaf_widths_of (take n b.joins)))
+    length-take-le (width + widths (take n b.joins)) (reads_of width b) (omega arith) ∙ ap (λ (m : ℕ). width + m) (sym (leaf_widths_of (take n b.joins)))
 
 -- ---- ranges
 
@@ -110,7 +106,7 @@ no_bounds root [] places at = refl
 no_bounds root (part ∷ parts) [] at = refl
 no_bounds root (part ∷ parts) (place ∷ places) at = refl
 
-typed_bounds : (p : KeyBound → Bool) (bs : List KeyBound) → list_all p (filter p bs) ≡ true
+pub typed_bounds : (p : KeyBound → Bool) (bs : List KeyBound) → list_all p (filter p bs) ≡ true
 typed_bounds p [] = refl
 typed_bounds p (b ∷ bs) = of_test (p b) refl (typed_bounds p bs) where
   of_test : (t : Bool) → p b ≡ t → list_all p (filter p bs) ≡ true → list_all p (if t then b ∷ filter p bs else filter p bs) ≡ true
@@ -309,11 +305,6 @@ module _ (schema : List Table) (tables : List ℕ) where
       all_drop P (suc n) [] all = tt {0}
       all_drop P (suc n) (x ∷ xs) all = all_drop P n xs all.1
 
-      drop_map : {A B : Type 0} (g : A → B) (n : ℕ) (xs : List A) → drop n (map g xs) ≡ map g (drop n xs)
-      drop_map g zero xs = refl
-      drop_map g (suc n) [] = refl
-      drop_map g (suc n) (x ∷ xs) = drop_map g n xs
-
       sized_drop : (n : ℕ) (js : List (Join T)) → are_sized js ≡ true → are_sized (drop n js) ≡ true
       sized_drop zero js sized = sized
       sized_drop (suc n) [] sized = sized
@@ -352,9 +343,9 @@ module _ (schema : List Table) (tables : List ℕ) where
           let rs : List Bool = reads_of (width_of schema t) (map_block plan_t b) in
           let all : length rs ≡ width_of schema t + widths (planned_joins b.joins) = reads_of_len (width_of schema t) (map_block plan_t b) in
           let split : widths (take len (planned_joins b.joins)) + widths (planned_joins (drop len b.joins)) ≡ widths (planned_joins b.joins) =
-          ap (λ (js : List (Join Planned)). widths (take len (planned_joins b.joins)) + widths js) (sym (drop_map (map_join plan_t) len b.joins)) ∙ widths_split len (planned_joins b.joins) in (
+          ap (λ (js : List (Join Planned)). widths (take len (planned_joins b.joins)) + widths js) (sym (drop-map (map_join plan_t) len b.joins)) ∙ widths_split len (planned_joins b.joins) in (
             first_planned b n sized,
-            subst (λ (js : List (Join Planned)). AllByRecursion (IsPlanned schema) (rest_leaves schema tables rs (pushable (map_block plan_t b)) (width_of schema t + widths (take len (planned_joins b.joins))) js)) (sym (drop_map (map_join plan_t) len b.joins))
+            subst (λ (js : List (Join Planned)). AllByRecursion (IsPlanned schema) (rest_leaves schema tables rs (pushable (map_block plan_t b)) (width_of schema t + widths (take len (planned_joins b.joins))) js)) (sym (drop-map (map_join plan_t) len b.joins))
                 (rest_planned rs (pushable (map_block plan_t b)) (width_of schema t + widths (take len (planned_joins b.joins))) (drop len b.joins) (omega arith) (all_drop KnowsJoin len b.joins knows_rest) (sized_drop len b.joins sized)),
           )
       from_planned b (item.Derived t) knows first_sized knows_rest sized =

@@ -1,7 +1,8 @@
 -- The range of each leaf of a plan is that of a table's family, narrowed by conditions.
-use Rattle.std.proofs.Common.{◌≡◌, ℕ, Bool, ◌+◌, suc, zero, List, [], ◌∷◌, ◌++◌, map, take, drop, refl, ap, sym, ◌∙◌, subst}
+use Rattle.std.proofs.Common.{◌≡◌, ℕ, Bool, ◌+◌, List, [], ◌∷◌, map, take, drop, refl, ap, sym, ◌∙◌, subst}
 use Rattle.std.specs.Prelude.{flat_map}
 use Rattle.std.specs.List.{AllByRecursion}
+use Rattle.span_value.proofs.Lists.{all_append, all_drop}
 use Rattle.span_schema.specs.declared.table.Table.{Table}
 use Rattle.span_expr.specs.declared.expr.Expr.{Expr}
 use Rattle.span_query.specs.declared.query.BoundQuery.{BoundQuery}
@@ -26,15 +27,6 @@ pub record IsRanged (schema : List Table) (leaf : Leaf) : Type 0 where
   pub at : ℕ
   pub conditions : List Expr
   pub is : leaf.range ≡ leaf_range schema table at conditions
-
-all_append : {A : Type 0} (P : A → Type 0) (xs ys : List A) → AllByRecursion P xs → AllByRecursion P ys → AllByRecursion P (xs ++ ys)
-all_append P [] ys a b = b
-all_append P (x ∷ xs) ys a b = (a.0, all_append P xs ys a.1 b)
-
-all_drop : {A : Type 0} (P : A → Type 0) (n : ℕ) (xs : List A) → AllByRecursion P xs → AllByRecursion P (drop n xs)
-all_drop P zero xs all = all
-all_drop P (suc n) [] all = tt {0}
-all_drop P (suc n) (x ∷ xs) all = all_drop P n xs all.1
 
 module _ (schema : List Table) (tables : List ℕ) where
   -- those of a query planned

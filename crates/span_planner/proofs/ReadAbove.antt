@@ -3,8 +3,8 @@ use Rattle.std.proofs.Common.{◌≡◌, ◌∙◌, ℕ, zero, suc, ◌+◌, ◌
 use Rattle.std.specs.Prelude.{flat_map, if◌then◌else◌}
 use Rattle.std.specs.List.{list_all}
 use Rattle.std.proofs.lemmas.Bool.Decides.{nat_tests}
-use Rattle.std.proofs.lemmas.Bool.{and_from, and_parts}
-use Rattle.std.proofs.lemmas.List.{length-replicate}
+use Rattle.std.proofs.lemmas.Bool.{and_from, and_parts, eq-eqb}
+use Rattle.std.proofs.lemmas.List.{length-replicate, drop-drop, drop-map}
 use Rattle.span_schema.specs.declared.table.Table.{Table}
 use Rattle.span_expr.specs.declared.expr.Expr.{Expr}
 use Rattle.span_expr.specs.Places.{reads_only}
@@ -26,15 +26,7 @@ use Rattle.span_planner.specs.Sizes.{Shape, item_shape, is_sized_join, is_sized_
 use Rattle.span_leaves.proofs.Extents.{all_dropped}
 use Rattle.span_planner.proofs.Planned.{part_len, widths_split, reads_of_len}
 use Rattle.span_planner.proofs.Queries.{layer_twice}
-use Rattle.span_leaves.proofs.Reading.{Covers, covers_part, covers_all, drop_more, covered}
-
-is_itself : (n k : ℕ) → n ≡ k → (n == k) ≡ true
-is_itself n k same = grind (arith, nat_tests)
-
-drop_map : {A B : Type 0} (g : A → B) (n : ℕ) (xs : List A) → drop n (map g xs) ≡ map g (drop n xs)
-drop_map g zero xs = refl
-drop_map g (suc n) [] = refl
-drop_map g (suc n) (x ∷ xs) = drop_map g n xs
+use Rattle.span_leaves.proofs.Reading.{Covers, covers_part, covers_all, covered}
 
 -- ---- the masks of leaves, by the numbers of the tables above them
 
@@ -131,7 +123,7 @@ module _ (masks : ℕ → List Bool) where
       sym (ap length masks_at.0 ∙ part_len rs at width fits),
       λ ms covers.
           subst (λ (l : List Bool). Covers (drop at rs) (l ++ ms)) (sym masks_at.0)
-          (covers_part width (drop at rs) ms (subst (λ (l : List Bool). Covers l ms) (sym (drop_more at width rs)) covers)),
+          (covers_part width (drop at rs) ms (subst (λ (l : List Bool). Covers l ms) (sym (drop-drop width at rs)) covers)),
     )
     item_read rs es at before is_left width (item.Derived t) same sized fits masks_at =
         let known = t.1.1 sized before masks_at in
@@ -141,7 +133,7 @@ module _ (masks : ℕ → List Bool) where
           is ∙ sym (length-replicate (read ((bare_plan t).top before)).width true),
           λ ms covers.
               subst (λ (n : ℕ). Covers (drop at rs) (replicate n true ++ ms)) is
-              (covers_all width (drop at rs) ms (subst (λ (l : List Bool). Covers l ms) (sym (drop_more at width rs)) covers)),
+              (covers_all width (drop at rs) ms (subst (λ (l : List Bool). Covers l ms) (sym (drop-drop width at rs)) covers)),
         )
 
     abbrev planned_joins : List (Join Witness) → List (Join Planned)
@@ -165,7 +157,7 @@ module _ (masks : ℕ → List Bool) where
         (subst (λ (n : ℕ). MasksAt (before + n) later) (counted rs es at j.is_left j.width (map_item bare_plan j.item)) (masks_rest before own later masks_at)) in
         let mask : List Bool = item_mask masks (item_above before j.item) in (
           and_from (join_within masks (record { is_left = j.is_left; item = item_above before j.item; width = j.width; on = j.on })) (list_all (join_within masks) (joins_above (before + count) (planned_joins js)))
-              (and_from (j.width == length mask) (item_within (item_above before j.item)) (is_itself j.width (length mask) one.1) one.0) rest.0,
+              (and_from (j.width == length mask) (item_within (item_above before j.item)) (eq-eqb j.width (length mask) one.1) one.0) rest.0,
           one.2 (flat_map (join_mask masks) (joins_above (before + count) (planned_joins js))) rest.1,
         )
 
@@ -182,7 +174,7 @@ module _ (masks : ℕ → List Bool) where
         let len : ℕ = leaf_len schema tables (table_of tables n) width p.joins in
         let at : ℕ = width + widths (take len p.joins) in
         let rs : List Bool = reads_of width p in
-        let same : drop len p.joins ≡ planned_joins (drop len b.joins) = drop_map (map_join bare_plan) len b.joins in
+        let same : drop len p.joins ≡ planned_joins (drop len b.joins) = drop-map (map_join bare_plan) len b.joins in
         let all : length rs ≡ width + widths p.joins = reads_of_len width p in
         let split : widths (take len p.joins) + widths (drop len p.joins) ≡ widths p.joins = widths_split len p.joins in
         let split_too : widths (drop len p.joins) ≡ widths (planned_joins (drop len b.joins)) = ap widths same in

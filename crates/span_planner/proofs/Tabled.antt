@@ -1,8 +1,10 @@
 -- The tables of the leaves of a plan are tables of the schema.
-use Rattle.std.proofs.Common.{◌≡◌, ◌∙◌, ℕ, ◌+◌, ◌==◌, suc, zero, Bool, true, false, List, [], ◌∷◌, ◌++◌, map, take, drop, length, refl, ap, sym, subst}
+use Rattle.std.proofs.Common.{◌≡◌, ◌∙◌, ℕ, ◌+◌, ◌==◌, suc, zero, Bool, true, false, List, [], ◌∷◌, map, take, drop, length, ap, sym, subst}
 use Rattle.std.specs.Prelude.{flat_map, if◌then◌else◌}
 use Rattle.std.specs.List.{AllByRecursion, list_all}
 use Rattle.std.proofs.lemmas.Bool.{and_parts}
+use Rattle.std.proofs.lemmas.List.{drop-map}
+use Rattle.span_value.proofs.Lists.{all_append}
 use Rattle.span_schema.specs.declared.table.Table.{Table}
 use Rattle.span_schema.specs.Numbers.{IsTable}
 use Rattle.span_expr.specs.declared.expr.Expr.{Expr}
@@ -22,15 +24,6 @@ use Rattle.span_planner.specs.Plans.{Planned, join_leaves, rest_leaves, leaves_f
 use Rattle.span_planner.specs.Sizes.{Shape, item_shape, is_sized_join, is_sized_block, query_shape, shape, is_sized}
 use Rattle.span_planner.proofs.Numbering.{table_is}
 use Rattle.span_planner.proofs.Queries.{layer_twice}
-
-all_append : {A : Type 0} (P : A → Type 0) (xs ys : List A) → AllByRecursion P xs → AllByRecursion P ys → AllByRecursion P (xs ++ ys)
-all_append P [] ys a b = b
-all_append P (x ∷ xs) ys a b = (a.0, all_append P xs ys a.1 b)
-
-drop_map : {A B : Type 0} (g : A → B) (n : ℕ) (xs : List A) → drop n (map g xs) ≡ map g (drop n xs)
-drop_map g zero xs = refl
-drop_map g (suc n) [] = refl
-drop_map g (suc n) (x ∷ xs) = drop_map g n xs
 
 module _ (schema : List Table) (tables : List ℕ) (are : AllByRecursion (IsTable schema) tables) where
   abbrev pub HasTables : Leaf → Type 0
@@ -105,7 +98,7 @@ module _ (schema : List Table) (tables : List ℕ) (are : AllByRecursion (IsTabl
       let t : ℕ = table_of tables n in
       let len : ℕ = leaf_len schema tables t (width_of schema t) (planned_joins b.joins) in (
         (table_is schema tables n are first_sized, joined_tabled t (width_of schema t) b.joins sized),
-        subst (λ (js : List (Join Planned)). AllByRecursion HasTables (rest_leaves schema tables (reads_of (width_of schema t) (map_block bare_plan b)) (pushable (map_block bare_plan b)) (width_of schema t + widths (take len (planned_joins b.joins))) js)) (sym (drop_map (map_join bare_plan) len b.joins))
+        subst (λ (js : List (Join Planned)). AllByRecursion HasTables (rest_leaves schema tables (reads_of (width_of schema t) (map_block bare_plan b)) (pushable (map_block bare_plan b)) (width_of schema t + widths (take len (planned_joins b.joins))) js)) (sym (drop-map (map_join bare_plan) len b.joins))
             (rest_tabled (reads_of (width_of schema t) (map_block bare_plan b)) (pushable (map_block bare_plan b)) (width_of schema t + widths (take len (planned_joins b.joins))) (drop len b.joins) (sized_drop len b.joins sized)),
       )
   from_tabled b (item.Derived t) first_sized sized =

@@ -3,6 +3,7 @@ use Rattle.std.proofs.Common.{◌≡◌, ℕ, suc, zero, Bool, true, false, List
 use Rattle.std.specs.Prelude.{not, if◌then◌else◌}
 use Rattle.std.specs.List.{AllByRecursion}
 use Rattle.std.specs.Option.{option_map}
+use Rattle.span_value.proofs.Lists.{all_weaker}
 use Rattle.span_expr.specs.declared.expr.Expr.{Expr}
 use Rattle.span_expr.specs.Meaning.{val}
 use Rattle.span_query.specs.declared.query.BoundQuery.TheOpen.{BoundQuery-F}
@@ -12,7 +13,7 @@ use Rattle.span_query.specs.Rows.{Row, OrFault, Rows, ◌>>=◌, value_of, singl
 use Rattle.span_query.specs.Groups.{are_equal, distinct, group_rows}
 use Rattle.span_query.specs.Sorting.{comes_before, insert_sorted, insertion_sort, sorted}
 use Rattle.span_query.specs.Meaning.{from, distinct_if, block_rows, limit_rows, query_rows}
-use Rattle.span_leaves.proofs.Joins.{all_map, all_append}
+use Rattle.span_leaves.proofs.Joins.{all_append}
 use Rattle.span_leaves.proofs.Pushing.{AreOfWidth}
 use Rattle.span_leaves.proofs.Narrowing.{IsWide, wide_filter}
 
@@ -103,5 +104,5 @@ wide_limit n (Some l) rows is = wide_take n l.rows (drop l.skip rows) (wide_drop
 pub wide_query : (tables : ℕ → Rows) (n : ℕ) (q : BoundQuery-F Rows) → AllByRecursion (λ (b : Block Rows). length b.outputs ≡ n) (q.first ∷ q.others) → IsWide n (query_rows tables q)
 wide_query tables n q same =
     wide_next n (concat_map (block_rows tables) (q.first ∷ q.others)) (λ rows. limit_rows q.limit (sorted q.order rows))
-    (wide_concat_map n (block_rows tables) (q.first ∷ q.others) (all_map (λ (b : Block Rows). length b.outputs ≡ n) (λ b. IsWide n (block_rows tables b)) (λ b is. subst (λ (k : ℕ). IsWide k (block_rows tables b)) is (wide_block tables b)) (q.first ∷ q.others) same))
+    (wide_concat_map n (block_rows tables) (q.first ∷ q.others) (all_weaker (λ (b : Block Rows). length b.outputs ≡ n) (λ b. IsWide n (block_rows tables b)) (λ b is. subst (λ (k : ℕ). IsWide k (block_rows tables b)) is (wide_block tables b)) (q.first ∷ q.others) same))
     (λ rows is. wide_limit n q.limit (sorted q.order rows) (wide_sorted n (comes_before q.order) rows is))

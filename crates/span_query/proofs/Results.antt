@@ -1,11 +1,9 @@
 -- Lists, or the fault: appended, and made of what each item of another gives.
-use Rattle.std.proofs.Common.{◌≡◌, List, [], ◌∷◌, ◌++◌, Some, None, refl, ap, sym, ◌∙◌, append_assoc}
+use Rattle.std.proofs.Common.{◌≡◌, List, [], ◌∷◌, ◌++◌, Some, None, refl, ap, sym, ◌∙◌, append_assoc, Option}
 use Rattle.std.specs.List.{AllByRecursion}
-use Rattle.span_query.specs.Rows.{OrFault, ◌>>=◌, append_results, concat_map}
-
-pub append-nil : {A : Type 0} (xs : List A) → xs ++ [] ≡ xs
-append-nil [] = refl
-append-nil (x ∷ xs) = ap (λ (l : List _). x ∷ l) (append-nil xs)
+use Rattle.std.proofs.lemmas.List.{append-nil}
+use Rattle.span_expr.specs.declared.expr.Expr.{Expr}
+use Rattle.span_query.specs.Rows.{OrFault, ◌>>=◌, append_results, concat_map, Row, filter_where, holds, keep_if}
 
 pub append_results-assoc : {A : Type 0} (a b c : OrFault (List A)) → append_results (append_results a b) c ≡ append_results a (append_results b c)
 append_results-assoc (Some xs) (Some ys) (Some zs) = ap (λ (l : List _). Some l) (append_assoc xs ys zs)
@@ -52,3 +50,13 @@ bind-assoc None f g = refl
 pub bind-Some : {A : Type 0} (a : OrFault A) → (a >>= (λ x. Some x)) ≡ a
 bind-Some (Some x) = refl
 bind-Some None = refl
+
+-- ---- the rows that a condition leaves
+
+pub filter_where-nil : (filter : Option Expr) → filter_where filter [] ≡ Some []
+filter_where-nil None = refl
+filter_where-nil (Some e) = refl
+
+pub filter_where-append : (filter : Option Expr) (xs ys : List Row) → filter_where filter (xs ++ ys) ≡ append_results (filter_where filter xs) (filter_where filter ys)
+filter_where-append None xs ys = refl
+filter_where-append (Some e) xs ys = concat_map-append (λ row. holds e row >>= (λ b. Some (keep_if row b))) xs ys

@@ -1,19 +1,16 @@
 -- A text is cut at its first comma.
-use Rattle.std.proofs.Common.{◌≡◌, ◌∙◌, ◌==◌, ◌+◌, ◌<◌, ℕ, suc, List, [], ◌∷◌, Bool, true, false, refl, ap, arith, get_or, length, take, drop}
+use Rattle.std.proofs.Common.{◌≡◌, ◌∙◌, ◌==◌, ◌+◌, ◌<◌, ℕ, suc, List, [], ◌∷◌, false, ap, arith, get_or, length, take, drop}
 use Rattle.std.specs.List.{All}
 use Rattle.std.proofs.Math.Seq.{split_at}
 use Rattle.std.proofs.lemmas.List.{get_or-take, get_or_default, length-take}
 use Rattle.std.proofs.lemmas.List.Splits.{slice_split_none, slice_split_at}
 use Rattle.memchr.specs.Find.{Nowhere, Passes, is_byte}
+use Rattle.std.proofs.lemmas.Bool.{false_from_ne_true}
 use Rattle.span_records.specs.Record.{pieces}
-
-not_true : (b : Bool) → (b ≡ true → ⊥) → b ≡ false
-not_true true h = absurd (h refl)
-not_true false h = refl
 
 -- no byte of a text that a search passed is a comma
 passed : (text : List ℕ) (n : ℕ) → Nowhere (Passes (is_byte 44) text) 0 n → (k : ℕ) → k < n → (get_or text k 0 == 44) ≡ false
-passed text n nowhere k l = not_true (get_or text k 0 == 44) (nowhere k (omega arith) l)
+passed text n nowhere k l = false_from_ne_true (get_or text k 0 == 44) (nowhere k (omega arith) l)
 
 pub no_comma : (text : List ℕ) → Nowhere (Passes (is_byte 44) text) 0 (length text) → pieces text ≡ text ∷ []
 no_comma text nowhere = slice_split_none (λ b. b == 44) text each

@@ -1,20 +1,16 @@
 -- The places of columns are those of columns.
 use Rattle.std.proofs.Common.{◌≡◌, ℕ, zero, suc, ◌<◌, ◌≤◌, ◌==◌, true, false, List, [], ◌∷◌, Option, Some, None, refl, map, length, get_or, arith}
 use Rattle.std.specs.List.{position_or_len, filter_map, cons_option}
-use Rattle.std.proofs.lemmas.List.Quantifiers.{position-Some}
 use Rattle.std.proofs.lemmas.List.Sums.{fails_before_first}
 use Rattle.std.proofs.lemmas.Grind.{common_steps}
 use Rattle.span_schema.specs.declared.table.Table.{Table}
 use Rattle.span_schema.specs.declared.table.Column.{Column}
 use Rattle.span_schema.specs.declared.table.KeyColumn.{KeyColumn}
-use Rattle.span_schema.specs.Tables.{is_same_name, column_place}
+use Rattle.span_schema.specs.Tables.{column_place}
 use Rattle.span_schema.specs.Numbers.{columns_of, key_in, table_at, key_places}
+use Rattle.span_schema.proofs.Names.{place_within}
 use Rattle.span_records.specs.Columns.{AreNamed, AreBelow}
 use Rattle.span_records.specs.Layouts.{AreWithin, LacksKey}
-
-place_within : (columns : List Column) (name : List ℕ) (place : ℕ) → column_place columns name ≡ Some place → place < length columns
-place_within [] name place is = cc is
-place_within (c ∷ columns) name place is = (position-Some (λ (c : Column). is_same_name c.name name) (c ∷ columns) place c is).0
 
 none_within : (columns : List Column) → AreWithin columns []
 none_within columns i lt = absurd (omega arith)

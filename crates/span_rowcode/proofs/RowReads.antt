@@ -1,7 +1,7 @@
 -- Reading cells.
 use Rattle.std.proofs.Common.{◌≡◌, ℕ, ℤ, zero, suc, ◌+◌, ◌-◌, ◌<◌, ◌≤◌, ◌^◌, List, [], ◌∷◌, ◌++◌, Bool, true, false, refl, sym, ◌∙◌, ap, subst, append_assoc, arith, length, length-append, length-drop, drop, take, get_or}
 use Rattle.std.specs.Int.{to_be_bytes, from_be_bytes, cast_unsigned, cast_signed, w32, w64}
-use Rattle.std.proofs.lemmas.List.{take-append-drop, drop-drop, length-take-le}
+use Rattle.std.proofs.lemmas.List.{take-append-drop, drop-drop, length-take-le, take_more, drop_more, drop_all}
 use Rattle.std.proofs.lemmas.Nat.{be_bytes_8, be_bytes_4, from_be_bytes-to_be_bytes_8, from_be_bytes-to_be_bytes_4}
 use Rattle.std.proofs.Math.Facts.{to_z-of_z, Fits-of_z}
 use Rattle.span_value.specs.declared.value.Value.{Value}
@@ -12,6 +12,7 @@ use Rattle.span_schema.specs.Fitting.{Fits, AreBytes}
 use Rattle.span_rowcode.specs.Rows.{bit, bytes_code, cell_code, row_code, AreCells, IsNoCell, IsCell}
 use Rattle.span_rowcode.specs.Cells.{HasBytes}
 use Rattle.span_value.proofs.Lists.{cons_inj}
+use Rattle.span_value.proofs.Numbers.{bytes_at}
 
 one_is_zero : (bs rest : List ℕ) → 1 ∷ bs ≡ 0 ∷ rest → ⊥
 one_is_zero bs rest e = let g = (cons_inj 1 0 bs rest e).0 in omega arith
@@ -30,11 +31,6 @@ pub bytes_take : (n : ℕ) (bs : List ℕ) → AreBytes bs → AreBytes (take n 
 bytes_take zero bs f = tt
 bytes_take (suc n) [] f = tt
 bytes_take (suc n) (b ∷ bs) f = (f.0, bytes_take n bs f.1)
-
-pub bytes_at : (bs : List ℕ) → AreBytes bs → (i : ℕ) → get_or bs i 0 < 256
-bytes_at [] f i = omega arith
-bytes_at (b ∷ bs) f zero = f.0
-bytes_at (b ∷ bs) f (suc i) = bytes_at bs f.1 i
 
 pub four : (bs : List ℕ) → 4 ≤ length bs → bs ≡ get_or bs 0 0 ∷ get_or bs 1 0 ∷ get_or bs 2 0 ∷ get_or bs 3 0 ∷ drop 4 bs
 four [] h = absurd (let l : 4 ≤ 0 = h in omega arith)
@@ -209,28 +205,12 @@ row_push : (vs : List Value) (v : Value) (rest : List ℕ) → row_code (vs ++ v
 row_push [] v rest = append_assoc (cell_code v) [] rest
 row_push (w ∷ vs) v rest = append_assoc (cell_code w) (row_code (vs ++ v ∷ [])) rest ∙ ap (λ (xs : List ℕ). cell_code w ++ xs) (row_push vs v rest) ∙ sym (append_assoc (cell_code w) (row_code vs) (cell_code v ++ rest))
 
-taken_more : (ks : List Kind) (i : ℕ) (d : Kind) → i < length ks → take (i + 1) ks ≡ take i ks ++ get_or ks i d ∷ []
-taken_more ks i d h = ap (λ (n : ℕ). take n ks) (let e : i + 1 ≡ suc i = omega arith in e) ∙ by_suc ks i d h
-  where
-    by_suc : (ks : List Kind) (i : ℕ) (d : Kind) → i < length ks → take (suc i) ks ≡ take i ks ++ get_or ks i d ∷ []
-    by_suc [] i d h = absurd (let l : i < 0 = h in omega arith)
-    by_suc (k ∷ ks) zero d h = refl
-    by_suc (k ∷ ks) (suc i) d h = ap (λ (xs : List Kind). k ∷ xs) (by_suc ks i d (omega arith))
-
-dropped_more : (ks : List Kind) (i : ℕ) (d : Kind) → i < length ks → drop i ks ≡ get_or ks i d ∷ drop (i + 1) ks
-dropped_more ks i d h = by_suc ks i d h ∙ ap (λ (n : ℕ). get_or ks i d ∷ drop n ks) (let e : suc i ≡ i + 1 = omega arith in e)
-  where
-    by_suc : (ks : List Kind) (i : ℕ) (d : Kind) → i < length ks → drop i ks ≡ get_or ks i d ∷ drop (suc i) ks
-    by_suc [] i d h = absurd (let l : i < 0 = h in omega arith)
-    by_suc (k ∷ ks) zero d h = refl
-    by_suc (k ∷ ks) (suc i) d h = by_suc ks i d (omega arith)
-
 pub cells_more : (ks : List Kind) (bs : List ℕ) (mid after : List Value) (i at w : ℕ) (d : Kind) (v : Value) → i < length ks → IsCells (take i ks) bs mid at → IsCell (get_or ks i d) (drop at bs) v w
     → after ≡ mid ++ v ∷ [] → IsCells (take (i + 1) ks) bs after (at + w)
 cells_more ks bs mid after i at w d v h t c e =
     let P : List Kind → Type 0 = λ ls. IsCells ls bs after (at + w) in
     let Q : List Value → Type 0 = λ vs. IsCells (take i ks ++ get_or ks i d ∷ []) bs vs (at + w) in
-    subst P (sym (taken_more ks i d h)) (subst Q (sym e) (record {
+    subst P (sym (take_more ks i d h)) (subst Q (sym e) (record {
       are = cells_push (take i ks) mid (get_or ks i d) v t.are c.fits;
       code = t.code ∙ ap (λ (xs : List ℕ). row_code mid ++ xs) (c.code ∙ ap (λ (xs : List ℕ). cell_code v ++ xs) (drop-drop w at bs)) ∙ sym (row_push mid v (drop (at + w) bs));
       within = omega (arith, t.within, c.within, length-drop at bs);
@@ -247,7 +227,7 @@ no_rest k ks more w g small n (v ∷ vs) f e = n.none vs f.1 (one_cell k w v mor
 pub cells_none : (ks : List Kind) (bs : List ℕ) (i at : ℕ) (d : Kind) → i < length ks → (IsNoCells (drop i ks) (drop at bs) → IsNoCells ks bs) → IsNoCell (get_or ks i d) (drop at bs) → IsNoCells ks bs
 cells_none ks bs i at d h back n =
     let P : List Kind → Type 0 = λ ls. IsNoCells ls (drop at bs) in
-    back (subst P (sym (dropped_more ks i d h)) (record { none = no_first (get_or ks i d) (drop (i + 1) ks) (drop at bs) n }))
+    back (subst P (sym (drop_more ks i d h)) (record { none = no_first (get_or ks i d) (drop (i + 1) ks) (drop at bs) n }))
 
 pub cells_back : (ks : List Kind) (bs : List ℕ) (i at w : ℕ) (d : Kind) (v : Value) → i < length ks → length bs < 2 ^ 32 → (IsNoCells (drop i ks) (drop at bs) → IsNoCells ks bs) → IsCell (get_or ks i d) (drop at bs) v w
     → IsNoCells (drop (i + 1) ks) (drop (at + w) bs) → IsNoCells ks bs
@@ -256,13 +236,7 @@ cells_back ks bs i at w d v h small back c n =
     let Q : List ℕ → Type 0 = λ xs. IsNoCells (get_or ks i d ∷ drop (i + 1) ks) xs in
     let here : drop at bs ≡ cell_code v ++ drop (at + w) bs = c.code ∙ ap (λ (xs : List ℕ). cell_code v ++ xs) (drop-drop w at bs) in
     let short : length (cell_code v ++ drop (at + w) bs) < 2 ^ 32 = omega (arith, ap (length {A = ℕ}) here, length-drop at bs, small) in
-    back (subst P (sym (dropped_more ks i d h)) (subst Q (sym here) (record { none = no_rest (get_or ks i d) (drop (i + 1) ks) (drop (at + w) bs) v c.fits short n })))
-
-dropped_all : {X : Type 0} (bs : List X) (at : ℕ) → length bs ≤ at → drop at bs ≡ []
-dropped_all [] zero h = refl
-dropped_all [] (suc at) h = refl
-dropped_all (b ∷ bs) zero h = absurd (let l : suc (length bs) ≤ 0 = h in omega arith)
-dropped_all (b ∷ bs) (suc at) h = dropped_all bs at (omega arith)
+    back (subst P (sym (drop_more ks i d h)) (subst Q (sym here) (record { none = no_rest (get_or ks i d) (drop (i + 1) ks) (drop (at + w) bs) v c.fits short n })))
 
 left_over : (bs : List ℕ) (at : ℕ) → at < length bs → (vs : List Value) → AreCells [] vs → drop at bs ≡ row_code vs → ⊥
 left_over bs at h [] f e = let l : length (drop at bs) ≡ 0 = ap length e in omega (arith, length-drop at bs)
@@ -271,7 +245,7 @@ left_over bs at h (v ∷ vs) f e = f
 pub cells_left : (ks : List Kind) (bs : List ℕ) (i at : ℕ) → length ks ≤ i → at < length bs → (IsNoCells (drop i ks) (drop at bs) → IsNoCells ks bs) → IsNoCells ks bs
 cells_left ks bs i at h k back =
     let P : List Kind → Type 0 = λ ls. IsNoCells ls (drop at bs) in
-    back (subst P (sym (dropped_all ks i h)) (record { none = left_over bs at k }))
+    back (subst P (sym (drop_all i ks h)) (record { none = left_over bs at k }))
 
 -- a packed row is that of one row
 pub one_row : (ks : List Kind) (vs ws : List Value) → AreCells ks vs → AreCells ks ws → length (row_code vs) < 2 ^ 32 → row_code vs ≡ row_code ws → vs ≡ ws

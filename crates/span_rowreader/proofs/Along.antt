@@ -2,6 +2,7 @@
 use Rattle.std.proofs.Common.{◌≡◌, ℕ, suc, ◌+◌, ◌-◌, ◌<◌, ◌≤◌, ◌==◌, Bool, true, false, List, [], ◌∷◌, ◌++◌, Option, Some, None, refl, sym, ◌∙◌, ap, subst, append_assoc, arith, length, length-drop, drop, get_or}
 use Rattle.std.proofs.lemmas.Bool.{eqb-true, eqb-false, eq-eqb, ne_eqb}
 use Rattle.std.proofs.lemmas.List.{drop_more, drop-drop, drop_all}
+use Rattle.std.proofs.lemmas.Option.{same_Some}
 use Rattle.span_value.specs.declared.value.Value.{Value}
 use Rattle.span_schema.specs.declared.table.Table.{Table}
 use Rattle.span_schema.specs.declared.layout.KeyPart.{KeyPart}
@@ -13,7 +14,6 @@ use Rattle.span_keycode.specs.Roots.{IsSkip}
 use Rattle.span_keycode.proofs.Levels.{levels_at}
 use Rattle.span_keycode.proofs.LevelLaws.{AreLevels}
 use Rattle.span_keycode.proofs.Going.{last_or, last_path, tables_of, tables_back, levels_on}
-use Rattle.span_keycode.proofs.KeyTables.{byte_at}
 use Rattle.span_mutate.specs.declared.row.TableRow.{TableRow}
 use Rattle.span_mutate.specs.Typed.{IsTyped}
 use Rattle.span_shard.specs.Rows as shard
@@ -190,9 +190,6 @@ pub record AtEnd (schema : List Table) (n m : ℕ) (rest : List ℕ) : Type 0 wh
   pub whole : rest ≡ [] → m ≡ n
   pub own : m ≡ n → rest ≡ []
 
-some_is : (a b : ℕ) → Some a ≡ Some b → a ≡ b
-some_is a b e = cc
-
 pub at_end : (schema : List Table) (n m : ℕ) (rest : List ℕ) → StepsLeft schema n m [] rest → AtEnd schema n m rest
 at_end schema n m rest left = by_columns left.columns left.values left.are left.fit left.code
   where
@@ -201,7 +198,7 @@ at_end schema n m rest left = by_columns left.columns left.values left.are left.
     by_path [] are own same code = by_levels left.levels code left.last same
       where
         by_levels : (ls : List Level) → rest ≡ code_of schema ls → last_or left.above (tables_of ls) ≡ Some m → (m ≡ n → tables_of ls ≡ []) → AtEnd schema n m rest
-        by_levels [] code last same = record { whole = λ none. some_is m n (sym last ∙ own); own = λ is. code }
+        by_levels [] code last same = record { whole = λ none. same_Some m n (sym last ∙ own); own = λ is. code }
         by_levels (l ∷ ls) code last same = record {
           whole = λ none. absurd (let f : [] ≡ l.table ∷ (tuple_code (own_key_columns schema l.table) l.values ++ code_of schema ls) = sym none ∙ code in cc);
           own = λ is. absurd (let f : l.table ∷ tables_of ls ≡ [] = same is in cc);
@@ -217,10 +214,10 @@ pub nothing_off : (table : ℕ) (bytes : List ℕ) → length bytes ≡ 0 → Is
 nothing_off table bytes none = record { none = λ more e. let l : length bytes ≡ suc (length more) = ap length e in omega (arith, none) }
 
 pub other_off : (table : ℕ) (bytes : List ℕ) → 0 < length bytes → (get_or bytes 0 0 ≡ table → ⊥) → IsOffNumber table bytes
-other_off table bytes some other = record { none = λ more e. other (heads (get_or bytes 0 0) table (drop 1 bytes) more (sym (byte_at bytes 0 some) ∙ e)).0 }
+other_off table bytes some other = record { none = λ more e. other (heads (get_or bytes 0 0) table (drop 1 bytes) more (sym (drop_more bytes 0 0 some) ∙ e)).0 }
 
 pub number_taken : (table : ℕ) (bytes : List ℕ) → 0 < length bytes → get_or bytes 0 0 ≡ table → IsNumberTaken table bytes 1
-number_taken table bytes some is = record { one = refl; first = byte_at bytes 0 some ∙ ap (λ (b : ℕ). b ∷ drop 1 bytes) is }
+number_taken table bytes some is = record { one = refl; first = drop_more bytes 0 0 some ∙ ap (λ (b : ℕ). b ∷ drop 1 bytes) is }
 
 -- ---- step by step
 

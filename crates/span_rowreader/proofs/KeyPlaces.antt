@@ -1,11 +1,11 @@
 -- The columns of a table's key: each has a place of its own, and they begin with those of the root table's key.
-use Rattle.std.proofs.Common.{◌≡◌, ℕ, suc, ◌+◌, ◌-◌, ◌<◌, ◌==◌, Bool, true, false, ◌||◌, List, [], ◌∷◌, ◌++◌, Option, Some, None, is_none, refl, sym, ◌∙◌, ap, subst, arith, length, get_or, take, append_assoc, inl, inr}
+use Rattle.std.proofs.Common.{◌≡◌, ℕ, suc, ◌+◌, ◌-◌, ◌<◌, ◌==◌, Bool, true, false, ◌||◌, List, [], ◌∷◌, ◌++◌, Option, Some, None, is_none, refl, sym, ◌∙◌, ap, subst, arith, length, get_or, take, append_assoc, inl, inr, add-sub_cancel}
 use Rattle.std.specs.Prelude.{slice_get}
 use Rattle.std.specs.List.{AllByRecursion, cons_option}
 use Rattle.std.specs.Option.{option_map}
 use Rattle.std.proofs.lemmas.Bool.{or_parts}
 use Rattle.std.proofs.lemmas.Bool.Decides.{nat_tests}
-use Rattle.std.proofs.lemmas.List.{append-nil}
+use Rattle.std.proofs.lemmas.List.{append-nil, get_or_append_left}
 use Rattle.std.proofs.lemmas.List.Folds.{find_at}
 use Rattle.std.proofs.lemmas.List.Quantifiers.{position-Some}
 use Rattle.std.proofs.lemmas.Option.{cond_some, slice_get_cases}
@@ -24,14 +24,11 @@ use Rattle.span_schema.specs.Numbers.{IsTable, columns_in, key_in, key_at, own_k
 use Rattle.span_schema.proofs.Judged.{passes_at}
 use Rattle.span_schema.proofs.Paths.{parent_before}
 use Rattle.span_schema.proofs.Numbered.{path_has, root_number}
-use Rattle.span_keycode.proofs.Levels.{by_parents, key_split, key_root, back}
+use Rattle.span_schema.proofs.Names.{place_within}
+use Rattle.span_keycode.proofs.Levels.{by_parents, key_split, key_root}
 use Rattle.span_keycode.proofs.LevelLaws.{path_child, path_root}
 
 -- ---- the places of named columns
-
-place_within : (cs : List Column) (name : List ℕ) (p : ℕ) → column_place cs name ≡ Some p → p < length cs
-place_within [] name p at = absurd (let e : None ≡ Some p = at in cc)
-place_within (c ∷ cs) name p at = (position-Some (λ (c : Column). is_same_name c.name name) (c ∷ cs) p c at).0
 
 -- a column that has a place has a type
 typed_at : (cs : List Column) (name : List ℕ) (p : ℕ) → column_place cs name ≡ Some p → (type : ColumnType) × (type_named cs name ≡ Some type)
@@ -160,10 +157,6 @@ has_key_columns schema rules t within = elim (slice_get_cases schema (t - 1)).1 
 abbrev pub root_place : List Table → ℕ → ℕ
 root_place schema i = get_or (path_at schema i) 0 0
 
-first_of_front : (ms ns : List ℕ) → 0 < length ms → get_or (ms ++ ns) 0 0 ≡ get_or ms 0 0
-first_of_front [] ns h = absurd (let less : 0 < 0 = h in omega arith)
-first_of_front (m ∷ ms) ns h = refl
-
 -- the root table has no parent, and the key of the table at a place begins with its key
 pub record BeginsWithRoot (schema : List Table) (i : ℕ) : Type 0 where
   pub alone : parent_at schema (root_place schema i - 1) ≡ None
@@ -178,7 +171,7 @@ root_key_at schema rules = by_parents schema (λ i. i < length schema → Begins
       where
         by_case : (o : Option ℕ) → parent_at schema i ≡ o → BeginsWithRoot schema i
         by_case None e =
-            let here : root_place schema i - 1 ≡ i = ap (λ (ns : List ℕ). get_or ns 0 0 - 1) (path_root schema i e) ∙ back i in
+            let here : root_place schema i - 1 ≡ i = ap (λ (ns : List ℕ). get_or ns 0 0 - 1) (path_root schema i e) ∙ add-sub_cancel i 1 in
             record {
               alone = ap (parent_at schema) here ∙ e;
               rest = [];
@@ -187,7 +180,7 @@ root_key_at schema rules = by_parents schema (λ i. i < length schema → Begins
         by_case (Some p) e =
             let less : p < i = parent_before schema i p e in
             let up = again p e (omega arith) in
-            let same : root_place schema i ≡ root_place schema p = ap (λ (ns : List ℕ). get_or ns 0 0) (path_child schema i p e) ∙ first_of_front (path_at schema p) ((i + 1) ∷ []) (path_has schema p) in
+            let same : root_place schema i ≡ root_place schema p = ap (λ (ns : List ℕ). get_or ns 0 0) (path_child schema i p e) ∙ get_or_append_left (path_at schema p) ((i + 1) ∷ []) 0 0 (path_has schema p) in
             record {
               alone = ap (λ (j : ℕ). parent_at schema (j - 1)) same ∙ up.alone;
               rest = up.rest ++ own_key_at schema i;

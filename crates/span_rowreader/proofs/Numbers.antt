@@ -5,6 +5,7 @@ use Rattle.std.specs.Int.{to_be_bytes, from_be_bytes, w64}
 use Rattle.std.proofs.lemmas.Bool.Decides.{nat_tests}
 use Rattle.std.proofs.lemmas.List.{length-map, get_or-map}
 use Rattle.std.proofs.lemmas.Nat.{be_bytes_8}
+use Rattle.std.proofs.Math.Nat.{eq-sub_of_add-eq}
 use Rattle.span_value.specs.declared.value.Value.TheVariants.{Int}
 use Rattle.span_value.specs.declared.value.Kind.{Kind}
 use Rattle.span_value.specs.declared.value.Kind.TheVariants as kind
@@ -38,9 +39,6 @@ word_from a b c d e f g h n bs pa pb pc pd pe pf pg ph ea eb ec ed ee ef eg eh =
 flipped_sum : (bs : List ℕ) (i : ℕ) → i < length bs → get_or bs i 0 < 256 → get_or (complement bs) i 0 + get_or bs i 0 ≡ 255
 flipped_sum bs i less small = omega (arith, flipped_at bs i less small)
 
-less_left : (m n k : ℕ) → m + n ≡ k → m ≡ k - n
-less_left m n k e = omega arith
-
 word_turned : (bs : List ℕ) (n : ℕ) → length bs ≡ 8 → ((i : ℕ) → get_or bs i 0 < 256) → n ≡ from_be_bytes w64 bs → complement bs ≡ to_be_bytes w64 (18446744073709551615 - n)
 word_turned bs n len small e =
     let sum : from_be_bytes w64 (complement bs) + from_be_bytes w64 bs ≡ 18446744073709551615 =
@@ -49,7 +47,7 @@ word_turned bs n len small e =
     (flipped_sum bs 0 (omega arith) (small 0)) (flipped_sum bs 1 (omega arith) (small 1)) (flipped_sum bs 2 (omega arith) (small 2)) (flipped_sum bs 3 (omega arith) (small 3))
     (flipped_sum bs 4 (omega arith) (small 4)) (flipped_sum bs 5 (omega arith) (small 5)) (flipped_sum bs 6 (omega arith) (small 6)) (flipped_sum bs 7 (omega arith) (small 7)) in
     sym (be_bytes_8 (complement bs) (18446744073709551615 - n) (length-map bs flipped ∙ len) (flipped_small bs small)
-    (ap (λ (m : ℕ). 18446744073709551615 - m) e ∙ sym (less_left (from_be_bytes w64 (complement bs)) (from_be_bytes w64 bs) 18446744073709551615 sum)))
+    (ap (λ (m : ℕ). 18446744073709551615 - m) e ∙ sym (eq-sub_of_add-eq (from_be_bytes w64 (complement bs)) (from_be_bytes w64 bs) sum)))
 
 pub word_descending : (way : Bool) (bs : List ℕ) (n : ℕ) → way ≡ true → length bs ≡ 8 → ((i : ℕ) → get_or bs i 0 < 256) → n ≡ from_be_bytes w64 bs
     → in_direction way bs ≡ to_be_bytes w64 (18446744073709551615 - n)

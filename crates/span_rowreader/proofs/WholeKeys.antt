@@ -1,8 +1,8 @@
 -- The table of a coded key by the key's length.
-use Rattle.std.proofs.Common.{◌≡◌, ◌==◌, ◌∙◌, ℕ, zero, suc, ◌+◌, ◌-◌, ◌*◌, ◌%◌, ◌<◌, ◌≤◌, Bool, true, false, ◌&&◌, List, [], ◌∷◌, ◌++◌, Option, Some, None, length, length-append, take, drop, get_or, refl, sym, ap, subst, arith}
+use Rattle.std.proofs.Common.{◌≡◌, ◌==◌, ◌∙◌, ℕ, ◌+◌, ◌-◌, ◌*◌, ◌%◌, ◌<◌, ◌≤◌, Bool, true, false, ◌&&◌, List, [], ◌∷◌, ◌++◌, Option, Some, None, length, length-append, take, drop, get_or, refl, sym, ap, subst, arith}
 use Rattle.std.specs.List.{list_all}
 use Rattle.std.proofs.Math.Seq.{get_or-append_seam}
-use Rattle.std.proofs.lemmas.Bool.{eqb-true, eqb-false, ne_eqb}
+use Rattle.std.proofs.lemmas.Bool.{eqb-true, eqb-false, ne_eqb, and_parts}
 use Rattle.std.proofs.lemmas.List.Folds.{list_all-append}
 use Rattle.span_value.specs.declared.value.Value.{Value}
 use Rattle.span_value.specs.declared.value.Value.TheVariants as value
@@ -16,7 +16,7 @@ use Rattle.span_keycode.specs.Coding.{Fits, AreFit, plain, column_code, tuple_co
 use Rattle.span_keycode.specs.Keys.{IsKey, code_of, key_code, values_len}
 use Rattle.span_keycode.proofs.Levels.{key_root, key_split, levels_at}
 use Rattle.span_keycode.proofs.LevelLaws.{code_child, code_root, fit_length, fit_split}
-use Rattle.span_keycode.proofs.CodeLengths.{key_len}
+use Rattle.span_keycode.proofs.CodeLengths.{key_len, values_split}
 use Rattle.span_keycode.proofs.Lengths.{length_directed}
 use Rattle.span_keycode.proofs.RootRows.{root_split}
 use Rattle.span_rowreader.specs.declared.whole_key.WholeKey.{WholeKey}
@@ -43,16 +43,12 @@ one_fewer (value.Str bs) fits = absurd fits
 one_fewer (value.Bytes bs) fits = absurd fits
 one_fewer (value.Bool b) fits = absurd fits
 
-both_true : (a b : Bool) → (a && b) ≡ true → (a ≡ true) × (b ≡ true)
-both_true true b e = (refl, e)
-both_true false b e = absurd (let f : false ≡ true = e in cc)
-
 numbers_fewer : (cs : List KeyPart) (vs : List Value) → list_all is_number cs ≡ true → AreFit cs vs → IsFewer (values_len vs) (9 * length cs)
 numbers_fewer [] [] all fit = record { nulls = 0; is = omega arith }
 numbers_fewer [] (v ∷ vs) all fit = absurd fit
 numbers_fewer (c ∷ cs) [] all fit = absurd fit
 numbers_fewer (c ∷ cs) (v ∷ vs) all fit =
-    let both = both_true (is_number c) (list_all is_number cs) all in
+    let both = and_parts (is_number c) (list_all is_number cs) all in
     let P : Kind → Type 0 = λ k. Fits k v in
     let one = one_fewer v (subst P (number_kind c.kind both.0) fit.0) in
     let more = numbers_fewer cs vs both.1 fit.1 in
@@ -83,11 +79,6 @@ tuple_len [] (v ∷ vs) fit = absurd fit
 tuple_len (c ∷ cs) [] fit = absurd fit
 tuple_len (c ∷ cs) (v ∷ vs) fit = omega (arith, length-append (column_code c v) (tuple_code cs vs), length_directed c.desc (plain v), tuple_len cs vs fit.1)
 
-values_split : (k : ℕ) (vs : List Value) → values_len (take k vs) + values_len (drop k vs) ≡ values_len vs
-values_split zero vs = omega arith
-values_split (suc k) [] = omega arith
-values_split (suc k) (v ∷ vs) = omega (arith, values_split k vs)
-
 module _ (schema : List Table) (rules : MeetsRules schema) (n : ℕ) (vs : List Value) (is : IsKey schema n vs) (numbers : list_all is_number (key_columns schema n) ≡ true) (full : values_len vs ≡ 9 * length (key_columns schema n)) where
   within : n - 1 < length schema
   within = omega (arith, is.0.0, is.0.1)
@@ -115,7 +106,7 @@ module _ (schema : List Table) (rules : MeetsRules schema) (n : ℕ) (vs : List 
           let P : List KeyPart → Type 0 = λ cs. AreFit cs vs in
           let fit = fit_split above own vs (subst P split is.1) in
           let each : (list_all is_number above && list_all is_number own) ≡ true = sym (list_all-append is_number above own) ∙ ap (list_all is_number) (sym split) ∙ numbers in
-          let both = both_true (list_all is_number above) (list_all is_number own) each in
+          let both = and_parts (list_all is_number above) (list_all is_number own) each in
           let first = numbers_fewer above (take (length above) vs) both.0 fit.0 in
           let last = numbers_fewer own (drop (length above) vs) both.1 fit.1 in
           let columns : length (key_columns schema n) ≡ length above + length own = ap (length {A = KeyPart}) split ∙ length-append above own in

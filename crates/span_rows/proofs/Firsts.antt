@@ -45,7 +45,7 @@ distinct-more (x ∷ rows) y =
 
 -- ---- the keys of a set of rows
 
-any_reversed : (keys : List Row) (y : Row) → list_any (are_equal y) keys ≡ contains_row keys y
+pub any_reversed : (keys : List Row) (y : Row) → list_any (are_equal y) keys ≡ contains_row keys y
 any_reversed [] y = refl
 any_reversed (x ∷ keys) y = ap (λ b. b || list_any (are_equal y) keys) (are_equal-reversed y x) ∙ ap (λ b. are_equal x y || b) (any_reversed keys y)
 

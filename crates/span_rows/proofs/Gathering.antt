@@ -1,41 +1,24 @@
 -- Lists gathered by a loop: what was gathered so far, and what the rest gives.
 use Rattle.std.proofs.Common.{◌≡◌, ℕ, ◌+◌, ◌<◌, suc, length, get_or, take, drop, List, [], ◌∷◌, ◌++◌, Some, None, Err, refl, ap, sym, ◌∙◌, append_assoc, replicate, arith}
-use Rattle.std.proofs.Math.Seq.{drop-cons, take-suc}
+use Rattle.std.proofs.Math.Seq.{take-suc}
 use Rattle.std.proofs.lemmas.List.{replicate-append-replicate}
+use Rattle.span_value.proofs.Lists.{drop_read}
 use Rattle.span_expr.specs.declared.cell.Failure.{Failure}
 use Rattle.span_expr.specs.declared.cell.Failure.TheVariants.{Fault, OutOfMemory}
 use Rattle.span_query.specs.Rows.{OrFault, ◌>>=◌, append_results, concat_map}
+use Rattle.span_query.proofs.Results.{append_results-assoc, nil-append_results}
 use Rattle.span_rows.specs.Answers.{Gives, Adds}
 
 pub replicate-more : {A : Type 0} (front : List A) (x : A) (n : ℕ) → (front ++ replicate n x) ++ x ∷ [] ≡ front ++ replicate (n + 1) x
 replicate-more front x n = append_assoc front (replicate n x) (x ∷ []) ∙ ap (λ (l : List _). front ++ l) (replicate-append-replicate n 1 x)
-
-append_results-assoc : {A : Type 0} (a b c : OrFault (List A)) → append_results (append_results a b) c ≡ append_results a (append_results b c)
-append_results-assoc (Some xs) (Some ys) (Some zs) = ap (λ (l : List _). Some l) (append_assoc xs ys zs)
-append_results-assoc (Some xs) (Some ys) None = refl
-append_results-assoc (Some xs) None c = refl
-append_results-assoc None b c = refl
-
-pub nil-append_results : {A : Type 0} (a : OrFault (List A)) → append_results (Some []) a ≡ a
-nil-append_results (Some xs) = refl
-nil-append_results None = refl
-
-pub concat_map-append : {A B : Type 0} (f : A → OrFault (List B)) (xs ys : List A) → concat_map f (xs ++ ys) ≡ append_results (concat_map f xs) (concat_map f ys)
-concat_map-append f [] ys = sym (nil-append_results (concat_map f ys))
-concat_map-append f (x ∷ xs) ys = ap (append_results (f x)) (concat_map-append f xs ys) ∙ sym (append_results-assoc (f x) (concat_map f xs) (concat_map f ys))
 
 -- the items up to a place, and the one there
 pub taken_more : {A : Type 0} (xs : List A) (k : ℕ) (x : A) → k < length xs → x ≡ get_or xs k x → take k xs ++ x ∷ [] ≡ take (k + 1) xs
 taken_more xs k x below is =
     ap (λ (y : _). take k xs ++ y ∷ []) is ∙ sym (take-suc xs k x below) ∙ ap (λ (n : ℕ). take n xs) {x = suc k} {y = k + 1} (omega arith)
 
--- the item at a place, and the rest after it
-pub drop_at : {A : Type 0} (xs : List A) (k : ℕ) (x : A) → k < length xs → x ≡ get_or xs k x → drop k xs ≡ x ∷ drop (k + 1) xs
-drop_at xs k x below is =
-    drop-cons xs k x below ∙ ap (λ y. y ∷ drop (suc k) xs) (sym is) ∙ ap (λ (n : ℕ). x ∷ drop n xs) {x = suc k} {y = k + 1} (omega arith)
-
 pub gathered_at : {A B : Type 0} (f : A → OrFault (List B)) (xs : List A) (k : ℕ) (x : A) → k < length xs → x ≡ get_or xs k x → concat_map f (drop k xs) ≡ append_results (f x) (concat_map f (drop (k + 1) xs))
-gathered_at f xs k x below is = ap (concat_map f) (drop_at xs k x below is)
+gathered_at f xs k x below is = ap (concat_map f) (drop_read xs k x below is)
 
 pub ruleset row_steps = (replicate-more)
 

@@ -4,10 +4,10 @@ use denote.Ref.{Bor}
 use Rattle.std.specs.Prelude.{slice_get, option_map}
 use Rattle.std.proofs.lemmas.List.{length-map, map-append, take-map, drop-map, get_or-map}
 use Rattle.std.proofs.lemmas.Option.{slice_get-map}
+use Rattle.span_value.proofs.Lists.{drop_read}
 use Rattle.span_query.specs.Rows.{Row}
 use Rattle.span_query.specs.Sorting.{insert_sorted}
 use Rattle.span_rows.specs.LentRows.{lent_rows}
-use Rattle.span_rows.proofs.Gathering.{drop_at}
 use Rattle.span_rows.proofs.Gathering.{taken_more}
 
 pub lent_count : (xs : List (Bor Row)) → length (lent_rows xs) ≡ length xs
@@ -33,7 +33,7 @@ lent_part xs skip count =
 
 module _ {A : Type 0} (lt : A → A → Bool) (row : A) (xs : List A) (k : ℕ) (x : A) (below : k < length xs) (is : x ≡ get_or xs k x) where
   next_is : take k xs ++ insert_sorted lt row (drop k xs) ≡ take k xs ++ cond (lt x row) (x ∷ insert_sorted lt row (drop (k + 1) xs)) (row ∷ x ∷ drop (k + 1) xs)
-  next_is = ap (λ (l : List A). take k xs ++ insert_sorted lt row l) (drop_at xs k x below is)
+  next_is = ap (λ (l : List A). take k xs ++ insert_sorted lt row l) (drop_read xs k x below is)
 
   pub passed_one : insert_sorted lt row xs ≡ take k xs ++ insert_sorted lt row (drop k xs) → lt x row ≡ true → insert_sorted lt row xs ≡ take (k + 1) xs ++ insert_sorted lt row (drop (k + 1) xs)
   passed_one so_far before =
@@ -46,4 +46,4 @@ module _ {A : Type 0} (lt : A → A → Bool) (row : A) (xs : List A) (k : ℕ) 
   stopped_here so_far after =
       so_far ∙ next_is
       ∙ ap (λ (b : Bool). take k xs ++ cond b (x ∷ insert_sorted lt row (drop (k + 1) xs)) (row ∷ x ∷ drop (k + 1) xs)) after
-      ∙ ap (λ (l : List A). take k xs ++ row ∷ l) (sym (drop_at xs k x below is))
+      ∙ ap (λ (l : List A). take k xs ++ row ∷ l) (sym (drop_read xs k x below is))

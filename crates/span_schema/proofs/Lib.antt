@@ -3,3 +3,4 @@ pub mod Children
 pub mod Judged
 pub mod Prefixes
 pub mod Numbered
+pub mod Names

@@ -1,7 +1,7 @@
 -- Typed keys have codings.
-use Rattle.std.proofs.Common.{◌≡◌, ℕ, ◌≤◌, Bool, true, false, ◌&&◌, cond, List, [], ◌∷◌, Option, Some, None, length, refl, ap, ◌∙◌, arith}
+use Rattle.std.proofs.Common.{◌≡◌, ℕ, Bool, true, ◌&&◌, cond, List, [], ◌∷◌, Option, Some, None, length, refl, ap, ◌∙◌}
 use Rattle.std.specs.Prelude.{nat_lt}
-use Rattle.std.proofs.lemmas.Bool.Decides.{nat_tests}
+use Rattle.std.proofs.lemmas.Bool.{le-ltb}
 use Rattle.span_value.specs.declared.value.Value.{Value}
 use Rattle.span_value.specs.declared.value.Value.TheVariants.{Null, Int, Str, Bytes, Bool as Flag}
 use Rattle.span_value.specs.declared.value.Kind.{Kind}
@@ -41,14 +41,11 @@ fit_kinds [] (v ∷ vs) h = absurd h
 fit_kinds (c ∷ cs) [] h = absurd h
 fit_kinds (c ∷ cs) (v ∷ vs) h = ap (λ (b : Bool). b && are_of_kinds cs vs) (fits_kind c.kind v h.0) ∙ fit_kinds cs vs h.1
 
-not_over : (n m : ℕ) → n ≤ m → nat_lt m n ≡ false
-not_over n m h = grind (arith, nat_tests)
-
 -- nothing refuses a key that has a coding
 pub coded_no_cause : (tables : List Table) (n : ℕ) (vs : List Value) → IsCodedKey tables n vs → encode_cause tables n vs ≡ None
 coded_no_cause tables n vs k =
     ap (λ (b : Bool). cond b (cond (nat_lt longest_key (length (key_code tables n vs))) (Some KeyTooLong) None) (Some WrongType)) (fit_kinds (key_columns tables n) vs k.0.1)
-    ∙ ap (λ (b : Bool). cond b (Some KeyTooLong) None) (not_over (length (key_code tables n vs)) longest_key k.1)
+    ∙ ap (λ (b : Bool). cond b (Some KeyTooLong) None) (le-ltb longest_key (length (key_code tables n vs)) k.1)
 
 pub never_refused : (tables : List Table) (n : ℕ) (vs : List Value) (why : Refusal) → IsCodedKey tables n vs → encode_cause tables n vs ≡ Some why → ⊥
 never_refused tables n vs why k e = let f : None ≡ Some why = sym_to (encode_cause tables n vs) (coded_no_cause tables n vs k) e in cc

@@ -5,9 +5,11 @@ use Rattle.std.specs.Option.{option_map}
 use Rattle.std.specs.declared.cmp.Ordering.TheVariants.{Less, Equal}
 use Rattle.std.specs.Cmp.{tied_itself}
 use Rattle.span_value.specs.declared.value.Value.{Value}
+use Rattle.span_value.proofs.Lists.{all_weaker, all_both}
 use Rattle.span_schema.specs.declared.table.Table.{Table}
 use Rattle.span_schema.specs.Lineages.{MeetsRules}
 use Rattle.span_keycode.proofs.KeyLaws.{one_key}
+use Rattle.span_keycode.proofs.Order.{same_bytes, bytes_same}
 use Rattle.span_rowcode.specs.Rows.{row_code}
 use Rattle.span_mutate.specs.declared.mutation.CheckedMutation.{CheckedMutation}
 use Rattle.span_mutate.specs.declared.row.TableRow.{TableRow}
@@ -16,10 +18,8 @@ use Rattle.span_mutate.specs.Touched as rows
 use Rattle.span_mutate.specs.Typed.{IsTyped, AreTyped, AreTypedMutations}
 use Rattle.span_mutate.proofs.Filters.{filter_yes, filter_no}
 use Rattle.span_mutate.proofs.Orders.{rows_total}
-use Rattle.span_maderows.proofs.Lists.{all_map}
-use Rattle.span_maderows.proofs.Bytes.{same_bytes, bytes_same}
 use Rattle.span_shard.specs.Rows.{code_of, is_coded, row_coded, is_touched}
-use Rattle.span_store.proofs.Lists.{all_both, found_all}
+use Rattle.span_store.proofs.Lists.{found_all}
 use Rattle.span_shard.proofs.Touching.{touched_code}
 
 itself : (tables : List Table) (r : TableRow) → is_coded tables (code_of tables r) r ≡ true
@@ -57,7 +57,7 @@ pub own_row : (tables : List Table) → MeetsRules tables → (db : List TableRo
 own_row tables rules [] sorted typed = tt
 own_row tables rules (x ∷ xs) sorted typed = (
   ap (λ (b : Bool). cells (cond b (Some x) (find (is_coded tables (code_of tables x)) xs))) (itself tables x),
-  all_map Q (λ (r : TableRow). row_coded tables (x ∷ xs) (code_of tables r) ≡ Some (row_code r.cells))
+  all_weaker Q (λ (r : TableRow). row_coded tables (x ∷ xs) (code_of tables r) ≡ Some (row_code r.cells))
       (λ r g. ap (λ (b : Bool). cells (cond b (Some x) (find (is_coded tables (code_of tables r)) xs))) (not_coded tables (code_of tables r) x (λ e. apart tables rules x r typed.0 g.0 g.1.0 (sym e))) ∙ g.1.1) xs
       (all_both (IsTyped tables) (λ (r : TableRow). (rows_cmp tables x r ≡ Less) × (row_coded tables xs (code_of tables r) ≡ Some (row_code r.cells))) xs typed.1
       (all_both (λ (r : TableRow). rows_cmp tables x r ≡ Less) (λ (r : TableRow). row_coded tables xs (code_of tables r) ≡ Some (row_code r.cells)) xs sorted.0 (own_row tables rules xs sorted.1 typed.1))),
@@ -105,4 +105,4 @@ touched_row tables rules ms typed k r tr e =
 pub untouched_there : (tables : List Table) → MeetsRules tables → (ms : List CheckedMutation) → AreTypedMutations tables ms → (db : List TableRow) → AreTyped tables db → (k : List ℕ) → is_touched tables ms k ≡ false
     → row_coded tables (rows.untouched tables ms db) k ≡ row_coded tables db k
 untouched_there tables rules ms typed db tdb k e = ap cells (find_kept (is_coded tables k) (λ (r : TableRow). not (rows.is_touched tables ms r.table r.key)) db
-    (all_map (IsTyped tables) (λ (r : TableRow). is_coded tables k r ≡ true → not (rows.is_touched tables ms r.table r.key) ≡ true) (λ r tr f. ap not (touched_row tables rules ms typed k r tr f ∙ e)) db tdb))
+    (all_weaker (IsTyped tables) (λ (r : TableRow). is_coded tables k r ≡ true → not (rows.is_touched tables ms r.table r.key) ≡ true) (λ r tr f. ap not (touched_row tables rules ms typed k r tr f ∙ e)) db tdb))

@@ -12,9 +12,9 @@ use Rattle.span_store.specs.KeyLists.{trimmed_key}
 use Rattle.span_shard.specs.Shard.{trimmed}
 
 -- the row of a key at or above the horizon
-pub row_kept : (h s : ℕ) (vs : List Version) → h ≤ s → row_at (kept_upto h vs) s ≡ row_at vs s
-row_kept h s [] le = refl
-row_kept h s (v ∷ vs) le = cases (nat_le v.timestamp h) refl (row_kept h s vs le)
+pub row_kept_above : (h s : ℕ) (vs : List Version) → h ≤ s → row_at (kept_upto h vs) s ≡ row_at vs s
+row_kept_above h s [] le = refl
+row_kept_above h s (v ∷ vs) le = cases (nat_le v.timestamp h) refl (row_kept_above h s vs le)
   where
     one : (row : Option (List ℕ)) → v.row ≡ row → nat_le v.timestamp s ≡ true → row_at (kept_version v row) s ≡ row
     one None is at = refl
@@ -31,7 +31,7 @@ row_kept h s (v ∷ vs) le = cases (nat_le v.timestamp h) refl (row_kept h s vs 
         by_test false = again
 
 seen_kept : (h s : ℕ) (c : KeyVersions) → h ≤ s → seen_at s (trimmed_key h c) ≡ seen_at s c
-seen_kept h s c le = ap (option_map (λ (row : List ℕ). the_row c.key row)) (row_kept h s c.versions le)
+seen_kept h s c le = ap (option_map (λ (row : List ℕ). the_row c.key row)) (row_kept_above h s c.versions le)
   where
     the_row : List ℕ → List ℕ → KeyRow
     the_row key row = record { key = key; row = row }

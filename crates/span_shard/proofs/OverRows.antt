@@ -1,5 +1,5 @@
 -- What a mutation does to the rows of a database, by their coded keys.
-use Rattle.std.proofs.Common.{◌≡◌, ℕ, ◌+◌, ◌-◌, ◌<◌, Bool, true, false, ◌==◌, not, ◌||◌, ◌&&◌, cond, List, [], ◌∷◌, ◌++◌, Option, Some, None, length, take, drop, refl, sym, ap, subst, ◌∙◌, arith}
+use Rattle.std.proofs.Common.{◌≡◌, ℕ, ◌+◌, ◌-◌, ◌<◌, Bool, true, false, ◌==◌, not, ◌||◌, ◌&&◌, cond, List, [], ◌∷◌, ◌++◌, Option, Some, None, length, take, drop, refl, sym, ap, subst, ◌∙◌, arith, add-sub_cancel}
 use Rattle.std.specs.List.{filter, find, list_any, AllByRecursion}
 use Rattle.std.specs.Option.{option_map}
 use Rattle.std.specs.Cmp.{tied_itself}
@@ -17,7 +17,7 @@ use Rattle.span_keycode.specs.Coding.{AreFit, tuple_code}
 use Rattle.span_keycode.specs.Order.{byte_order}
 use Rattle.span_keycode.specs.Keys.{code_of as bytes_of, key_code, IsKey, IsCodedKey}
 use Rattle.span_keycode.proofs.KeyLaws.{one_key}
-use Rattle.span_keycode.proofs.Levels.{key_split, levels_at, back}
+use Rattle.span_keycode.proofs.Levels.{key_split, levels_at}
 use Rattle.span_keycode.proofs.LevelLaws.{code_child, fit_split}
 use Rattle.span_rowcode.specs.Rows.{row_code}
 use Rattle.span_mutate.specs.declared.row.TableRow.{TableRow}
@@ -25,17 +25,17 @@ use Rattle.span_mutate.specs.Rows.{begins, is_same_key, is_at, row_at, with_row}
 use Rattle.span_mutate.specs.Database.{is_at_or_below, is_in, is_under, blocks_delete, cascades, tables_blocking_delete, is_delete_blocked}
 use Rattle.span_mutate.specs.Directories.{IsInOrder, rows_cmp}
 use Rattle.span_mutate.specs.Typed.{IsTyped, AreTyped}
-use Rattle.span_mutate.proofs.Begins.{same_number, number_itself, same_key}
-use Rattle.std.proofs.lemmas.Bool.{and_from, and_parts}
+use Rattle.span_mutate.proofs.Begins.{same_key}
+use Rattle.std.proofs.lemmas.Bool.{and_from, and_parts, eqb-true, eq-eqb}
+use Rattle.span_value.proofs.Lists.{all_weaker, all_both}
+use Rattle.span_keycode.proofs.Order.{same_bytes, bytes_same}
 use Rattle.span_mutate.proofs.Families.{number_here, parent_family}
 use Rattle.span_mutate.proofs.Filters.{filter_yes, filter_no}
 use Rattle.span_mutate.proofs.Orders.{rows_equal, rows_total}
 use Rattle.span_mutate.proofs.Placing.{put, put_kept, put_lost}
 use Rattle.span_maderows.specs.Made.{begins_with}
-use Rattle.span_maderows.proofs.Lists.{all_map}
-use Rattle.span_maderows.proofs.Bytes.{same_bytes, bytes_same}
 use Rattle.span_shard.specs.Rows.{code_of, is_coded, row_coded}
-use Rattle.span_store.proofs.Lists.{all_both, any_none}
+use Rattle.span_store.proofs.Lists.{any_none}
 use Rattle.span_shard.proofs.Touching.{same_truth}
 use Rattle.span_shard.proofs.Databases.{one_code, keyed_equal, own_row, row_there, find_kept, find_lost}
 use Rattle.span_shard.proofs.Under.{begins_under, under_code, blocks_code}
@@ -46,7 +46,7 @@ cells o = option_map (λ (r : TableRow). row_code r.cells) o
 -- ---- a row at a key
 
 same_itself_key : (vs : List Value) → is_same_key vs vs ≡ true
-same_itself_key vs = and_from _ _ (number_itself (length vs) (length vs) refl) (fronts vs)
+same_itself_key vs = and_from _ _ (eq-eqb (length vs) (length vs) refl) (fronts vs)
   where
     fronts : (us : List Value) → begins us us ≡ true
     fronts [] = refl
@@ -62,19 +62,19 @@ at_code tables rules n key k r typed = same_truth (is_at n key r) (is_coded tabl
     there : is_at n key r ≡ true → is_coded tables (key_code tables n key) r ≡ true
     there e =
         let parts = and_parts (r.table == n) (is_same_key key r.key) e in
-        let named : n ≡ r.table = sym (same_number r.table n parts.0) in
+        let named : n ≡ r.table = sym (eqb-true r.table n parts.0) in
         bytes_same (key_code tables n key) (code_of tables r) (ap (key_code tables n) (same_key key r.key parts.1) ∙ ap (λ (m : ℕ). key_code tables m r.key) named)
 
     back_again : is_coded tables (key_code tables n key) r ≡ true → is_at n key r ≡ true
     back_again e =
         let same = one_key tables rules n r.table key r.key k typed.0.0 (same_bytes (key_code tables n key) (code_of tables r) e) in
-        and_from _ _ (number_itself r.table n (sym same.0)) (ap (is_same_key key) (sym same.1) ∙ same_itself_key key)
+        and_from _ _ (eq-eqb r.table n (sym same.0)) (ap (is_same_key key) (sym same.1) ∙ same_itself_key key)
 
 -- the row at a key is the one at its coding
 pub row_at_code : (tables : List Table) → MeetsRules tables → (n : ℕ) (key : List Value) → IsKey tables n key → (db : List TableRow) → AreTyped tables db → cells (row_at n key db) ≡ row_coded tables db (key_code tables n key)
 row_at_code tables rules n key k db typed =
     ap cells (find_same (is_at n key) (is_coded tables (key_code tables n key)) db
-    (all_map (IsTyped tables) (λ (r : TableRow). is_at n key r ≡ is_coded tables (key_code tables n key) r) (λ r t. at_code tables rules n key k r t) db typed))
+    (all_weaker (IsTyped tables) (λ (r : TableRow). is_at n key r ≡ is_coded tables (key_code tables n key) r) (λ r t. at_code tables rules n key k r t) db typed))
 
 -- ---- a row that is put
 
@@ -140,13 +140,13 @@ kept tables n key q = not (is_under tables n key q)
 pub deleted_there : (tables : List Table) → MeetsRules tables → (n : ℕ) (key : List Value) → IsKey tables n key → (db : List TableRow) → AreTyped tables db → (k : List ℕ) → begins_with k (key_code tables n key) ≡ true
     → row_coded tables (filter (kept tables n key) db) k ≡ None
 deleted_there tables rules n key is db typed k e = ap cells (find_lost (is_coded tables k) (kept tables n key) db
-    (all_map (IsTyped tables) (λ (q : TableRow). is_coded tables k q ≡ true → kept tables n key q ≡ false)
+    (all_weaker (IsTyped tables) (λ (q : TableRow). is_coded tables k q ≡ true → kept tables n key q ≡ false)
     (λ q tq f. ap not (under_code tables rules n key is q tq ∙ ap (λ (l : List ℕ). begins_with l (key_code tables n key)) (sym (same_bytes k (code_of tables q) f)) ∙ e)) db typed))
 
 pub deleted_elsewhere : (tables : List Table) → MeetsRules tables → (n : ℕ) (key : List Value) → IsKey tables n key → (db : List TableRow) → AreTyped tables db → (k : List ℕ) → begins_with k (key_code tables n key) ≡ false
     → row_coded tables (filter (kept tables n key) db) k ≡ row_coded tables db k
 deleted_elsewhere tables rules n key is db typed k e = ap cells (find_kept (is_coded tables k) (kept tables n key) db
-    (all_map (IsTyped tables) (λ (q : TableRow). is_coded tables k q ≡ true → kept tables n key q ≡ true)
+    (all_weaker (IsTyped tables) (λ (q : TableRow). is_coded tables k q ≡ true → kept tables n key q ≡ true)
     (λ q tq f. ap not (under_code tables rules n key is q tq ∙ ap (λ (l : List ℕ). begins_with l (key_code tables n key)) (sym (same_bytes k (code_of tables q) f)) ∙ e)) db typed))
 
 -- ---- the row above
@@ -161,7 +161,7 @@ pub parent_key : (tables : List Table) → MeetsRules tables → (n : ℕ) (key 
 parent_key tables rules n key k p e =
     let found = number_here (parent_at tables (n - 1)) p e in
     let q = found.0 in
-    let at : p - 1 ≡ q = ap (λ (m : ℕ). m - 1) found.2 ∙ back q in
+    let at : p - 1 ≡ q = ap (λ (m : ℕ). m - 1) found.2 ∙ add-sub_cancel q 1 in
     let within : n - 1 < length tables = omega (arith, k.0.0.0, k.0.0.1) in
     let split = key_split tables rules (n - 1) q within found.1 in
     let F : ℕ → Type 0 = λ i. AreFit (key_at tables i) (take (length (key_at tables i)) key) in
@@ -181,7 +181,7 @@ passes_any : {X : Type 0} (p : X → Bool) (xs : List X) → AllByRecursion (λ 
 passes_any p [] = tt
 passes_any {X} p (x ∷ xs) = (
   λ e. ap (λ (b : Bool). b || list_any p xs) e,
-  all_map (λ y. p y ≡ true → list_any p xs ≡ true) (λ y. p y ≡ true → list_any p (x ∷ xs) ≡ true) (λ y h e. or_right (p x) (list_any p xs) (h e)) xs (passes_any p xs),
+  all_weaker (λ y. p y ≡ true → list_any p xs ≡ true) (λ y. p y ≡ true → list_any p (x ∷ xs) ≡ true) (λ y h e. or_right (p x) (list_any p xs) (h e)) xs (passes_any p xs),
 )
   where
     or_right : (a b : Bool) → b ≡ true → (a || b) ≡ true
@@ -206,7 +206,7 @@ pub held_not : (tables : List Table) → MeetsRules tables → (n : ℕ) (key : 
     → is_delete_blocked tables n key db ≡ false
 held_not tables rules n key is db sorted typed free =
     any_none (is_in (tables_blocking_delete tables n) key) db
-    (all_map (λ (r : TableRow). IsTyped tables r × (row_coded tables db (code_of tables r) ≡ Some (row_code r.cells))) (λ (r : TableRow). is_in (tables_blocking_delete tables n) key r ≡ false) out db
+    (all_weaker (λ (r : TableRow). IsTyped tables r × (row_coded tables db (code_of tables r) ≡ Some (row_code r.cells))) (λ (r : TableRow). is_in (tables_blocking_delete tables n) key r ≡ false) out db
     (all_both (IsTyped tables) (λ (r : TableRow). row_coded tables db (code_of tables r) ≡ Some (row_code r.cells)) db typed (own_row tables rules db sorted typed)))
   where
     out : (r : TableRow) → IsTyped tables r × (row_coded tables db (code_of tables r) ≡ Some (row_code r.cells)) → is_in (tables_blocking_delete tables n) key r ≡ false

@@ -7,18 +7,19 @@ use Rattle.std.specs.declared.cmp.Ordering.TheVariants.{Less}
 use Rattle.std.proofs.lemmas.List.Folds.{list_any-append}
 use Rattle.std.specs.Cmp.{tied_itself}
 use Rattle.std.proofs.lemmas.Bool.{and_parts}
+use Rattle.span_value.proofs.Lists.{all_append, all_weaker, all_filter, all_map, all_whole, all_both}
 use Rattle.span_keycode.specs.Order.{is_same}
+use Rattle.span_keycode.proofs.Order.{same_bytes}
 use Rattle.span_mutate.proofs.Filters.{filter_yes, filter_no}
-use Rattle.span_mutate.proofs.Placing.{all_filter}
 use Rattle.span_maderows.specs.Made.{begins_with, made_at, AddsMade}
-use Rattle.span_maderows.proofs.Bytes.{bytes_total, same_bytes, turned}
-use Rattle.span_maderows.proofs.Lists.{all_map, all_append, all_filter_itself}
+use Rattle.span_maderows.proofs.Bytes.{bytes_total, turned}
+use Rattle.span_maderows.proofs.Lists.{all_filter_itself}
 use Rattle.span_store.specs.KeyVersions.{KeyVersions}
 use Rattle.span_store.specs.KeyLists.{AreInOrder, keys_cmp, is_key, versions_of, end_of_time, row_now}
 use Rattle.span_store.specs.Reads.{versions_alone}
 use Rattle.span_shard.specs.Reading.{row_of}
 use Rattle.span_shard.specs.Overlay.{Changes, changed_at, row_over, is_unchanged, change_of, AreUnchangedUnder, AreCleared, AddsCleared, HasSameCleared, AreUnder, AreRemoved, without_if}
-use Rattle.span_store.proofs.Lists.{all_both, all_whole, found_all}
+use Rattle.span_store.proofs.Lists.{found_all}
 use Rattle.span_shard.proofs.Databases.{find_kept}
 use Rattle.span_store.specs.Versions.{row_at}
 
@@ -89,21 +90,17 @@ own_found : (cs : List KeyVersions) → AreInOrder cs → AllByRecursion (λ (c 
 own_found [] h = tt
 own_found (d ∷ ds) h = (
   ap (λ (b : Bool). cond b (Some d) (find (is_key d.key) ds)) (ap is_eq (tied_itself bytes_total d.key)),
-  all_map (λ (c : KeyVersions). (keys_cmp d c ≡ Less) × (find (is_key c.key) ds ≡ Some c)) (λ (c : KeyVersions). find (is_key c.key) (d ∷ ds) ≡ Some c)
+  all_weaker (λ (c : KeyVersions). (keys_cmp d c ≡ Less) × (find (is_key c.key) ds ≡ Some c)) (λ (c : KeyVersions). find (is_key c.key) (d ∷ ds) ≡ Some c)
       (λ c g. ap (λ (b : Bool). cond b (Some d) (find (is_key c.key) ds)) (ap is_eq (bytes_total.antisymm c.key d.key ∙ ap ordering_reverse g.0)) ∙ g.1) ds
       (all_both (λ (c : KeyVersions). keys_cmp d c ≡ Less) (λ (c : KeyVersions). find (is_key c.key) ds ≡ Some c) ds h.0 (own_found ds h.1)),
 )
 
 own_rows : (cs : List KeyVersions) → AreInOrder cs → AllByRecursion (λ (c : KeyVersions). row_now cs c.key ≡ row_of c) cs
-own_rows cs h = all_map (λ (c : KeyVersions). find (is_key c.key) cs ≡ Some c) (λ (c : KeyVersions). row_now cs c.key ≡ row_of c) (λ c e. ap (λ (o : Option KeyVersions). row_at (versions_of o) end_of_time) e) cs (own_found cs h)
+own_rows cs h = all_weaker (λ (c : KeyVersions). find (is_key c.key) cs ≡ Some c) (λ (c : KeyVersions). row_now cs c.key ≡ row_of c) (λ c e. ap (λ (o : Option KeyVersions). row_at (versions_of o) end_of_time) e) cs (own_found cs h)
 
 -- the keys of the store below one that no mutation changed
 abbrev pub unchanged_under : Changes → List ℕ → List KeyVersions → List (List ℕ)
 unchanged_under es front cs = map (λ c. c.key) (filter (is_unchanged es) (map versions_alone (filter (λ c. begins_with c.key front) cs)))
-
-all_mapped : {X Y : Type 0} (P : X → Type 0) (Q : Y → Type 0) (f : X → Y) → ((x : X) → P x → Q (f x)) → (xs : List X) → AllByRecursion P xs → AllByRecursion Q (map f xs)
-all_mapped P Q f g [] h = tt
-all_mapped P Q f g (x ∷ xs) h = (g x h.0, all_mapped P Q f g xs h.1)
 
 -- what a key of the store below has
 abbrev IsStoredUnder : List KeyVersions → List ℕ → KeyVersions → Type 0
@@ -111,13 +108,13 @@ IsStoredUnder cs front c = (begins_with c.key front ≡ true) × (row_now cs c.k
 
 stored_under : (cs : List KeyVersions) → AreInOrder cs → (front : List ℕ) → AllByRecursion (IsStoredUnder cs front) (map versions_alone (filter (λ c. begins_with c.key front) cs))
 stored_under cs sorted front =
-    all_mapped (IsStoredUnder cs front) (IsStoredUnder cs front) versions_alone (λ c h. h) (filter (λ (c : KeyVersions). begins_with c.key front) cs)
+    all_map (IsStoredUnder cs front) (IsStoredUnder cs front) versions_alone (λ c h. h) (filter (λ (c : KeyVersions). begins_with c.key front) cs)
     (all_both (λ (c : KeyVersions). begins_with c.key front ≡ true) (λ (c : KeyVersions). row_now cs c.key ≡ row_of c) (filter (λ (c : KeyVersions). begins_with c.key front) cs)
     (all_filter_itself (λ (c : KeyVersions). begins_with c.key front) cs) (all_filter (λ (c : KeyVersions). row_now cs c.key ≡ row_of c) (λ (c : KeyVersions). begins_with c.key front) cs (own_rows cs sorted)))
 
 unchanged_sound : (cs : List KeyVersions) → AreInOrder cs → (es : Changes) (front : List ℕ) → AllByRecursion (λ (k : List ℕ). (begins_with k front ≡ true) × (is_some (row_over cs es k) ≡ true)) (unchanged_under es front cs)
 unchanged_sound cs sorted es front =
-    all_mapped (λ (c : KeyVersions). (is_unchanged es c ≡ true) × IsStoredUnder cs front c) (λ (k : List ℕ). (begins_with k front ≡ true) × (is_some (row_over cs es k) ≡ true)) (λ c. c.key) good found
+    all_map (λ (c : KeyVersions). (is_unchanged es c ≡ true) × IsStoredUnder cs front c) (λ (k : List ℕ). (begins_with k front ≡ true) × (is_some (row_over cs es k) ≡ true)) (λ c. c.key) good found
     (all_both (λ (c : KeyVersions). is_unchanged es c ≡ true) (IsStoredUnder cs front) found (all_filter_itself (is_unchanged es) whole) (all_filter (IsStoredUnder cs front) (is_unchanged es) whole (stored_under cs sorted front)))
   where
     whole : List KeyVersions
@@ -196,7 +193,7 @@ unchanged_found cs sorted es front = record { sound = unchanged_sound cs sorted 
 pub all_under : (cs : List KeyVersions) (es : Changes) (front : List ℕ) (old ks : List (List ℕ)) → AreUnchangedUnder cs es front old → AddsMade es.made front old ks → AreUnder cs es front ks
 all_under cs es front old ks unchanged h = subst (AreUnder cs es front) (sym h.whole) (record {
   sound = all_append (λ (k : List ℕ). (begins_with k front ≡ true) × (is_some (row_over cs es k) ≡ true)) old h.added unchanged.sound
-      (all_map (λ (k : List ℕ). (begins_with k front ≡ true) × ((row : List ℕ) × (made_at es.made k ≡ Some row))) (λ (k : List ℕ). (begins_with k front ≡ true) × (is_some (row_over cs es k) ≡ true))
+      (all_weaker (λ (k : List ℕ). (begins_with k front ≡ true) × ((row : List ℕ) × (made_at es.made k ≡ Some row))) (λ (k : List ℕ). (begins_with k front ≡ true) × (is_some (row_over cs es k) ≡ true))
       (λ k g. (g.0, ap (λ (o : Option (List ℕ)). is_some (unwrap_or (change_of o (list_any (is_same k) es.removed)) (row_now cs k))) g.1.1)) h.added h.are.sound);
   complete = λ k b some. list_any-append (is_same k) old h.added ∙ of_change k b some (made_at es.made k) (list_any (is_same k) es.removed) refl refl;
 })

@@ -8,6 +8,7 @@ use Rattle.std.proofs.lemmas.Bool.{not-false, and_parts}
 use Rattle.span_value.specs.declared.value.Value.{Value}
 use Rattle.span_value.specs.declared.refusal.Refusal.{Refusal}
 use Rattle.span_value.specs.declared.refusal.Refusal.TheVariants.{OutOfMemory, BadKey, BadRow}
+use Rattle.span_value.proofs.Lists.{all_append, all_weaker, drop_read, all_at}
 use Rattle.span_schema.specs.declared.table.Table.{Table}
 use Rattle.span_schema.specs.Lineages.{MeetsRules}
 use Rattle.span_schema.specs.Numbers.{other_kinds}
@@ -23,12 +24,10 @@ use Rattle.span_mutate.specs.Touched as rows
 use Rattle.span_mutate.specs.Touched.{IsSameOutcome}
 use Rattle.span_mutate.specs.Typed.{AreTyped, IsTypedMutation, AreTypedMutations}
 use Rattle.span_mutate.proofs.Local.{step_database}
-use Rattle.span_mutate.proofs.Runs.{item_first, run_on, run_faults}
+use Rattle.span_mutate.proofs.Runs.{run_on, run_faults}
 use Rattle.span_mutate.proofs.TouchedRows.{touched_alone}
 use Rattle.span_mutate.proofs.TypedRows.{step_typed, typed_stay}
 use Rattle.span_maderows.specs.Made.{begins_with, made_at}
-use Rattle.span_maderows.proofs.Lists.{all_map, all_append}
-use Rattle.span_maderows.proofs.Bytes.{same_bytes, bytes_same}
 use Rattle.span_store.specs.declared.write.Write.{Write}
 use Rattle.span_store.specs.KeyVersions.{KeyVersions}
 use Rattle.span_shard.specs.Writes.{IsWrite, is_of}
@@ -37,8 +36,8 @@ use Rattle.span_store.specs.KeyLists.{row_now}
 use Rattle.span_shard.specs.Shard.{IsNow}
 use Rattle.span_shard.specs.Reading.{is_same_row, is_prepare_refusal, AreUnreadable, IsPrepareRefusal, IsFault, AreWrites}
 use Rattle.span_keycode.specs.Order.{is_same}
+use Rattle.span_keycode.proofs.Order.{same_bytes, bytes_same}
 use Rattle.span_shard.specs.Overlay.{Changes, changed_at, own_code, row_before, IsUnpacked, IsStray, IsOver, HasDirectory, IsTableRow, AreTableRows, IsNoPut, IsNoDelete, BlocksDelete, IsRunOf, IsRunFault, AreRunsOf, AreCleared, change_of, changes_of, write_new, write_if, write_at, IsWrittenAt, AreWrittenFrom, AreWritesAt}
-use Rattle.span_store.proofs.Lists.{all_at}
 use Rattle.span_shard.proofs.Touching.{typed_keyed}
 use Rattle.span_shard.proofs.Databases.{untouched_there}
 use Rattle.span_shard.proofs.Refused.{fault_number}
@@ -199,7 +198,7 @@ one_more tables ms typed cs i m es fs h e so_far run cleared = record { rows = r
         let next = run.applied (is_touched tables ms) (has_own tables ms i m h e) at.0 at.2.0 at.2.1 at.3 in
         let keyed = (typed_keyed tables (m ∷ []) (typed_m, tt)).0 in (
           next.0,
-          sym (run_on tables at.0 m (drop (i + 1) ms) next.0 next.1) ∙ ap (apply tables at.0) (sym (item_first ms i m h e)) ∙ at.1,
+          sym (run_on tables at.0 m (drop (i + 1) ms) next.0 next.1) ∙ ap (apply tables at.0) (sym (drop_read ms i m h e)) ∙ at.1,
           (step_database tables m keyed at.0 at.2.0 next.0 next.1, step_typed tables at.0 m next.0 at.2.1 typed_m next.1),
           next.2,
         )
@@ -210,7 +209,7 @@ run_fault tables ms cs i m es why h e so_far f db is tdb now =
     let at = so_far.applied db is tdb now in
     elim (f.fault (is_touched tables ms) (has_own tables ms i m h e) at.0 at.2.0 at.2.1 at.3) [
       | inl g ↦ inl g
-      | inr g ↦ inr (sym at.1 ∙ ap (apply tables at.0) (item_first ms i m h e) ∙ run_faults tables at.0 m (drop (i + 1) ms) why g)
+      | inr g ↦ inr (sym at.1 ∙ ap (apply tables at.0) (drop_read ms i m h e) ∙ run_faults tables at.0 m (drop (i + 1) ms) why g)
     ]
 
 pub run_number : (tables : List Table) (ms : List CheckedMutation) (cs : List KeyVersions) (i : ℕ) (m : CheckedMutation) (es : Changes) (why : Refusal) → i < length ms → m ≡ get_or ms i m → IsRunFault tables cs m es why → IsPrepareRefusal tables ms cs why
@@ -424,7 +423,7 @@ same_rest tables ms a b (Err v) (Err w) h y e = absurd (cc)
 
 pub writes_made : (tables : List Table) → MeetsRules tables → (ms : List CheckedMutation) → AreTypedMutations tables ms → (cs : List KeyVersions) (es : Changes) (ws : List Write) → AreRunsOf tables ms cs es → AreWritesAt cs es ws → AreWrites tables ms cs ws
 writes_made tables rules ms typed cs es ws run written = record {
-  touched = all_map (λ (w : Write). is_some (changed_at es w.key) ≡ true) (λ (w : Write). is_touched tables ms w.key ≡ true) (λ w h. run.touched w.key h) ws written.changed;
+  touched = all_weaker (λ (w : Write). is_some (changed_at es w.key) ≡ true) (λ (w : Write). is_touched tables ms w.key ≡ true) (λ w h. run.touched w.key h) ws written.changed;
   changes = λ db is tdb now. let at = run.applied db is tdb now in (at.0, at.1, λ k. by_touched db is tdb now at.0 at.1 at.2 k (is_touched tables ms k) refl);
 }
   where

@@ -20,11 +20,11 @@ use Rattle.span_mutate.specs.Directories.{IsDatabase}
 use Rattle.span_mutate.specs.Typed.{IsTyped, AreTyped, IsTypedMutation}
 use Rattle.span_mutate.proofs.Deletes.{deletes}
 use Rattle.span_maderows.specs.Made.{begins_with}
-use Rattle.span_maderows.proofs.Bytes.{same_bytes}
 use Rattle.span_store.specs.KeyVersions.{KeyVersions}
 use Rattle.span_shard.specs.Rows.{code_of, row_coded, root_code}
 use Rattle.span_store.specs.KeyLists.{row_now}
 use Rattle.span_keycode.specs.Order.{is_same}
+use Rattle.span_keycode.proofs.Order.{same_bytes}
 use Rattle.span_shard.specs.Overlay.{Changes, changed_at, row_over, without_if, own_code, row_before, AreUnder, BlocksDelete, AreRemoved, AreDeleted, HasDeleted, IsHeld, IsStray, IsOver, HasDirectory, IsTableRow, AreTableRows, IsRunOf}
 use Rattle.span_store.proofs.Lists.{any_all}
 use Rattle.span_shard.proofs.Databases.{row_there}

@@ -2,7 +2,6 @@
 use Rattle.std.proofs.Common.{◌≡◌, ◌⊎◌, inl, inr, ℕ, ◌≤◌, ◌<◌, ◌^◌, Bool, true, false, not, ◌||◌, ◌&&◌, cond, List, [], ◌∷◌, ◌++◌, Option, Some, None, is_some, is_none, Result, Ok, Err, length, take, drop, refl, sym, ap, subst, ◌∙◌, arith, append_assoc, zero, suc, Bor}
 use Rattle.std.specs.Prelude.{nat_lt, IfSome, MatchResult}
 use Rattle.std.specs.Option.{option_copied, unwrap_or}
-use Rattle.std.proofs.lemmas.Bool.Decides.{nat_tests}
 use Rattle.span_value.specs.declared.value.Value.{Value}
 use Rattle.span_value.specs.declared.refusal.Refusal.{Refusal}
 use Rattle.span_value.specs.declared.refusal.Refusal.TheVariants.{OutOfMemory, Exists, Missing, ParentMissing, HasChildren, RowTooLong}
@@ -27,14 +26,15 @@ use Rattle.span_mutate.specs.Faults.{is_mutation_fault}
 use Rattle.span_mutate.specs.Typed.{IsTyped, AreTyped, IsTypedMutation}
 use Rattle.span_mutate.proofs.TypedRows.{IsTypedOf, found_typed, over_none, over_typed}
 use Rattle.span_maderows.specs.Made.{begins_with}
-use Rattle.span_maderows.proofs.Bytes.{same_bytes, bytes_same, begins_front, front_begins}
+use Rattle.span_maderows.proofs.Bytes.{begins_front, front_begins}
 use Rattle.span_store.specs.KeyVersions.{KeyVersions}
 use Rattle.span_shard.specs.Rows.{row_coded, root_code}
 use Rattle.span_store.specs.KeyLists.{row_now}
 use Rattle.span_keycode.specs.Order.{is_same}
 use Rattle.span_shard.specs.Overlay.{Changes, changed_at, row_over, own_code, row_before, lacks_parent_over, put_cause, cause_over, AreCellsOf, IsUnpacked, IsPutRow, IsPutFault, IsNoPut, IsOver, HasDirectory, IsTableRow, AreTableRows, IsRunOf}
-use Rattle.span_mutate.proofs.Begins.{number_itself, front_of_taken, taken_begins}
-use Rattle.std.proofs.lemmas.Bool.{and_from}
+use Rattle.span_mutate.proofs.Begins.{front_of_taken, taken_begins}
+use Rattle.std.proofs.lemmas.Bool.{and_from, eq-eqb, ltb-false, le-ltb, lt-ltb}
+use Rattle.span_keycode.proofs.Order.{same_bytes, bytes_same}
 use Rattle.span_mutate.proofs.ByRoots.{in_own}
 use Rattle.span_mutate.proofs.Families.{parent_family, root_short}
 use Rattle.span_mutate.proofs.Causes.{rest_none, first_none}
@@ -61,7 +61,7 @@ parent_begins tables rules m typed p e =
     let at = parent_key tables rules m.table m.key typed.0 p e in
     let family = parent_family tables m.table p typed.0.0.0 e in
     touched_by tables rules m typed.0.0 p (take (length (key_columns tables p)) m.key) at.is.0
-    ∙ and_from _ _ (number_itself (root_of tables p) (root_of tables m.table) family.1)
+    ∙ and_from _ _ (eq-eqb (root_of tables p) (root_of tables m.table) family.1)
     (front_of_taken (take (key_len tables (root_of tables m.table)) m.key) m.key (length (key_columns tables p)) (taken_begins m.key (key_len tables (root_of tables m.table))) short)
   where
     short : length (take (key_len tables (root_of tables m.table)) m.key) ≤ length (key_columns tables p)
@@ -177,16 +177,13 @@ unpacked_nowhere tables rules dir cs es m typed has db tdb over = cases (row_bef
 
 -- ---- the row that is made
 
-long_enough : (a b : ℕ) → nat_lt a b ≡ false → b ≤ a
-long_enough a b e = grind (arith, nat_tests)
-
 not_long : (m : CheckedMutation) (present lacking : Bool) (old : List Value) → put_cause m present lacking old ≡ None → length (row_code (merge_cells m.cells old)) ≤ longest_row
 not_long m present lacking old e =
     let t = nat_lt longest_row (length (row_code (merge_cells m.cells old))) in
     let e1 = rest_none (is_insert m.kind && present) Exists ((is_update m.kind && not present, Missing) ∷ (lacking, ParentMissing) ∷ (t, RowTooLong) ∷ []) e in
     let e2 = rest_none (is_update m.kind && not present) Missing ((lacking, ParentMissing) ∷ (t, RowTooLong) ∷ []) e1 in
     let e3 = rest_none lacking ParentMissing ((t, RowTooLong) ∷ []) e2 in
-    long_enough longest_row (length (row_code (merge_cells m.cells old))) (first_none t RowTooLong [] e3)
+    ltb-false longest_row (length (row_code (merge_cells m.cells old))) (first_none t RowTooLong [] e3)
 
 -- the row that the mutation makes
 abbrev pub made_row : CheckedMutation → List Value → TableRow
@@ -295,12 +292,6 @@ causes_long a b c d e f g h =
     ∙ ap (λ (x : Bool). first_cause ((x, ParentMissing) ∷ (d, RowTooLong) ∷ [])) g
     ∙ ap (λ (x : Bool). first_cause ((x, RowTooLong) ∷ [])) h
 
-not_longer : (a b : ℕ) → b ≤ a → nat_lt a b ≡ false
-not_longer a b h = grind (arith, nat_tests)
-
-longer : (a b : ℕ) → a < b → nat_lt a b ≡ true
-longer a b h = grind (arith, nat_tests)
-
 pub some_copied : {X : Type 0} (o : Option (Bor X)) → is_some (option_copied o) ≡ is_some o
 some_copied None = refl
 some_copied (Some x) = refl
@@ -331,7 +322,7 @@ put_answer tables cs es m old present lacking are some lacks insert update paren
     answer (Ok row) h = record {
       old = old;
       cells = are;
-      cause = same old ∙ causes_none (is_insert m.kind && present) (is_update m.kind && not present) lacking long insert update parent (not_longer longest_row (length (row_code (merge_cells m.cells old))) h.1);
+      cause = same old ∙ causes_none (is_insert m.kind && present) (is_update m.kind && not present) lacking long insert update parent (le-ltb longest_row (length (row_code (merge_cells m.cells old))) h.1);
       is = h.0;
     }
     answer (Err why) h = elim h [
@@ -340,7 +331,7 @@ put_answer tables cs es m old present lacking are some lacks insert update paren
         λ vs other.
             ap (cause_over tables cs es m) (one_cells tables m.table (row_before tables cs es m) vs old other are)
             ∙ same old
-            ∙ causes_long (is_insert m.kind && present) (is_update m.kind && not present) lacking long insert update parent (longer longest_row (length (row_code (merge_cells m.cells old))) g.1)
+            ∙ causes_long (is_insert m.kind && present) (is_update m.kind && not present) lacking long insert update parent (lt-ltb longest_row (length (row_code (merge_cells m.cells old))) g.1)
             ∙ ap Some (sym g.0),
       ))
       | inr g ↦ inl g

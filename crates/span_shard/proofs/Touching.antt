@@ -1,7 +1,6 @@
 -- A coded key is in a touched directory where its row is.
 use Rattle.std.proofs.Common.{◌≡◌, ℕ, ◌+◌, ◌-◌, Bool, true, false, ◌==◌, ◌||◌, List, [], ◌∷◌, ◌++◌, Option, None, length, map, take, drop, refl, sym, ap, subst, ◌∙◌, arith}
 use Rattle.std.specs.Prelude.{slice_index}
-use Rattle.std.proofs.lemmas.List.{length-take-le}
 use Rattle.std.proofs.Math.Seq.{take-append_seam}
 use Rattle.span_value.specs.declared.value.Value.{Value}
 use Rattle.span_schema.specs.declared.table.Table.{Table}
@@ -21,8 +20,8 @@ use Rattle.span_mutate.specs.Rows.{begins}
 use Rattle.span_mutate.specs.Directories.{is_in_directory, root_row, key_len, IsKeyed, AreKeyed}
 use Rattle.span_mutate.specs.Touched as rows
 use Rattle.span_mutate.specs.Typed.{AreTypedMutations}
-use Rattle.span_mutate.proofs.Begins.{same_number, number_itself, same_key, front_of_taken, front_within, taken_begins}
-use Rattle.std.proofs.lemmas.Bool.{and_from, and_parts}
+use Rattle.span_mutate.proofs.Begins.{taken_begins, front_taken}
+use Rattle.std.proofs.lemmas.Bool.{and_from, and_parts, eqb-true, eq-eqb}
 use Rattle.span_mutate.proofs.ByRoots.{root_keyed}
 use Rattle.span_maderows.specs.Made.{begins_with}
 use Rattle.span_maderows.proofs.Bytes.{begins_front, front_begins}
@@ -62,12 +61,6 @@ same_truth true b f g = sym (f refl)
 same_truth false true f g = g refl
 same_truth false false f g = refl
 
--- what is in front is what is taken
-pub front_taken : (us vs : List Value) → begins us vs ≡ true → us ≡ take (length us) vs
-front_taken us vs e =
-    same_key us (take (length us) vs)
-    (and_from _ _ (number_itself (length us) (length (take (length us) vs)) (sym (length-take-le (length us) vs (front_within us vs e)))) (front_of_taken us vs (length us) e (omega arith)))
-
 -- in bytes and in rows, one mutation
 pub touched_by : (tables : List Table) → MeetsRules tables → (m : CheckedMutation) → IsKey tables m.table m.key → (n : ℕ) (vs : List Value) → IsKey tables n vs
     → begins_with (key_code tables n vs) (root_code tables m) ≡ is_in_directory tables (root_row tables m.table m.key) n vs
@@ -79,13 +72,13 @@ touched_by tables rules m mk n vs k = same_truth (begins_with (key_code tables n
         let us = take (key_len tables (root_of tables m.table)) m.key in
         let at = (begins_own_rows tables rules (root_of tables m.table) n us vs root.is k).0 (drop (length (root_code tables m)) (key_code tables n vs), sym (begins_front (key_code tables n vs) (root_code tables m) e)) in
         let named : root_of tables n ≡ root_of tables m.table = ap (λ (ns : List ℕ). slice_index ns 0) at.path ∙ root.path at.tables_below in
-        and_from _ _ (number_itself (root_of tables n) (root_of tables m.table) named)
+        and_from _ _ (eq-eqb (root_of tables n) (root_of tables m.table) named)
         (ap (begins us) at.values ∙ ap (λ (ws : List Value). begins ws (us ++ at.values_below)) (sym (take-append_seam us at.values_below)) ∙ taken_begins (us ++ at.values_below) (length us))
 
     back_again : is_in_directory tables (root_row tables m.table m.key) n vs ≡ true → begins_with (key_code tables n vs) (root_code tables m) ≡ true
     back_again e =
         let parts = and_parts (root_of tables n == root_of tables m.table) (begins (root_row tables m.table m.key).key vs) e in
-        let named : root_of tables n ≡ root_of tables m.table = same_number (root_of tables n) (root_of tables m.table) parts.0 in
+        let named : root_of tables n ≡ root_of tables m.table = eqb-true (root_of tables n) (root_of tables m.table) parts.0 in
         let keyed : IsKeyed tables m.table m.key = (mk.0, sym (fit_length (key_columns tables m.table) m.key mk.1)) in
         let len : length (root_row tables m.table m.key).key ≡ key_len tables (root_of tables m.table) = root_keyed tables rules m.table m.key keyed in
         let taken : (root_row tables m.table m.key).key ≡ take (key_len tables (root_of tables m.table)) vs = front_taken (root_row tables m.table m.key).key vs parts.1 ∙ ap (λ (j : ℕ). take j vs) len in

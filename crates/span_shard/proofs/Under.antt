@@ -1,7 +1,7 @@
 -- A row is at or below another where its coded key begins with the other's.
-use Rattle.std.proofs.Common.{◌≡◌, ℕ, ◌+◌, ◌-◌, Bool, true, false, ◌==◌, ◌||◌, ◌&&◌, List, [], ◌∷◌, ◌++◌, Option, Some, None, length, take, drop, refl, sym, ap, ◌∙◌, arith, append_assoc, zero, suc}
+use Rattle.std.proofs.Common.{◌≡◌, ℕ, ◌+◌, ◌-◌, Bool, true, false, ◌==◌, ◌||◌, ◌&&◌, List, [], ◌∷◌, ◌++◌, Option, Some, None, length, drop, refl, sym, ap, ◌∙◌, arith, append_assoc, add-sub_cancel}
 use Rattle.std.specs.List.{filter, list_any}
-use Rattle.std.proofs.lemmas.List.{append-nil}
+use Rattle.std.proofs.lemmas.List.{append-nil, take-append-drop}
 use Rattle.std.proofs.lemmas.List.Folds.{list_any-append}
 use Rattle.std.proofs.Math.Seq.{take-append_seam}
 use Rattle.span_value.specs.declared.value.Value.{Value}
@@ -11,27 +11,27 @@ use Rattle.span_schema.specs.Numbers.{IsTable, path_of}
 use Rattle.span_keycode.specs.Keys.{key_code, IsKey}
 use Rattle.span_keycode.specs.Laws.{IsAtOrBelow}
 use Rattle.span_keycode.proofs.KeyLaws.{begins_own_rows}
-use Rattle.span_keycode.proofs.Levels.{by_parents, back}
+use Rattle.span_keycode.proofs.Levels.{by_parents}
 use Rattle.span_keycode.proofs.LevelLaws.{path_child, path_root}
 use Rattle.span_mutate.specs.declared.row.TableRow.{TableRow}
 use Rattle.span_mutate.specs.Rows.{begins}
 use Rattle.span_mutate.specs.Database.{is_at_or_below, all_tables, is_in, is_under, blocks_delete, tables_blocking_delete}
 use Rattle.span_mutate.specs.Typed.{IsTyped}
-use Rattle.span_mutate.proofs.Begins.{same_number, number_itself, taken_begins}
-use Rattle.std.proofs.lemmas.Bool.{and_from, or_left, or_right, and_parts}
+use Rattle.span_mutate.proofs.Begins.{taken_begins, front_taken}
+use Rattle.std.proofs.lemmas.Bool.{and_from, or_left, or_right, and_parts, eqb-true, eq-eqb}
 use Rattle.span_mutate.proofs.Parents.{in_range}
 use Rattle.span_mutate.proofs.Filters.{filter_yes, filter_no}
 use Rattle.span_maderows.specs.Made.{begins_with}
 use Rattle.span_maderows.proofs.Bytes.{begins_front, front_begins}
 use Rattle.span_shard.specs.Rows.{code_of}
-use Rattle.span_shard.proofs.Touching.{same_truth, front_taken}
+use Rattle.span_shard.proofs.Touching.{same_truth}
 
 or_cases : {A : Type 0} (a b : Bool) → (a || b) ≡ true → (a ≡ true → A) → (b ≡ true → A) → A
 or_cases true b e f g = f refl
 or_cases false b e f g = g e
 
 one_of : (a n : ℕ) → list_any (λ (k : ℕ). k == n) (a ∷ []) ≡ true → a ≡ n
-one_of a n e = same_number a n (last (a == n) e)
+one_of a n e = eqb-true a n (last (a == n) e)
   where
     last : (b : Bool) → (b || false) ≡ true → b ≡ true
     last true f = refl
@@ -49,7 +49,7 @@ path_front tables n = by_parents tables (λ i. list_any (λ (k : ℕ). k == n) (
     own : (i : ℕ) → list_any (λ (k : ℕ). k == n) ((i + 1) ∷ []) ≡ true → IsFront tables n i
     own i h =
         let at : i + 1 - 1 ≡ n - 1 = ap (λ (m : ℕ). m - 1) (one_of (i + 1) n h) in
-        ([], ap (path_at tables) (sym (back i) ∙ at) ∙ sym (append-nil (path_at tables (n - 1))))
+        ([], ap (path_at tables) (sym (add-sub_cancel i 1) ∙ at) ∙ sym (append-nil (path_at tables (n - 1))))
 
     step : (i : ℕ) → ((p : ℕ) → parent_at tables i ≡ Some p → list_any (λ (k : ℕ). k == n) (path_at tables p) ≡ true → IsFront tables n p)
         → list_any (λ (k : ℕ). k == n) (path_at tables i) ≡ true → IsFront tables n i
@@ -74,7 +74,7 @@ own_path tables n is = of_parent (parent_at tables (n - 1)) refl
     number = omega (arith, is.0)
 
     here : list_any (λ (k : ℕ). k == n) ((n - 1 + 1) ∷ []) ≡ true
-    here = or_left (n - 1 + 1 == n) false (number_itself (n - 1 + 1) n number)
+    here = or_left (n - 1 + 1 == n) false (eq-eqb (n - 1 + 1) n number)
 
     of_parent : (o : Option ℕ) → parent_at tables (n - 1) ≡ o → list_any (λ (k : ℕ). k == n) (path_of tables n) ≡ true
     of_parent None e = ap (list_any (λ (k : ℕ). k == n)) (path_root tables (n - 1) e) ∙ here
@@ -87,11 +87,6 @@ own_path tables n is = of_parent (parent_at tables (n - 1)) refl
 
 pub begins_more : (us vs : List Value) → begins us (us ++ vs) ≡ true
 begins_more us vs = ap (λ (ws : List Value). begins ws (us ++ vs)) (sym (take-append_seam us vs)) ∙ taken_begins (us ++ vs) (length us)
-
-taken_whole : {X : Type 0} (n : ℕ) (xs : List X) → xs ≡ take n xs ++ drop n xs
-taken_whole zero xs = refl
-taken_whole (suc n) [] = refl
-taken_whole {X} (suc n) (x ∷ xs) = ap (λ (l : List X). x ∷ l) (taken_whole n xs)
 
 -- a coded key begins with another where its table and key are at or below the other's
 pub begins_under : (tables : List Table) → MeetsRules tables → (n : ℕ) (key : List Value) → IsKey tables n key → (m : ℕ) (ws : List Value) → IsKey tables m ws
@@ -110,7 +105,7 @@ begins_under tables rules n key kn m ws km = same_truth (begins_with (key_code t
     back_again e =
         let parts = and_parts (is_at_or_below tables n m) (begins key ws) e in
         let front = path_front tables n (m - 1) parts.0 in
-        let values : ws ≡ key ++ drop (length key) ws = taken_whole (length key) ws ∙ ap (λ (us : List Value). us ++ drop (length key) ws) (sym (front_taken key ws parts.1)) in
+        let values : ws ≡ key ++ drop (length key) ws = sym (take-append-drop (length key) ws) ∙ ap (λ (us : List Value). us ++ drop (length key) ws) (sym (front_taken key ws parts.1)) in
         let at : IsAtOrBelow tables n key m ws = record { tables_below = front.0; path = front.1; values_below = drop (length key) ws; values = values } in
         let more = (begins_own_rows tables rules n m key ws kn km).1 at in
         ap (λ (l : List ℕ). begins_with l (key_code tables n key)) more.1 ∙ front_begins (key_code tables n key) more.0
@@ -131,7 +126,7 @@ any_passed p m xs h = cases (p m) refl
             ∙ or_cases (y == m) (list_any (λ (k : ℕ). k == m) ys) g (λ i. or_left (y == m) (list_any (λ (k : ℕ). k == m) (filter p ys)) i) (λ i. or_right (y == m) (list_any (λ (k : ℕ). k == m) (filter p ys)) (again i))
         one false f again =
             ap (list_any (λ (k : ℕ). k == m)) (filter_no p y ys f)
-            ∙ or_cases (y == m) (list_any (λ (k : ℕ). k == m) ys) g (λ i. absurd (let j : false ≡ true = sym f ∙ ap p (same_number y m i) ∙ e in cc)) again
+            ∙ or_cases (y == m) (list_any (λ (k : ℕ). k == m) ys) g (λ i. absurd (let j : false ≡ true = sym f ∙ ap p (eqb-true y m i) ∙ e in cc)) again
 
     lost : p m ≡ false → (ys : List ℕ) → list_any (λ (k : ℕ). k == m) (filter p ys) ≡ false
     lost e [] = refl
@@ -139,7 +134,7 @@ any_passed p m xs h = cases (p m) refl
       where
         one : (b c : Bool) → p y ≡ b → (y == m) ≡ c → list_any (λ (k : ℕ). k == m) (filter p ys) ≡ false → list_any (λ (k : ℕ). k == m) (filter p (y ∷ ys)) ≡ false
         one false c f i again = ap (list_any (λ (k : ℕ). k == m)) (filter_no p y ys f) ∙ again
-        one true true f i again = absurd (let j : true ≡ false = sym f ∙ ap p (same_number y m i) ∙ e in cc)
+        one true true f i again = absurd (let j : true ≡ false = sym f ∙ ap p (eqb-true y m i) ∙ e in cc)
         one true false f i again = ap (list_any (λ (k : ℕ). k == m)) (filter_yes p y ys f) ∙ ap (λ (b : Bool). b || list_any (λ (k : ℕ). k == m) (filter p ys)) i ∙ again
 
     cases : (b : Bool) → p m ≡ b → list_any (λ (k : ℕ). k == m) (filter p xs) ≡ p m

@@ -1,12 +1,10 @@
-use Rattle.std.proofs.Common.{◌≡◌, ◌≢◌, ℕ, Bool, true, false, cond, ◌==◌, List, [], ◌∷◌, ◌++◌, Option, Some, None, refl, ap, sym, ◌∙◌, subst, arith}
+use Rattle.std.proofs.Common.{◌≡◌, ℕ, Bool, true, false, cond, ◌==◌, List, [], ◌∷◌, ◌++◌, Option, Some, None, refl, ap, sym, ◌∙◌, subst}
 use Rattle.std.specs.Prelude.{filter, map, is_some, not}
 use Rattle.std.specs.List.{AllByRecursion}
 use Rattle.span_keycode.specs.Order.{byte_order}
 use Rattle.std.specs.declared.cmp.Ordering.TheVariants.{Less, Equal, Greater}
-use Rattle.std.proofs.lemmas.Bool.Decides.{nat_tests}
 use Rattle.std.proofs.lemmas.Map.Lookups.{exact_bytes}
 use Rattle.span_schema.specs.declared.table.Table.{Table}
-use Rattle.span_maderows.proofs.Lists.{all_map}
 use Rattle.span_store.specs.declared.chain.PreparedWrite.{PreparedWrite}
 use Rattle.span_mutate.specs.declared.mutation.CheckedMutation.{CheckedMutation}
 use Rattle.span_store.specs.declared.write.Write.{Write}
@@ -17,18 +15,14 @@ use Rattle.span_store.specs.KeyLists.{by_order, with_write, new_key, prepared_wr
 use Rattle.span_shard.specs.Shard.{with_writes, applied, IsNotOf, HasNoneOf, HasSomeOf, IsFree}
 use Rattle.span_store.proofs.Owned.{all_back_of}
 use Rattle.std.proofs.Math.Bool.{or-true}
-
-same_number : (n : ℕ) → (n == n) ≡ true
-same_number n = grind (arith, nat_tests)
-
-other_number : (m n : ℕ) → m ≢ n → (m == n) ≡ false
-other_number m n h = grind (arith, nat_tests)
+use Rattle.std.proofs.lemmas.Bool.{ne_eqb, eq-eqb}
+use Rattle.span_value.proofs.Lists.{all_weaker}
 
 -- ---- a transaction of which nothing is prepared
 
 not_of_kept : (txn : ℕ) (p : Option PreparedWrite) (c : KeyVersions) → IsNotOf txn p → applied_write p txn None c ≡ c
 not_of_kept txn None c h = refl
-not_of_kept txn (Some w) c h = ap (λ b. cond b (record c { prepared = None }) c) (other_number w.txn txn h)
+not_of_kept txn (Some w) c h = ap (λ b. cond b (record c { prepared = None }) c) (ne_eqb w.txn txn h)
 
 pub applied-none : (txn : ℕ) (cs : List KeyVersions) → AllByRecursion IsInUse cs → HasNoneOf txn cs → applied txn None cs ≡ cs
 applied-none txn [] used none = refl
@@ -66,15 +60,15 @@ IsOpenAt txn key cs = AllByRecursion (λ c. byte_order key c.key ≡ Equal → I
 
 given_up : (txn : ℕ) (w : Write) (p : Option PreparedWrite) (c : KeyVersions) → c.prepared ≡ p → IsOpenFor txn p → applied_to_key txn None (with_prepared (prepared_write txn w) c) ≡ applied_write p txn None c
 given_up txn w None c is vacant =
-    ap (λ b. cond b (record c { prepared = None }) (with_prepared (prepared_write txn w) c)) (same_number txn) ∙ ap (λ (p : Option PreparedWrite). record c { prepared = p }) (sym is)
+    ap (λ b. cond b (record c { prepared = None }) (with_prepared (prepared_write txn w) c)) (eq-eqb txn txn refl) ∙ ap (λ (p : Option PreparedWrite). record c { prepared = p }) (sym is)
 given_up txn w (Some q) c is vacant =
-    ap (λ b. cond b (record c { prepared = None }) (with_prepared (prepared_write txn w) c)) (same_number txn)
-    ∙ sym (ap (λ b. cond b (record c { prepared = None }) c) (ap (λ n. n == txn) vacant ∙ same_number txn))
+    ap (λ b. cond b (record c { prepared = None }) (with_prepared (prepared_write txn w) c)) (eq-eqb txn txn refl)
+    ∙ sym (ap (λ b. cond b (record c { prepared = None }) c) (ap (λ n. n == txn) vacant ∙ eq-eqb txn txn refl))
 
 fresh_gone : (txn : ℕ) (w : Write) (ds : List KeyVersions) → applied txn None (new_key txn w ∷ ds) ≡ applied txn None ds
 fresh_gone txn w ds =
     let f : Bool → KeyVersions = λ b. cond b (record { key = w.key; versions = []; prepared = None }) (new_key txn w) in
-    ap (λ b. cond (is_used (f b)) (f b ∷ applied txn None ds) (applied txn None ds)) (same_number txn)
+    ap (λ b. cond (is_used (f b)) (f b ∷ applied txn None ds) (applied txn None ds)) (eq-eqb txn txn refl)
 
 pub applied-with_write : (txn : ℕ) (w : Write) (cs : List KeyVersions) → IsOpenAt txn w.key cs → applied txn None (with_write txn w cs) ≡ applied txn None cs
 applied-with_write txn w [] vacant = fresh_gone txn w []
@@ -109,11 +103,11 @@ pub equal_key : (key k : List ℕ) → byte_order key k ≡ Equal → key ≡ k
 equal_key key k e = exact_bytes key k e
 
 free_open : (txn : ℕ) (tables : List Table) (ms : List CheckedMutation) (cs : List KeyVersions) (key : List ℕ) → is_touched tables ms key ≡ true → IsFree tables ms cs → IsOpenAt txn key cs
-free_open txn tables ms cs key any free = all_map (λ (c : KeyVersions). is_touched tables ms c.key ≡ true → c.prepared ≡ None) (λ (c : KeyVersions). byte_order key c.key ≡ Equal → IsOpenFor txn c.prepared)
+free_open txn tables ms cs key any free = all_weaker (λ (c : KeyVersions). is_touched tables ms c.key ≡ true → c.prepared ≡ None) (λ (c : KeyVersions). byte_order key c.key ≡ Equal → IsOpenFor txn c.prepared)
     (λ c nothing e. subst (IsOpenFor txn) (sym (nothing (subst (λ (k : List ℕ). is_touched tables ms k ≡ true) (equal_key key c.key e) any))) tt) cs free
 
 pub writes_open : (txn : ℕ) (tables : List Table) (ms : List CheckedMutation) (ws : List Write) (cs : List KeyVersions) → AllByRecursion (λ (w : Write). is_touched tables ms w.key ≡ true) ws → IsFree tables ms cs → AllByRecursion (λ w. IsOpenAt txn w.key cs) ws
-writes_open txn tables ms ws cs touched free = all_map (λ (w : Write). is_touched tables ms w.key ≡ true) (λ (w : Write). IsOpenAt txn w.key cs) (λ w any. free_open txn tables ms cs w.key any free) ws touched
+writes_open txn tables ms ws cs touched free = all_weaker (λ (w : Write). is_touched tables ms w.key ≡ true) (λ (w : Write). IsOpenAt txn w.key cs) (λ w any. free_open txn tables ms cs w.key any free) ws touched
 
 -- giving up some of the writes leaves what was
 pub given_back : (txn : ℕ) (tables : List Table) (ms : List CheckedMutation) (ws : List Write) (cs ds : List KeyVersions) → AllByRecursion IsInUse cs → HasNoneOf txn cs → IsFree tables ms cs

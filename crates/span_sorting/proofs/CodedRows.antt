@@ -13,7 +13,7 @@ use Rattle.std.specs.declared.cmp.Ordering.{Ordering}
 use Rattle.std.specs.declared.cmp.Ordering.TheVariants.{Less, Equal, Greater}
 use Rattle.std.specs.Ordering.{nat_cmp, is_lt, ordering_then}
 use Rattle.std.proofs.lemmas.Bool.Decides.{nat_tests}
-use Rattle.std.proofs.lemmas.Bool.{and_parts}
+use Rattle.std.proofs.lemmas.Bool.{and_parts, cond-true}
 use Rattle.span_value.specs.declared.value.Value.{Value}
 use Rattle.span_value.specs.Orders.{value_order}
 use Rattle.span_query.specs.declared.query.SortKey.{SortKey}
@@ -135,9 +135,6 @@ codes_agree (key ∷ next ∷ keys) r s f g =
     (λ exact. sym (key_exact key r s f.0 g.0 exact (sym same ∙ exact)) ∙ e)
     (λ exact. key_agrees next r s (f.1 exact) (g.1 (sym same ∙ exact))))
 
-exact_next : (a : Bool) (c : ℕ) → a ≡ true → cond a c 0 ≡ c
-exact_next a c e = ap (λ (b : Bool). cond b c 0) e
-
 -- where they are exact, the codes are in the order of the keys
 exact_codes : (keys : List SortKey) (r s : Row) → AreInRange keys r → AreInRange keys s → are_exact keys r ≡ true → are_exact keys s ≡ true
     → or_next (nat_cmp (first_code keys r) (first_code keys s)) (or_next (nat_cmp (second_code keys r) (second_code keys s)) Equal) ≡ row_order keys r s
@@ -148,8 +145,8 @@ exact_codes (key ∷ next ∷ []) r s f g a b =
     let q = and_parts (is_exact (value_at key s)) (is_exact (value_at next s)) b in
     let first : nat_cmp (key_code key r) (key_code key s) ≡ key_order key r s = key_exact key r s f.0 g.0 p.0 q.0 in
     let second : nat_cmp (next_code key next r) (next_code key next s) ≡ key_order next r s =
-    ap (λ (n : ℕ). nat_cmp n (next_code key next s)) (exact_next (is_exact (value_at key r)) (key_code next r) p.0)
-    ∙ ap (λ (n : ℕ). nat_cmp (key_code next r) n) (exact_next (is_exact (value_at key s)) (key_code next s) q.0)
+    ap (λ (n : ℕ). nat_cmp n (next_code key next s)) (cond-true (is_exact (value_at key r)) (key_code next r) 0 p.0)
+    ∙ ap (λ (n : ℕ). nat_cmp (key_code next r) n) (cond-true (is_exact (value_at key s)) (key_code next s) 0 q.0)
     ∙ key_exact next r s (f.1 p.0) (g.1 q.0) p.1 q.1 in
     ap (λ (o : Ordering). or_next o (or_next (nat_cmp (next_code key next r) (next_code key next s)) Equal)) first
     ∙ ap (λ (o : Ordering). or_next (key_order key r s) (or_next o Equal)) second

@@ -14,6 +14,7 @@ use Rattle.span_value.specs.Orders.{value_order, kind_rank}
 use Rattle.span_query.specs.Sorting.{or_next}
 use Rattle.span_sorting.specs.Codes.{to_unsigned, with_bytes, code_of, is_exact, AreBytes, IsInRange}
 use Rattle.span_value.proofs.Comparisons.{number_less, number_greater, number_equal}
+use Rattle.span_value.proofs.Numbers.{unsigned_end}
 
 -- ---- the digits so far
 
@@ -54,10 +55,6 @@ digit_read place code b bytes below is =
     ∙ ap (λ (l : List ℕ). with_bytes (8 - (place + 1)) (code * 256 + b) l) rest
 
 -- ---- numbers
-
-unsigned_end : (i : ℤ) → FitsSigned w64 i → to_unsigned i < 2 ^ 64
-unsigned_end (pos n) f = omega (arith, ints)
-unsigned_end (negsuc n) f = omega (arith, ints)
 
 unsigned_order : (i j : ℤ) → FitsSigned w64 i → FitsSigned w64 j → nat_cmp (2 * 2 ^ 64 + to_unsigned i) (2 * 2 ^ 64 + to_unsigned j) ≡ int_cmp i j
 unsigned_order (pos m) (pos n) f g = grind (arith, ints, nat_tests)

@@ -2,9 +2,11 @@
 use Rattle.std.proofs.Common.{◌≡◌, refl, sym, ap, arith, ◌∙◌, ℕ, zero, suc, ◌≤◌, Bool, true, false, cond, List, [], ◌∷◌, ◌++◌, take, true≢false}
 use Rattle.std.specs.List.{AllByRecursion}
 use Rattle.std.specs.Cmp.{IsStrictWeakOrder}
+use Rattle.std.proofs.lemmas.Bool.{true_from_ne_false}
+use Rattle.span_value.proofs.Lists.{all_take}
 use Rattle.span_query.specs.Sorting.{insert_sorted, insertion_sort}
 use Rattle.span_sorting.specs.Orders.{IsSorted}
-use Rattle.span_sorting.proofs.FirstRows.{all_taken, decided, first_of_inserted}
+use Rattle.span_sorting.proofs.FirstRows.{first_of_inserted}
 use Rattle.span_sorting.proofs.Sorting.{all_placed, is_in_order, none_before, sorted_again, sorted_both}
 
 module _ {A : Type 0} (lt : A → A → Bool) where
@@ -45,7 +47,7 @@ module _ {A : Type 0} (lt : A → A → Bool) where
   module _ (o : IsStrictWeakOrder lt) where
     before_all : (z w : A) (ws : List A) → lt z w ≡ true → AllByRecursion (λ v. lt v w ≡ false) ws → AllByRecursion (λ v. lt z v ≡ true) ws
     before_all z w [] e all = tt
-    before_all z w (v ∷ ws) e all = (decided lt o (lt z v) (λ h. true≢false (sym e ∙ o.chain z v w h all.0)), before_all z w ws e all.1)
+    before_all z w (v ∷ ws) e all = (true_from_ne_false (lt z v) (λ h. true≢false (sym e ∙ o.chain z v w h all.0)), before_all z w ws e all.1)
 
     -- of the first list, which is in order, the first items are enough
     first_left : (n k : ℕ) (ws zs : List A) → n ≤ k → IsSorted lt ws → IsSorted lt zs → take n (put_all ws zs) ≡ take n (put_all (take k ws) zs)
@@ -55,17 +57,17 @@ module _ {A : Type 0} (lt : A → A → Bool) where
     first_left (suc n) (suc k) (w ∷ ws) [] le a b =
         ap (take (suc n)) (put_first w (put_all ws []) (all_put (λ v. lt v w ≡ false) ws [] a.0 tt))
         ∙ ap (λ (l : List A). w ∷ l) (first_left n k ws [] (omega (arith, le)) a.1 tt)
-        ∙ sym (ap (take (suc n)) (put_first w (put_all (take k ws) []) (all_put (λ v. lt v w ≡ false) (take k ws) [] (all_taken lt (λ v. lt v w ≡ false) k ws a.0) tt)))
+        ∙ sym (ap (take (suc n)) (put_first w (put_all (take k ws) []) (all_put (λ v. lt v w ≡ false) (take k ws) [] (all_take (λ v. lt v w ≡ false) k ws a.0) tt)))
     first_left (suc n) (suc k) (w ∷ ws) (z ∷ zs) le a b = elim (lt z w) as (λ c. lt z w ≡ c → take (suc n) (put_all (w ∷ ws) (z ∷ zs)) ≡ take (suc n) (put_all (w ∷ take k ws) (z ∷ zs))) [
       | true ↦ λ e.
           ap (take (suc n)) (stays_first z (w ∷ ws) zs (e, before_all z w ws e a.0))
           ∙ ap (λ (l : List A). z ∷ l) (first_left n (suc k) (w ∷ ws) zs (omega (arith, le)) a b.1)
-          ∙ sym (ap (take (suc n)) (stays_first z (w ∷ take k ws) zs (e, before_all z w (take k ws) e (all_taken lt (λ v. lt v w ≡ false) k ws a.0))))
+          ∙ sym (ap (take (suc n)) (stays_first z (w ∷ take k ws) zs (e, before_all z w (take k ws) e (all_take (λ v. lt v w ≡ false) k ws a.0))))
       | false ↦ λ e.
           let rest : AllByRecursion (λ v. lt v w ≡ false) (z ∷ zs) = (e, none_before lt o w z zs e b.0) in
           ap (take (suc n)) (put_first w (put_all ws (z ∷ zs)) (all_put (λ v. lt v w ≡ false) ws (z ∷ zs) a.0 rest))
           ∙ ap (λ (l : List A). w ∷ l) (first_left n k ws (z ∷ zs) (omega (arith, le)) a.1 b)
-          ∙ sym (ap (take (suc n)) (put_first w (put_all (take k ws) (z ∷ zs)) (all_put (λ v. lt v w ≡ false) (take k ws) (z ∷ zs) (all_taken lt (λ v. lt v w ≡ false) k ws a.0) rest)))
+          ∙ sym (ap (take (suc n)) (put_first w (put_all (take k ws) (z ∷ zs)) (all_put (λ v. lt v w ≡ false) (take k ws) (z ∷ zs) (all_take (λ v. lt v w ≡ false) k ws a.0) rest)))
     ] refl
 
     first_of_both : (n : ℕ) (xs ys : List A) → take n (insertion_sort lt (xs ++ ys)) ≡ take n (put_all (take n (insertion_sort lt xs)) (insertion_sort lt ys))

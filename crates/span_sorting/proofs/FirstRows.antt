@@ -3,6 +3,9 @@ use Rattle.std.proofs.Common.{◌≡◌, refl, sym, ap, subst, arith, ◌∙◌,
 use Rattle.std.specs.Prelude.{slice_get, Some}
 use Rattle.std.specs.List.{AllByRecursion}
 use Rattle.std.specs.Cmp.{IsStrictWeakOrder}
+use Rattle.std.proofs.lemmas.Bool.{true_from_ne_false}
+use Rattle.std.proofs.Math.Seq.{take-append_seam}
+use Rattle.span_value.proofs.Lists.{all_take}
 use Rattle.span_query.specs.Sorting.{insert_sorted, insertion_sort}
 use Rattle.span_sorting.specs.Orders.{IsSorted}
 use Rattle.span_sorting.proofs.Sorting.{is_in_order}
@@ -22,27 +25,13 @@ module _ {A : Type 0} (lt : A → A → Bool) where
       first_again (suc n) y [] = refl
       first_again (suc n) y (z ∷ ys) = ap (λ (zs : List A). y ∷ zs) (first_again n z ys)
 
-  pub all_taken : (P : A → Type 0) (n : ℕ) (xs : List A) → AllByRecursion P xs → AllByRecursion P (take n xs)
-  all_taken P zero xs all = tt
-  all_taken P (suc n) [] all = tt
-  all_taken P (suc n) (x ∷ xs) all = (all.0, all_taken P n xs all.1)
-
   -- the first items of a list in order are in order
   pub first_sorted : (n : ℕ) (xs : List A) → IsSorted lt xs → IsSorted lt (take n xs)
   first_sorted zero xs up = tt
   first_sorted (suc n) [] up = tt
-  first_sorted (suc n) (x ∷ xs) up = (all_taken (λ y. lt y x ≡ false) n xs up.0, first_sorted n xs up.1)
-
-  -- the items before those that are added
-  before_added : (ys zs : List A) → take (length ys) (ys ++ zs) ≡ ys
-  before_added [] zs = refl
-  before_added (y ∷ ys) zs = ap (λ (l : List A). y ∷ l) (before_added ys zs)
+  first_sorted (suc n) (x ∷ xs) up = (all_take (λ y. lt y x ≡ false) n xs up.0, first_sorted n xs up.1)
 
   module _ (o : IsStrictWeakOrder lt) where
-    pub decided : (b : Bool) → (b ≡ false → ⊥) → b ≡ true
-    decided true h = refl
-    decided false h = absurd (h refl)
-
     last_of : (y : A) (ys : List A) (n : ℕ) (last : A) → length ys ≡ suc n → slice_get ys n ≡ Some last → AllByRecursion (λ z. lt z y ≡ false) ys → lt last y ≡ false
     last_of y [] n last long is all = absurd (omega (arith, long))
     last_of y (z ∷ ys) zero last long is all = let same : z ≡ last = cc in ap (λ (w : A). lt w y) (sym same) ∙ all.0
@@ -60,7 +49,7 @@ module _ {A : Type 0} (lt : A → A → Bool) where
     put_last (y ∷ z ∷ ys) (suc n) last x long is up after =
         let more : length (z ∷ ys) ≡ suc n = omega (arith, long) in
         let first : lt y x ≡ true =
-        decided (lt y x) (λ h. true≢false (sym after ∙ o.chain last y x (last_of y (z ∷ ys) n last more is up.0) h)) in
+        true_from_ne_false (lt y x) (λ h. true≢false (sym after ∙ o.chain last y x (last_of y (z ∷ ys) n last more is up.0) h)) in
         ap (λ (b : Bool). cond b (y ∷ insert_sorted lt x (z ∷ ys)) (x ∷ y ∷ z ∷ ys)) first
         ∙ ap (λ (l : List A). y ∷ l) (put_last (z ∷ ys) n last x more is up.1 after)
 
@@ -71,7 +60,7 @@ module _ {A : Type 0} (lt : A → A → Bool) where
         let end : length (y ∷ ys) - 1 ≡ length ys = omega arith in
         ap (λ (k : ℕ). take k (insert_sorted lt x (y ∷ ys))) many
         ∙ ap (take (length (y ∷ ys))) (put_last (y ∷ ys) (length ys) last x refl (subst (λ (k : ℕ). slice_get (y ∷ ys) k ≡ Some last) end is) up after)
-        ∙ before_added (y ∷ ys) (x ∷ [])
+        ∙ take-append_seam (y ∷ ys) (x ∷ [])
 
     -- the whole list in order, from its end on
     pub first_in_order : (n : ℕ) (xs : List A) → IsSorted lt (take n (insertion_sort lt xs))

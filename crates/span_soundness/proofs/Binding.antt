@@ -8,7 +8,6 @@ use Rattle.span_value.specs.declared.value.Value.TheVariants as value
 use Rattle.span_value.specs.declared.refusal.Refusal.{Refusal}
 use Rattle.span_value.specs.declared.refusal.Refusal.TheVariants.{TypeMismatch}
 use Rattle.span_schema.specs.Tables.{is_same_name}
-use Rattle.span_schema.specs.Fitting.{is_of_kind}
 use Rattle.span_trees.specs.declared.tree.Column.{Column}
 use Rattle.span_trees.specs.declared.tree.Operator.{Operator}
 use Rattle.span_trees.specs.declared.tree.Expr.{Expr}
@@ -47,6 +46,7 @@ use Rattle.span_soundness.proofs.Forms.{literal_is}
 use Rattle.span_soundness.proofs.Making.{typed_right, integer_right, negative_right, denied_right, null_test_right, compared_right, between_right, among_right, liked_right, IsChain, linked_right, first_of_chain, chained_right, IsCondition, all_true_right, some_true_right, IsTypedArm, IsComparedArm, IsTypedElse, case_right, match_right, applied_right, IsOperandOf, operand_right}
 use Rattle.span_soundness.proofs.Places.{column_right, aggregate_there}
 use Rattle.span_soundness.proofs.Going.{Always, later_on, Leads, Keeps, then_keeps, given_keeps, along_keeps, Each, all_keep}
+use Rattle.span_soundness.proofs.Keeping.{null_of}
 
 -- ---- parameters
 
@@ -81,12 +81,6 @@ bytes_right types spelled = typed_right types (expr.Literal (value.Bytes (bytes_
 
 truth_right : (types : List Kind) (b : Bool) → IsTyped types (truth b)
 truth_right types b = typed_right types (expr.Literal (value.Bool b)) kind.Bool (literal_is types (value.Bool b) kind.Bool)
-
-null_of : (k : Kind) → is_of_kind k value.Null ≡ true
-null_of kind.Int = refl
-null_of kind.Str = refl
-null_of kind.Bytes = refl
-null_of kind.Bool = refl
 
 null_right : (types : List Kind) → IsTyped types null
 null_right types = λ wanted t. literal_is types value.Null wanted ∙ null_of wanted

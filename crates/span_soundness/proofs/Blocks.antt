@@ -35,6 +35,7 @@ use Rattle.span_operators.specs.declared.typed.Mode.TheVariants.{Rows, Groups}
 use Rattle.span_operators.specs.Kinds.{takes}
 use Rattle.span_typing.specs.Scopes.{item_named, column_place}
 use Rattle.span_value.specs.Results.{and_then}
+use Rattle.span_value.proofs.Lists.{all_append, all_push}
 use Rattle.span_operators.specs.Steps.{pure, ◌>>=◌}
 use Rattle.span_typing.specs.Typing.{Finds, typing, kind_at, column_at}
 use Rattle.span_query.specs.declared.query.OutputColumn.{OutputColumn}
@@ -124,17 +125,9 @@ module _ (params : List Parameter) (params_are : AreTyped params) where
       then_made (IsTyped (row_types scope m kinds)) (ShownAt scope m kinds) (column_at scope m place) (λ x. Ok (projection (or_nameless (slice_get scope.columns place)) x)) (column_at_right scope m kinds place within)
       (λ x x_is. shown_is (row_types scope m kinds) (or_nameless (slice_get scope.columns place)) x x_is)
 
-  all_following : {A : Type 0} (P : A → Type 0) (xs : List A) (x : A) → AllByRecursion P xs → P x → AllByRecursion P (xs ++ x ∷ [])
-  all_following P [] x all is = (is, tt {0})
-  all_following P (y ∷ ys) x all is = (all.0, all_following P ys x all.1 is)
-
-  all_both : {A : Type 0} (P : A → Type 0) (xs ys : List A) → AllByRecursion P xs → AllByRecursion P ys → AllByRecursion P (xs ++ ys)
-  all_both P [] ys all more = more
-  all_both P (x ∷ xs) ys all more = (all.0, all_both P xs ys all.1 more)
-
   each_made : {A X : Type 0} (P : A → Type 0) (Q : X → Type 0) (f : X → Result A Refusal) → ((x : X) → Q x → Made P (f x)) → (xs : List X) (found : List A) → AllByRecursion Q xs → AllByRecursion P found → Made (AllByRecursion P) (fold_results (one_after f) xs found)
   each_made P Q f right [] found all are = are
-  each_made P Q f right (x ∷ xs) found all are = go (f x) (right x all.0) (λ a a_is. each_made P Q f right xs (found ++ (a ∷ [])) all.1 (all_following P found a are a_is)) where
+  each_made P Q f right (x ∷ xs) found all are = go (f x) (right x all.0) (λ a a_is. each_made P Q f right xs (found ++ (a ∷ [])) all.1 (all_push P found a are a_is)) where
     go : (r : Result _ Refusal) → Made P r → ((a : _) → P a → Made (AllByRecursion P) (fold_results (one_after f) xs (found ++ (a ∷ [])))) → Made (AllByRecursion P) (and_then (and_then r (λ a. Ok (found ++ (a ∷ [])))) (fold_results (one_after f) xs))
     go (Ok a) is follows = follows a is
     go (Err why) is follows = tt {0}
@@ -193,7 +186,7 @@ module _ (params : List Parameter) (params_are : AreTyped params) where
       then_keeps (column_types scope) (EachShown scope m) (EachShown scope m) kinds (project_output scope params m o >>= (λ ss. pure (so_far ++ ss))) (outputs_from scope m os)
       (then_keeps (column_types scope) (EachShown scope m) (EachShown scope m) kinds (project_output scope params m o) (λ ss. pure (so_far ++ ss)) (output_is scope m kinds o)
       (λ more ss ss_are. given_keeps (column_types scope) (EachShown scope m) (kinds ++ more) (Ok (so_far ++ ss))
-      (λ later. all_both (ShownAt scope m ((kinds ++ more) ++ later)) so_far ss (later_on (EachShown scope m) kinds more so_far are later) (ss_are later))))
+      (λ later. all_append (ShownAt scope m ((kinds ++ more) ++ later)) so_far ss (later_on (EachShown scope m) kinds more so_far are later) (ss_are later))))
       (λ more ss ss_are. outputs_are scope m os (kinds ++ more) ss ss_are)
 
   select_is : (scope : Scope) (m : Mode) (os : List Output) → Leads (column_types scope) (EachShown scope m) [] [] (select_list scope params m os)
@@ -262,7 +255,7 @@ module _ (params : List Parameter) (params_are : AreTyped params) where
   groups_within : (scope : Scope) (cs : List Column) → AllByRecursion (Within scope.columns) (group_places scope cs)
   unfolding group_places
   groups_within scope [] = tt {0}
-  groups_within scope (c ∷ cs) = all_both (Within scope.columns) (place_in (column_place scope c)) (group_places scope cs) (place_in_within scope (column_place scope c) (column_within scope c)) (groups_within scope cs)
+  groups_within scope (c ∷ cs) = all_append (Within scope.columns) (place_in (column_place scope c)) (group_places scope cs) (place_in_within scope (column_place scope c) (column_within scope c)) (groups_within scope cs)
 
   outputs_right : (types : List Kind) (ss : List SelectItem) → AllByRecursion (λ (s : SelectItem). is_of types s.expr s.column.kind ≡ true) ss → AreOutputsOf types (projected_exprs ss) (output_types (columns_of_shown ss))
   outputs_right types [] all = tt {0}

@@ -6,6 +6,7 @@ use Rattle.span_value.specs.declared.value.Kind.{Kind}
 use Rattle.span_value.specs.declared.refusal.Refusal.{Refusal}
 use Rattle.span_query.specs.declared.query.Aggregate.{Aggregate}
 use Rattle.span_value.specs.Results.{and_then}
+use Rattle.span_value.proofs.Lists.{all_push}
 use Rattle.span_operators.specs.Steps.{pure, from_result, ◌>>=◌, next_of, fold_steps, append_step, all_of}
 use Rattle.span_typing.specs.Typing.{Finds}
 use Rattle.span_soundness.specs.Bindings.{AreAggregatesOf}
@@ -72,10 +73,6 @@ module _ (types : List Kind) where
       subst (λ (o : Result (_ × List Aggregate) Refusal). Leads R found kinds o) (rejoined step xs (step a x found))
       (then_keeps R R kinds (step a x) (λ b. fold_steps step b xs) (keeps kinds a x all.0 is) (λ more b b_is. along_keeps R P step keeps xs all.1 (kinds ++ more) b b_is) found are)
 
-  one_after : {A : Type 0} (P : A → Type 0) (xs : List A) (x : A) → AllByRecursion P xs → P x → AllByRecursion P (xs ++ x ∷ [])
-  one_after P [] x all is = (is, tt {0})
-  one_after P (y ∷ ys) x all is = (all.0, one_after P ys x all.1 is)
-
   abbrev pub Each : {A : Type 0} → (List Kind → A → Type 0) → List Kind → List A → Type 0
   Each R kinds xs = AllByRecursion (R kinds) xs
 
@@ -83,5 +80,5 @@ module _ (types : List Kind) where
   all_keep R P step keeps xs all kinds =
       along_keeps (Each R) P (append_step step)
       (λ ks os x x_is os_are. then_keeps R (Each R) ks (step x) (λ a. pure (os ++ (a ∷ []))) (keeps x x_is ks)
-      (λ more a a_is. given_keeps (Each R) (ks ++ more) (Ok (os ++ (a ∷ []))) (λ later. one_after (R ((ks ++ more) ++ later)) os a (later_on (Each R) ks more os os_are later) (a_is later))))
+      (λ more a a_is. given_keeps (Each R) (ks ++ more) (Ok (os ++ (a ∷ []))) (λ later. all_push (R ((ks ++ more) ++ later)) os a (later_on (Each R) ks more os os_are later) (a_is later))))
       xs all kinds [] (λ later. tt {0})

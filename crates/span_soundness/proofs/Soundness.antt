@@ -10,21 +10,17 @@ use Rattle.span_query.specs.declared.query.Statement.{Statement}
 use Rattle.span_planner.specs.Sizes.{is_sized}
 use Rattle.span_planner.specs.Plannable.{IsPlannable}
 use Rattle.span_value.specs.Results.{and_then}
+use Rattle.span_typing.proofs.Stepping.{not_ok}
 use Rattle.span_blocks.specs.declared.bound.TypedQuery.{TypedQuery}
 use Rattle.span_binder.specs.Queries.{query_step, statement_of, bound}
 use Rattle.span_binder.specs.Understands.{IsBound, IsNotInGrammar}
+use Rattle.span_binder.proofs.Adding.{ok_is}
 use Rattle.span_soundness.specs.Bindings.{output_types}
 use Rattle.span_soundness.specs.WellTyped.{IsQueryOf}
 use Rattle.span_soundness.specs.Laws.{LayersAreTyped, types_of_leaves, QueriesAreTyped, StatementsAreTyped, QueriesKeepTypes, ResultsAreTyped, StatementsCanBePlanned}
 use Rattle.span_soundness.proofs.TypedTrees.{tree_typed}
 use Rattle.span_soundness.proofs.SizedTrees.{tree_sized}
 use Rattle.span_soundness.proofs.Layering.{layer_made, layer_read, keeps_types}
-
-ok_is : {A : Type 0} (x y : A) → (let o : Result A Refusal = Ok x in o) ≡ Ok y → x ≡ y
-ok_is x y h = cc
-
-not_ok : {A : Type 0} (why : Refusal) (y : A) → (let o : Result A Refusal = Err why in o) ≡ Ok y → ⊥
-not_ok why y h = absurd cc
 
 pub layers_are_typed : LayersAreTyped
 layers_are_typed leaves layer types = (layer_read leaves layer types, layer_made leaves layer types)

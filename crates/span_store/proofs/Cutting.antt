@@ -4,6 +4,7 @@ use Rattle.std.specs.Prelude.{nat_le, All}
 use Rattle.std.specs.List.{AllByRecursion}
 use Rattle.std.proofs.lemmas.Bool.{cases_eq}
 use Rattle.std.proofs.lemmas.List.{get_or-set_same, get_or-set_other, append-nil}
+use Rattle.span_value.proofs.Lists.{all_append, all_weaker, all_whole}
 use Rattle.span_arena.specs.declared.token.Chain.{Chain}
 use Rattle.span_arena.specs.declared.version.ArenaVersion.{ArenaVersion}
 use Rattle.span_arena.specs.Content.{Content, Prepared, versions, versions_in, prepared_at, prepared_for, IsChain, kept_at, kept_upto, trimmed}
@@ -11,7 +12,6 @@ use Rattle.span_arena.proofs.Keeping.{chain_in_range}
 use Rattle.span_keytree.specs.Arenas.{HasSameChains}
 use Rattle.span_keytree.specs.Entries.{KeyEntry}
 use Rattle.span_keyindex.proofs.Keeping.{own_stays, chain_same, same_after, same-kept}
-use Rattle.span_maderows.proofs.Lists.{all_map, all_append}
 use Rattle.span_store.specs.declared.chain.Version.{Version}
 use Rattle.span_store.specs.declared.node.PreparedNode.{PreparedNode}
 use Rattle.span_store.specs.KeyVersions.{KeyVersions}
@@ -19,7 +19,6 @@ use Rattle.span_store.specs.Versions.{kept_version}
 use Rattle.span_store.specs.Versions as seen
 use Rattle.span_store.specs.KeyLists.{trimmed_key}
 use Rattle.span_store.specs.Stored.{version_of, chain_versions, write_for, kept_entry, all_kept, IsNodeOf, IsStored, HasTrimmed, IsTrimmed, AreTrimmed}
-use Rattle.span_store.proofs.Lists.{all_whole}
 use Rattle.span_store.proofs.Owned.{write-same, kept_equal}
 use Rattle.span_store.proofs.Seeing.{chains_left, first_chain}
 
@@ -89,8 +88,8 @@ trim_start h es a = record { done = []; whole = refl; each = tt; so_far = record
 pub trim_step : (h : ℕ) (es left rest : List KeyEntry) (e : KeyEntry) (a b d : Content) → AreTrimmed h es left a b → left ≡ e ∷ rest → IsChain b e.chain.number → d ≡ trimmed b e.chain.number h → AreTrimmed h es rest a d
 trim_step h es left rest e a b d old is chain now_is = record {
   done = old.done ++ e ∷ [];
-  whole = append_assoc old.done (e ∷ []) rest ∙ ap (λ (l : List KeyEntry). old.done ++ l) (sym is) ∙ old.whole;
-  each = all_append (IsTrimmed h a d) old.done (e ∷ []) (all_map (IsTrimmed h a b) (IsTrimmed h a d) (λ x was. still h a b d e.chain.number old.so_far chain now_is x was) old.done old.each) (now h a b d e.chain.number old.so_far chain now_is e refl, tt);
+  whole = append_assoc old.done (e ∷ []) rest ∙ ap (λ (l : List Entry). old.done ++ l) (sym is) ∙ old.whole;
+  each = all_append (IsTrimmed h a d) old.done (e ∷ []) (all_weaker (IsTrimmed h a b) (IsTrimmed h a d) (λ x was. still h a b d e.chain.number old.so_far chain now_is x was) old.done old.each) (now h a b d e.chain.number old.so_far chain now_is e refl, tt);
   so_far = trimmed_now h a b d e.chain.number old.so_far chain now_is;
 }
 
@@ -161,7 +160,7 @@ module _ (h : ℕ) (es : List KeyEntry) (a b : Content) (ps : List PreparedNode)
     own = own_stays es a b stored.own all.so_far.same;
     most = all.so_far.most ∙ stored.most;
     owned = record {
-      nodes = all_map (IsNodeOf a) (IsNodeOf b) (λ p n. record { image = n.image; prepared = stay p ∙ n.prepared; is_chain = chain_same a b p.chain.number all.so_far.same n.is_chain }) ps stored.owned.nodes;
+      nodes = all_weaker (IsNodeOf a) (IsNodeOf b) (λ p n. record { image = n.image; prepared = stay p ∙ n.prepared; is_chain = chain_same a b p.chain.number all.so_far.same n.is_chain }) ps stored.owned.nodes;
       counted = λ c. ap (prepared_for c) all.so_far.prepared ∙ stored.owned.counted c;
       once = stored.owned.once;
     };

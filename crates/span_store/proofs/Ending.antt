@@ -6,7 +6,8 @@ use Rattle.std.proofs.lemmas.Bool.{cases_eq}
 use Rattle.std.proofs.lemmas.Bool.Decides.{nat_tests}
 use Rattle.std.proofs.lemmas.List.{get_or-set_same, get_or-set_other, take_more, append-nil, take_all, drop_all}
 use Rattle.std.proofs.lemmas.List.Elements.{filter-append}
-use Rattle.span_arena.specs.declared.version.ArenaVersion.{ArenaVersion}
+use Rattle.span_value.proofs.Lists.{drop_read}
+use Rattle.span_arena.specs.declared.version.Version as arena
 use Rattle.span_arena.specs.Content.{Content, Prepared, versions, versions_in, prepared_at, IsSomePrepared, IsChain, given_back, linked, linked_as}
 use Rattle.span_arena.specs.Order.{IsLater}
 use Rattle.span_arena.specs.Order as order
@@ -14,7 +15,6 @@ use Rattle.span_arena.proofs.Keeping.{chain_in_range}
 use Rattle.span_keytree.specs.Arenas.{HasSameChains}
 use Rattle.span_keytree.specs.Entries.{KeyEntry}
 use Rattle.span_keyindex.proofs.Keeping.{same-equal, same-linked, same_after}
-use Rattle.span_mutate.proofs.Runs.{item_first}
 use Rattle.span_maderows.proofs.Lists.{all_filter_itself}
 use Rattle.span_store.specs.declared.chain.Version.{Version}
 use Rattle.span_store.specs.declared.chain.PreparedWrite.{PreparedWrite}
@@ -134,7 +134,7 @@ module _ (a b : Content) (xs ys : List PreparedNode) (p : PreparedNode) (owned :
 
 module _ (ps : List PreparedNode) (i : ℕ) (p : PreparedNode) (lt : i < length ps) (read : p ≡ get_or ps i p) (txn : ℕ) where
   first : drop i ps ≡ p ∷ drop (i + 1) ps
-  first = item_first ps i p lt read
+  first = drop_read ps i p lt read
 
   front_is : take (i + 1) ps ≡ take i ps ++ p ∷ []
   front_is = take_more ps i p lt ∙ ap (λ (q : PreparedNode). take i ps ++ q ∷ []) (sym read)

@@ -1,19 +1,6 @@
 -- Lists whose items all pass, lists in order, and the parts of them.
-use Rattle.std.proofs.Common.{◌≡◌, ℕ, zero, suc, ◌<◌, Bool, true, false, ◌||◌, cond, List, [], ◌∷◌, Some, None, length, get_or, refl, sym, ap, subst, ◌∙◌, arith}
+use Rattle.std.proofs.Common.{◌≡◌, Bool, true, false, ◌||◌, cond, List, [], ◌∷◌, Some, None, refl, sym, ap, subst, ◌∙◌}
 use Rattle.std.specs.List.{find, list_any, AllByRecursion}
-
-pub all_both : {X : Type 0} (P Q : X → Type 0) (xs : List X) → AllByRecursion P xs → AllByRecursion Q xs → AllByRecursion (λ x. P x × Q x) xs
-all_both P Q [] h g = tt
-all_both P Q (x ∷ xs) h g = ((h.0, g.0), all_both P Q xs h.1 g.1)
-
-pub all_at : {X : Type 0} (P : X → Type 0) (xs : List X) (k : ℕ) (d : X) → k < length xs → AllByRecursion P xs → P (get_or xs k d)
-all_at P [] k d less h = absurd (let l : k < 0 = less in omega arith)
-all_at P (x ∷ xs) zero d less h = h.0
-all_at P (x ∷ xs) (suc k) d less h = all_at P xs k d (omega arith) h.1
-
-pub all_whole : {X : Type 0} (P : X → Type 0) → ((x : X) → P x) → (xs : List X) → AllByRecursion P xs
-all_whole P f [] = tt
-all_whole P f (x ∷ xs) = (f x, all_whole P f xs)
 
 -- ---- what is found
 

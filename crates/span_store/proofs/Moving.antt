@@ -4,6 +4,7 @@ use Rattle.std.specs.Prelude.{All}
 use Rattle.std.specs.List.{AllByRecursion}
 use Rattle.std.proofs.lemmas.Bool.{cases_eq}
 use Rattle.std.proofs.lemmas.List.{get_or-set_same, get_or-set_other}
+use Rattle.span_value.proofs.Lists.{all_append, all_weaker}
 use Rattle.span_arena.specs.declared.token.Chain.{Chain}
 use Rattle.span_arena.specs.Content.{Content, versions, versions_in, prepared_for, one_for, IsChain, cleared, with_kept, with_free_node, with_versions}
 use Rattle.span_arena.proofs.Counts.{sum-push}
@@ -14,8 +15,7 @@ use Rattle.span_keytree.specs.Items.{holders}
 use Rattle.span_keytree.proofs.Counting.{one_same}
 use Rattle.span_keyindex.proofs.Keeping.{chain_same, same_after, same-kept}
 use Rattle.span_keytree.proofs.Linking.{held_append}
-use Rattle.span_maderows.proofs.Lists.{all_map, all_append}
-use Rattle.span_store.specs.Stored.{versions_count, AreReserved, HaveVersions, HasSameKeys, AreMoved}
+use Rattle.span_store.specs.Stored.{versions_count, HasRoom, HaveVersions, HasSameKeys, AreMoved}
 use Rattle.span_store.proofs.Seeing.{chains_left, first_chain}
 use Rattle.span_store.proofs.Cutting.{IsNextKey, next_key}
 
@@ -263,8 +263,8 @@ module _ (es fs : List KeyEntry) (sources left_sources chains left_chains : List
         most = ap (λ (x : Content). x.most) there;
         prepared = ap (λ (x : Content). x.prepared) there;
       });
-      gone = all_append (λ (e : KeyEntry). versions g e.chain.number ≡ []) moving.done (from_next.first ∷ [])
-          (all_map (λ (e : KeyEntry). versions b e.chain.number ≡ []) (λ (e : KeyEntry). versions g e.chain.number ≡ []) still_gone moving.done moving.gone) (ap (versions g) source_number ∙ from_here, tt);
+      gone = all_append (λ (e : Entry). versions g e.chain.number ≡ []) moving.done (from_next.first ∷ [])
+          (all_weaker (λ (e : Entry). versions b e.chain.number ≡ []) (λ (e : Entry). versions g e.chain.number ≡ []) still_gone moving.done moving.gone) (ap (versions g) source_number ∙ from_here, tt);
       stay = λ x other. (
           let split : holders x (moving.done ++ from_next.first ∷ []) ≡ holders x moving.done + holders x (from_next.first ∷ []) = held_append x moving.done (from_next.first ∷ []) in
           let differs : x ≢ source.number = λ same. (let one = one_same x from_next.first.chain.number (same ∙ sym source_number) in absurd (omega (arith, split, one))) in

@@ -5,19 +5,18 @@ use Rattle.std.proofs.Math.ListN.{get_or-eq_default}
 use Rattle.std.proofs.lemmas.Bool.{cases_lt}
 use Rattle.std.proofs.lemmas.Bool.Decides.{nat_tests}
 use Rattle.std.proofs.lemmas.List.{get_or-set_other}
+use Rattle.span_value.proofs.Lists.{all_append, all_weaker, all_both}
 use Rattle.span_arena.specs.Content.{Content, Prepared, prepared_at, prepared_for, one_for}
 use Rattle.span_arena.proofs.Counts.{sum-set}
 use Rattle.span_keytree.specs.Arenas.{HasSameChains}
 use Rattle.span_keyindex.specs.Indexes.{entries_of}
 use Rattle.span_keyindex.specs.declared.index.KeyIndex.{KeyIndex}
 use Rattle.span_keyindex.proofs.Keeping.{chain_same}
-use Rattle.span_maderows.proofs.Lists.{all_map, all_append}
 use Rattle.span_store.specs.declared.chain.Version.{Version}
 use Rattle.span_store.specs.declared.chain.PreparedWrite.{PreparedWrite}
 use Rattle.span_store.specs.declared.node.PreparedNode.{PreparedNode}
 use Rattle.span_store.specs.KeyVersions.{KeyVersions}
 use Rattle.span_store.specs.Stored.{is_for, image_of, write_of, write_for, count_for, IsNodeOf, AreOwned, IsStored, IsKept}
-use Rattle.span_store.proofs.Lists.{all_both}
 
 pub all_front_of : {X : Type 0} (P : X → Type 0) (xs ys : List X) → AllByRecursion P (xs ++ ys) → AllByRecursion P xs
 all_front_of P [] ys h = tt
@@ -119,7 +118,7 @@ module _ (a b : Content) (xs ys : List PreparedNode) (p : PreparedNode) (owned :
       (none_for p.chain.number (xs ++ ys) none)
 
   pub others_stay : AllByRecursion (λ (q : PreparedNode). prepared_at b q.node.number ≡ prepared_at a q.node.number) (xs ++ ys)
-  others_stay = all_map (λ (q : PreparedNode). IsNodeOf a q × (is_for p.chain.number q ≡ false)) (λ (q : PreparedNode). prepared_at b q.node.number ≡ prepared_at a q.node.number)
+  others_stay = all_weaker (λ (q : PreparedNode). IsNodeOf a q × (is_for p.chain.number q ≡ false)) (λ (q : PreparedNode). prepared_at b q.node.number ≡ prepared_at a q.node.number)
       (λ q h. stays a b p q at_p is h.0 h.1) (xs ++ ys) others_for
 
   node_stays : (q : PreparedNode) → IsNodeOf a q → is_for p.chain.number q ≡ false → IsNodeOf b q
@@ -127,7 +126,7 @@ module _ (a b : Content) (xs ys : List PreparedNode) (p : PreparedNode) (owned :
 
   pub owned_without : AreOwned b (xs ++ ys)
   owned_without = record {
-    nodes = all_map (λ (q : PreparedNode). IsNodeOf a q × (is_for p.chain.number q ≡ false)) (IsNodeOf b) (λ q h. node_stays q h.0 h.1) (xs ++ ys) others_for;
+    nodes = all_weaker (λ (q : PreparedNode). IsNodeOf a q × (is_for p.chain.number q ≡ false)) (IsNodeOf b) (λ q h. node_stays q h.0 h.1) (xs ++ ys) others_for;
     counted = λ c. (
         let lt : p.node.number < length a.prepared = in_range-some a.prepared p.node.number _ at_p.prepared in
         let s : prepared_for c (set a.prepared p.node.number None) + one_for c (get_or a.prepared p.node.number None) ≡ prepared_for c a.prepared + 0 = sum-set (one_for c) a.prepared p.node.number None lt in

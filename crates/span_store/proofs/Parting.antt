@@ -3,7 +3,8 @@ use Rattle.std.proofs.Common.{◌≡◌, ℕ, ◌≤◌, Bool, true, false, cond
 use Rattle.std.specs.Prelude.{filter, is_some}
 use Rattle.std.specs.List.{AllByRecursion}
 use Rattle.std.specs.Ordering.{is_lt}
-use Rattle.std.proofs.lemmas.Bool.{not-true}
+use Rattle.std.proofs.lemmas.Bool.{not-true, both_ways}
+use Rattle.span_value.proofs.Lists.{all_append, all_weaker, filter-map, all_filter, all_whole}
 use Rattle.span_keycode.specs.Order.{byte_order}
 use Rattle.span_arena.specs.declared.version.ArenaVersion.{ArenaVersion}
 use Rattle.span_arena.specs.Limits.{most_nodes}
@@ -20,16 +21,16 @@ use Rattle.span_keyindex.proofs.Keeping.{chain_same, same-equal}
 use Rattle.span_keytree.proofs.Linking.{held_append}
 use Rattle.span_keyindex.proofs.Owning.{index_stays}
 use Rattle.span_keytree.proofs.Rising.{cut_from}
-use Rattle.span_maderows.proofs.Lists.{all_map, all_append, all_filter_itself, filter-map}
+use Rattle.span_maderows.proofs.Lists.{all_filter_itself}
 use Rattle.span_store.specs.declared.chain.Version.{Version}
 use Rattle.span_store.specs.declared.chain.PreparedWrite.{PreparedWrite}
 use Rattle.span_store.specs.declared.node.PreparedNode.{PreparedNode}
 use Rattle.span_store.specs.KeyVersions.{KeyVersions}
 use Rattle.span_store.specs.Versions.{is_empty, is_used}
-use Rattle.span_mutate.proofs.Placing.{all_filter, rising_filter}
+use Rattle.span_mutate.proofs.Placing.{rising_filter}
+use Rattle.span_keyindex.proofs.Unlinking.{held_filter}
 use Rattle.span_store.specs.KeyLists.{keys_cmp, AreInOrder, IsIdle, IsInUse, keys_before, keys_from}
-use Rattle.span_store.specs.Stored.{version_of, chain_versions, write_for, kept_entry, all_kept, IsNodeOf, AreOwned, IsKept, AreReserved, HaveVersions, HasSameKeys, AreMoved}
-use Rattle.span_store.proofs.Lists.{all_whole}
+use Rattle.span_store.specs.Stored.{version_of, chain_versions, write_for, kept_entry, all_kept, IsNodeOf, AreOwned, IsKept, HasRoom, HaveVersions, HasSameKeys, AreMoved}
 use Rattle.span_store.proofs.Owned.{write-same}
 
 abbrev key_with : List ℕ → List Version → Option PreparedWrite → KeyVersions
@@ -53,14 +54,6 @@ used_entries : (a : Content) (ps : List PreparedNode) (es : List KeyEntry) → A
 used_entries a ps [] h = tt
 used_entries a ps (e ∷ es) h = (h.0, used_entries a ps es h.1)
 
-all_filtered : (P : KeyEntry → Type 0) (p : KeyEntry → Bool) (es : List KeyEntry) → AllByRecursion P es → AllByRecursion P (filter p es)
-all_filtered P p [] h = tt
-all_filtered P p (e ∷ es) h = by (p e) h.0 (all_filtered P p es h.1)
-  where
-    by : (b : Bool) → P e → AllByRecursion P (filter p es) → AllByRecursion P (cond b (e ∷ filter p es) (filter p es))
-    by true here rest = (here, rest)
-    by false here rest = rest
-
 -- ---- the new part
 
 moved_keys : (a d : Content) (ps : List PreparedNode) (es fs : List KeyEntry) → keys_of fs ≡ keys_of es → HaveVersions a d es fs → AreIdle a ps es → all_kept d [] fs ≡ all_kept a ps es
@@ -78,7 +71,7 @@ moved_keys a d ps (e ∷ es) (f ∷ fs) keys there idle =
 pub part_keys : (key : List ℕ) (a b c d : Content) (ps : List PreparedNode) (es fs : List KeyEntry) → keys_of fs ≡ keys_of (entries_from key es) → AreMoved (entries_from key es) fs a b c d → IsIdle (all_kept a ps es)
     → all_kept d [] fs ≡ keys_from key (all_kept a ps es)
 part_keys key a b c d ps es fs keys moved idle =
-    moved_keys a d ps (entries_from key es) fs keys moved.there (all_filtered (λ (e : KeyEntry). write_for a ps e.chain.number ≡ None) (λ (e : KeyEntry). not (is_lt (byte_order e.key key))) es (idle_entries a ps es idle))
+    moved_keys a d ps (entries_from key es) fs keys moved.there (all_filter (λ (e : Entry). write_for a ps e.chain.number ≡ None) (λ (e : Entry). not (is_lt (byte_order e.key key))) es (idle_entries a ps es idle))
     ∙ sym (filter-map (λ (k : KeyVersions). not (is_lt (byte_order k.key key))) (kept_entry a ps) es)
 
 pub none_still : (a b : Content) → b.chains ≡ a.chains → ((x : ℕ) → versions a x ≡ []) → (x : ℕ) → versions b x ≡ []
@@ -105,16 +98,13 @@ record IsParted (key : List ℕ) (a b : Content) (e : KeyEntry) : Type 0 where
   pub below : is_lt (byte_order e.key key) ≡ true → versions b e.chain.number ≡ versions a e.chain.number
   pub gone : is_lt (byte_order e.key key) ≡ false → versions b e.chain.number ≡ []
 
-not_both : (b : Bool) → b ≡ true → b ≡ false → ⊥
-not_both b h k = (let q : true ≡ false = sym h ∙ k in cc)
-
-kept_below : (key : List ℕ) (a b : Content) (xs ys : List KeyEntry) → ((x : ℕ) → holders x (xs ++ ys) ≤ 1) → ((x : ℕ) → holders x ys ≡ 0 → versions b x ≡ versions a x) → AllByRecursion (λ (e : KeyEntry). is_lt (byte_order e.key key) ≡ true) xs
+kept_below : (key : List ℕ) (a b : Content) (xs ys : List Entry) → ((x : ℕ) → holders x (xs ++ ys) ≤ 1) → ((x : ℕ) → holders x ys ≡ 0 → versions b x ≡ versions a x) → AllByRecursion (λ (e : Entry). is_lt (byte_order e.key key) ≡ true) xs
     → AllByRecursion (IsParted key a b) xs
 kept_below key a b [] ys once stay h = tt
 kept_below key a b (x ∷ xs) ys once stay h = (
   record {
     below = λ _. stay x.chain.number (omega (arith, once x.chain.number, one_here x.chain.number, held_append x.chain.number xs ys));
-    gone = λ k. absurd (not_both (is_lt (byte_order x.key key)) h.0 k);
+    gone = λ k. absurd (both_ways (is_lt (byte_order x.key key)) k h.0);
   },
   kept_below key a b xs ys (λ i. omega (arith, once i)) stay h.1,
 )
@@ -123,7 +113,7 @@ gone_from : (key : List ℕ) (a b : Content) (ys : List KeyEntry) → AllByRecur
 gone_from key a b [] gone h = tt
 gone_from key a b (y ∷ ys) gone h = (
   record {
-    below = λ k. absurd (not_both (is_lt (byte_order y.key key)) k (not-true (is_lt (byte_order y.key key)) h.0));
+    below = λ k. absurd (both_ways (is_lt (byte_order y.key key)) (not-true (is_lt (byte_order y.key key)) h.0) k);
     gone = λ _. gone.0;
   },
   gone_from key a b ys gone.1 h.1,
@@ -163,7 +153,7 @@ module _ (a b : Content) (same : HasSameKeys a b) where
 
   pub owned_still : (ps : List PreparedNode) → AreOwned a ps → AreOwned b ps
   owned_still ps owned = record {
-    nodes = all_map (IsNodeOf a) (IsNodeOf b) (λ p n. record { image = n.image; prepared = stays p ∙ n.prepared; is_chain = chain_same a b p.chain.number same.same n.is_chain }) ps owned.nodes;
+    nodes = all_weaker (IsNodeOf a) (IsNodeOf b) (λ p n. record { image = n.image; prepared = stays p ∙ n.prepared; is_chain = chain_same a b p.chain.number same.same n.is_chain }) ps owned.nodes;
     counted = λ c. ap (prepared_for c) same.prepared ∙ owned.counted c;
     once = owned.once;
   }
@@ -174,16 +164,8 @@ module _ (a b : Content) (same : HasSameKeys a b) where
 pub held_once : (es : List KeyEntry) (a : Content) → IsArenaOf es a → (x : ℕ) → holders x es ≤ 1
 held_once es a own x = omega (arith, own.each x, at_most_one (get_or a.chains x None))
 
-held_filtered : (p : KeyEntry → Bool) (x : ℕ) (es : List KeyEntry) → holders x (filter p es) ≤ holders x es
-held_filtered p x [] = omega arith
-held_filtered p x (e ∷ es) = by (p e) (held_filtered p x es)
-  where
-    by : (b : Bool) → holders x (filter p es) ≤ holders x es → holders x (cond b (e ∷ filter p es) (filter p es)) ≤ holders x (e ∷ es)
-    by true less = omega (arith, less)
-    by false less = omega (arith, less)
-
-pub part_once : (key : List ℕ) (es : List KeyEntry) (a : Content) → IsArenaOf es a → (x : ℕ) → holders x (entries_from key es) ≤ 1
-part_once key es a own x = omega (arith, held_once es a own x, held_filtered (λ (e : KeyEntry). not (is_lt (byte_order e.key key))) x es)
+pub part_once : (key : List ℕ) (es : List Entry) (a : Content) → IsArenaOf es a → (x : ℕ) → holders x (entries_from key es) ≤ 1
+part_once key es a own x = omega (arith, held_once es a own x, held_filter (λ (e : Entry). not (is_lt (byte_order e.key key))) x es)
 
 pub old_keys : (key : List ℕ) (a b c d : Content) (ps : List PreparedNode) (es fs : List KeyEntry) → AreRising es → IsArenaOf es a → AreMoved (entries_from key es) fs a b c d → IsIdle (all_kept a ps es) → AllByRecursion IsInUse (all_kept a ps es)
     → filter is_used (all_kept b ps es) ≡ keys_before key (all_kept a ps es)

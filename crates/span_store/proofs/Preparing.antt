@@ -6,12 +6,11 @@ use Rattle.std.proofs.lemmas.Bool.{cases_lt, cases_eq}
 use Rattle.std.proofs.lemmas.Bool.Decides.{nat_tests}
 use Rattle.std.proofs.lemmas.List.{append-nil, take-append-drop, take_more, take_all, get_or_default}
 use Rattle.span_value.specs.declared.refusal.Refusal.{Refusal}
+use Rattle.span_value.proofs.Lists.{all_append, all_weaker, drop_read}
 use Rattle.span_arena.specs.Content.{Content, Prepared, prepared_at, prepared_for, one_for, sum_for, with_at, IsChain, IsInOrder, IsReserved, IsRefusedNode, given_back}
 use Rattle.span_arena.proofs.Counts.{sum-set, sum-push}
 use Rattle.span_arena.proofs.Keeping.{with_at-other, chain_stays, prepared_now}
 use Rattle.span_keyindex.proofs.Keeping.{same-equal, chain_same}
-use Rattle.span_mutate.proofs.Runs.{item_first}
-use Rattle.span_maderows.proofs.Lists.{all_map, all_append}
 use Rattle.span_store.specs.declared.chain.PreparedWrite.{PreparedWrite}
 use Rattle.span_store.specs.declared.node.PreparedNode.{PreparedNode}
 use Rattle.span_store.specs.Stored.{is_for, image_of, write_for, count_for, IsNodeOf, AreOwned, HasPrepared, IsPlaceFor}
@@ -45,12 +44,12 @@ module _ (a b : Content) (xs ys : List PreparedNode) (p : PreparedNode) (image :
   new_node = record { image = image; prepared = prepared_now a b p.chain.number p.node.number image reserved; is_chain = chain_stays a b p.chain.number p.node.number p.chain.number image reserved chain }
 
   stay : AllByRecursion (λ (q : PreparedNode). prepared_at b q.node.number ≡ prepared_at a q.node.number) (xs ++ ys)
-  stay = all_map (IsNodeOf a) (λ (q : PreparedNode). prepared_at b q.node.number ≡ prepared_at a q.node.number) other_node (xs ++ ys) owned.nodes
+  stay = all_weaker (IsNodeOf a) (λ (q : PreparedNode). prepared_at b q.node.number ≡ prepared_at a q.node.number) other_node (xs ++ ys) owned.nodes
 
   owned_with : AreOwned b (xs ++ p ∷ ys)
   owned_with = record {
     nodes =
-        let all = all_map (IsNodeOf a) (IsNodeOf b) node_stays (xs ++ ys) owned.nodes in
+        let all = all_weaker (IsNodeOf a) (IsNodeOf b) node_stays (xs ++ ys) owned.nodes in
         all_append (IsNodeOf b) xs (p ∷ ys) (all_front_of (IsNodeOf b) xs ys all) (new_node, all_back_of (IsNodeOf b) xs ys all);
     counted = λ c. (
         let s : prepared_for c (with_at a.prepared p.node.number (Some (record { chain = p.chain.number; image = image }))) ≡ prepared_for c a.prepared + one_of c p = sum-with_at c a.prepared p.node.number _ reserved.number reserved.was_none in
@@ -111,7 +110,7 @@ has_room a n b P why is order refused =
 
 module _ (a b d : Content) (ps qs : List PreparedNode) (i : ℕ) (q p : PreparedNode) (image : Option (List ℕ)) (owned : AreOwned a ps) (place : IsPlaceFor p.chain.number ps i) (read : q ≡ get_or ps i q) where
   split : ps ≡ take i ps ++ q ∷ drop (i + 1) ps
-  split = sym (take-append-drop i ps) ∙ ap (λ (l : List PreparedNode). take i ps ++ l) (item_first ps i q place.in_range read)
+  split = sym (take-append-drop i ps) ∙ ap (λ (l : List PreparedNode). take i ps ++ l) (drop_read ps i q place.in_range read)
 
   owned_here : AreOwned a (take i ps ++ q ∷ drop (i + 1) ps)
   owned_here = subst (AreOwned a) split owned

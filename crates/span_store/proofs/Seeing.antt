@@ -2,13 +2,13 @@
 use Rattle.std.proofs.Common.{◌≡◌, ◌<◌, ℕ, zero, suc, arith, Bool, true, false, cond, List, [], ◌∷◌, ◌++◌, Option, Some, None, map, refl, sym, ap, subst, ◌∙◌, append_assoc}
 use Rattle.std.specs.Prelude.{filter, length, nat_le, option_and_then, option_map, All}
 use Rattle.std.specs.List.{filter_map, cons_option}
+use Rattle.span_value.proofs.Lists.{filter-map}
 use Rattle.span_keycode.specs.declared.range.KeyRange.{KeyRange}
 use Rattle.span_arena.specs.declared.version.ArenaVersion.{ArenaVersion}
 use Rattle.span_arena.specs.Content.{Content, newest_upto, IsChain}
 use Rattle.span_keytree.specs.Entries.{entries_in, entries_under, KeyEntry}
 use Rattle.span_keywalk.specs.Walks.{short_entries}
 use Rattle.span_maderows.specs.Made.{begins_with}
-use Rattle.span_maderows.proofs.Lists.{filter-map}
 use Rattle.span_store.specs.declared.chain.Version.{Version}
 use Rattle.span_store.specs.declared.node.PreparedNode.{PreparedNode}
 use Rattle.span_store.specs.KeyVersions.{KeyVersions}

@@ -7,23 +7,20 @@ use Rattle.span_arena.specs.declared.version.ArenaVersion.{ArenaVersion}
 use Rattle.span_arena.specs.Content.{Content, Prepared, versions, versions_in, prepared_at, prepared_for, one_for, is_unused}
 use Rattle.span_arena.proofs.Counts.{one_for-at, one_for-same}
 use Rattle.span_keytree.specs.Arenas.{in_use, IsWithoutUnused}
-use Rattle.span_keytree.specs.Entries.{KeyEntry}
-use Rattle.span_maderows.proofs.Lists.{all_map, all_filter_itself, filter-map}
+use Rattle.span_keytree.specs.Entries.{Entry}
+use Rattle.span_maderows.proofs.Lists.{all_filter_itself}
 use Rattle.span_store.specs.declared.node.PreparedNode.{PreparedNode}
 use Rattle.span_store.specs.Versions.{is_empty, is_used}
 use Rattle.span_store.specs.Stored.{version_of, chain_versions, is_for, write_of, write_for, kept, kept_entry, all_kept, count_for, IsNodeOf, AreOwned}
-use Rattle.span_store.proofs.Lists.{all_whole}
 use Rattle.span_store.proofs.Owned.{write-same, kept_equal}
 use Rattle.std.proofs.Math.Bool.{and-false}
+use Rattle.std.proofs.lemmas.List.Elements.{filter_agree}
+use Rattle.span_value.proofs.Lists.{all_weaker, filter-map, all_whole}
 
 -- lists with equal results of a function
 pub map_alike : {X Y : Type 0} (f g : X → Y) (xs : List X) → AllByRecursion (λ x. f x ≡ g x) xs → map f xs ≡ map g xs
 map_alike f g [] h = refl
 map_alike {X} {Y} f g (x ∷ xs) h = ap (λ (y : Y). y ∷ map f xs) h.0 ∙ ap (λ (l : List Y). g x ∷ l) (map_alike f g xs h.1)
-
-pub filter_alike : {X : Type 0} (p q : X → Bool) (xs : List X) → ((x : X) → p x ≡ q x) → filter p xs ≡ filter q xs
-filter_alike p q [] h = refl
-filter_alike {X} p q (x ∷ xs) h = ap (λ b. cond b (x ∷ filter p xs) (filter p xs)) (h x) ∙ ap (λ (l : List X). cond (q x) (x ∷ l) l) (filter_alike p q xs h)
 
 nothing_for : (a : Content) (c : ℕ) (ps : List PreparedNode) → nat_eq (count_for c ps) 0 ≡ not (is_some (write_for a ps c))
 nothing_for a c [] = refl
@@ -91,8 +88,8 @@ module _ (es : List KeyEntry) (a b : Content) (ps : List PreparedNode) (owned : 
   pub keys_used : all_kept b ps (in_use a es) ≡ filter is_used (all_kept a ps es)
   keys_used =
       map_alike (kept_entry b ps) (kept_entry a ps) (in_use a es)
-      (all_map (λ (e : KeyEntry). not (is_unused a e.chain.number) ≡ true) (λ (e : KeyEntry). kept_entry b ps e ≡ kept_entry a ps e) key_is (in_use a es) (all_filter_itself (λ (e : KeyEntry). not (is_unused a e.chain.number)) es))
-      ∙ ap (map (kept_entry a ps)) (filter_alike (λ (e : KeyEntry). not (is_unused a e.chain.number)) (λ (e : KeyEntry). is_used (kept_entry a ps e)) es (λ e. used_is a ps e.key e.chain.number owned))
+      (all_weaker (λ (e : Entry). not (is_unused a e.chain.number) ≡ true) (λ (e : Entry). kept_entry b ps e ≡ kept_entry a ps e) key_is (in_use a es) (all_filter_itself (λ (e : Entry). not (is_unused a e.chain.number)) es))
+      ∙ ap (map (kept_entry a ps)) (filter_agree (λ (e : Entry). not (is_unused a e.chain.number)) (λ (e : Entry). is_used (kept_entry a ps e)) (λ e. used_is a ps e.key e.chain.number owned) es)
       ∙ sym (filter-map is_used (kept_entry a ps) es)
 
   node_stays : (p : PreparedNode) → IsNodeOf a p → IsNodeOf b p
@@ -109,7 +106,7 @@ module _ (es : List KeyEntry) (a b : Content) (ps : List PreparedNode) (owned : 
 
   pub owned_used : AreOwned b ps
   owned_used = record {
-    nodes = all_map (IsNodeOf a) (IsNodeOf b) node_stays ps owned.nodes;
+    nodes = all_weaker (IsNodeOf a) (IsNodeOf b) node_stays ps owned.nodes;
     counted = λ c. ap (prepared_for c) prepared_is ∙ owned.counted c;
     once = owned.once;
   }

@@ -1,7 +1,7 @@
 -- Comparisons of numbers with literals, at packed rows.
 use Rattle.std.proofs.Common.{◌≡◌, inl, inr, ◌∙◌, ℕ, ℤ, zero, suc, ◌+◌, ◌<◌, ◌==◌, Bool, true, false, not, List, [], ◌∷◌, ◌++◌, Option, Some, None, length, map, take, drop, get_or, refl, sym, ap, subst, arith, if◌then◌else◌}
 use Rattle.std.specs.Prelude.{◌&&◌, ◌||◌, IfSome}
-use Rattle.std.specs.List.{AllByRecursion, fold, list_all}
+use Rattle.std.specs.List.{fold, list_all}
 use Rattle.std.specs.Option.{unwrap_or, option_or}
 use Rattle.std.specs.Ordering.{ordering_reverse}
 use Rattle.std.specs.declared.cmp.Ordering.{Ordering}
@@ -19,6 +19,7 @@ use Rattle.span_value.specs.declared.truth.Outcome.TheVariants.{Val, Fault}
 use Rattle.span_value.specs.declared.truth.Truth.TheVariants.{False, True, Unknown}
 use Rattle.span_value.specs.Orders.{value_order}
 use Rattle.span_value.proofs.Total.{value_order_total}
+use Rattle.span_value.proofs.Lists.{all_push, all_at}
 use Rattle.span_schema.specs.declared.table.Table.{Table}
 use Rattle.span_schema.specs.Fitting.{Fits}
 use Rattle.span_schema.specs.Numbers.{key_places, other_places, other_kinds}
@@ -100,11 +101,6 @@ AreMetBefore ks bs tests i = IsWhetherPass ks bs (λ cells. list_all (meets cell
 
 -- ---- what a comparison comes to
 
-all_at : {X : Type 0} (P : X → Type 0) (xs : List X) (i : ℕ) (d : X) → AllByRecursion P xs → i < length xs → P (get_or xs i d)
-all_at P [] i d all less = absurd (omega arith)
-all_at P (x ∷ xs) zero d all less = all.0
-all_at P (x ∷ xs) (suc i) d all less = all_at P xs i d all.1 (omega arith)
-
 none_of : (ps : List ℕ) (vs : List Value) (place : ℕ) → list_all (λ q. not (q == place)) ps ≡ true → value_for ps vs place ≡ None
 none_of [] vs place apart = refl
 none_of (p ∷ ps) [] place apart = refl
@@ -117,7 +113,7 @@ found_for [] vs i apart less long = absurd (omega arith)
 found_for (p ∷ ps) [] i apart less long = absurd (omega (arith, long))
 found_for (p ∷ ps) (v ∷ vs) zero apart less long = let itself : (p == p) ≡ true = grind arith in ap (λ (b : Bool). if b then Some v else value_for ps vs p) itself
 found_for (p ∷ ps) (v ∷ vs) (suc i) apart less long =
-    let other : (p == get_or ps i 0) ≡ false = all_at (λ (q : ℕ). (p == q) ≡ false) ps i 0 apart.0 (omega arith) in
+    let other : (p == get_or ps i 0) ≡ false = all_at (λ (q : ℕ). (p == q) ≡ false) ps i 0 (omega arith) apart.0 in
     ap (λ (b : Bool). if b then Some v else value_for ps vs (get_or ps i 0)) other ∙ found_for ps vs i apart.1 (omega arith) (omega (arith, long))
 
 cells_long : (ks : List Kind) (vs : List Value) → AreCells ks vs → length ks ≡ length vs
@@ -333,10 +329,6 @@ all_and f (x ∷ xs) y = by_test (f x) (all_and f xs y)
     by_test true so = so
     by_test false so = refl
 
-all_added : {X : Type 0} (P : X → Type 0) (xs : List X) (y : X) → AllByRecursion P xs → P y → AllByRecursion P (xs ++ y ∷ [])
-all_added P [] y all one = (one, tt {0})
-all_added P (x ∷ xs) y all one = (all.0, all_added P xs y all.1 one)
-
 pub one_test_added : (schema : List Table) (n : ℕ) (of : TableRow → Condition) (test : NumberTest) (old new : List NumberTest) → new ≡ old ++ test ∷ [] → IsTestOf schema n of test → AddsTests schema n of old new
 one_test_added schema n of test old new added one = subst (AddsTests schema n of old) (sym added) (record {
   judged = λ t typed own c known.
@@ -345,7 +337,7 @@ one_test_added schema n of test old new added one = subst (AddsTests schema n of
 
 pub one_test_needed : (schema : List Table) (n : ℕ) (of : TableRow → Condition) (test : NumberTest) (old new : List NumberTest) → new ≡ old ++ test ∷ [] → IsTestOf schema n of test → AddsNeeded schema n of old new
 one_test_needed schema n of test old new added one = subst (AddsNeeded schema n of old) (sym added) (record {
-  numbers = λ numbers. all_added (λ (x : NumberTest). IsNumberAt (other_kinds schema n) x.cell) old test numbers one.number;
+  numbers = λ numbers. all_push (λ (x : NumberTest). IsNumberAt (other_kinds schema n) x.cell) old test numbers one.number;
   unmet = λ t typed own c known not_met.
       by_test c (of t) (list_all (meets t.cells) old) (meets t.cells test) (sym (all_and (meets t.cells) old test) ∙ not_met) known (one.judged t typed own);
 })

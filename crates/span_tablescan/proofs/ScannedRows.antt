@@ -1,5 +1,5 @@
 -- A leaf of one table gives the rows that pass its condition, one after another.
-use Rattle.std.proofs.Common.{◌≡◌, ◌⊎◌, inl, inr, ◌∙◌, ℕ, zero, suc, ◌+◌, ◌==◌, Bool, true, false, cond, List, [], ◌∷◌, ◌++◌, length, map, Option, Some, None, Result, Ok, Err, refl, sym, ap, subst, arith, if◌then◌else◌}
+use Rattle.std.proofs.Common.{◌≡◌, ◌⊎◌, inl, inr, ◌∙◌, ℕ, ◌+◌, ◌==◌, Bool, true, false, cond, List, [], ◌∷◌, ◌++◌, length, map, Option, Some, None, Result, Ok, Err, refl, sym, ap, subst, arith, if◌then◌else◌}
 use Rattle.std.specs.Prelude.{filter}
 use Rattle.std.specs.List.{range_with_len, list_all}
 use Rattle.std.proofs.lemmas.Bool.{eqb-true, eq-eqb}
@@ -22,9 +22,9 @@ use Rattle.span_expr.specs.declared.condition.Condition.TheVariants as condition
 use Rattle.span_expr.specs.Places.{is_in, reads_only, moved, rank}
 use Rattle.span_expr.proofs.Places.{reads_only-wider}
 use Rattle.span_query.specs.Rows.{Row, OrFault, Rows, ◌>>=◌, value_of, is_true, append_results, keep_if, holds, filter_rows, filter_where}
-use Rattle.span_query.proofs.Results.{append_results-nil}
+use Rattle.span_query.proofs.Results.{append_results-nil, nil-append_results}
 use Rattle.span_rows.specs.Answers.{Gives, Adds}
-use Rattle.span_rows.proofs.Gathering.{nil-append_results, one_adds, one_fails, adding-fails}
+use Rattle.span_rows.proofs.Gathering.{one_adds, one_fails, adding-fails}
 use Rattle.span_columns.specs.declared.leaf.Leaf.{Leaf}
 use Rattle.span_columns.specs.declared.leaf.LeafJoin.{LeafJoin}
 use Rattle.span_leaves.specs.Leaves.{width_of}
@@ -32,6 +32,7 @@ use Rattle.span_columns.specs.Picks.{picked, picked_width, pick_rows}
 use Rattle.span_columns.specs.Reads.{has_place, reads_within}
 use Rattle.span_leaves.specs.Results.{join_tables, leaf_rows}
 use Rattle.span_leaves.proofs.Picked.{Agrees, agrees, val-picked, pick_rows-append}
+use Rattle.span_leaves.proofs.Reading.{has_place-range}
 use Rattle.span_rowreader.specs.Meaning.{declared_row, whole_table}
 use Rattle.span_rowreader.specs.Entries.{key_row, AreNoRows, IsWhetherOf}
 use Rattle.span_tablescan.specs.Given.{picked_given, IsGivenOn}
@@ -46,15 +47,10 @@ use Rattle.span_tablescan.proofs.ShortKeys.{given_on_all, refused_of_all}
 
 -- ---- the mask of a condition
 
-has_in_range : (f : ℕ → Bool) (a n k : ℕ) → f (a + k) ≡ true → has_place (map f (range_with_len a n)) k ≡ true
-has_in_range f a zero k is = refl
-has_in_range f a (suc n) zero is = let same : a + 0 ≡ a = omega arith in ap f (sym same) ∙ is
-has_in_range f a (suc n) (suc k) is = let same : a + 1 + k ≡ a + suc k = omega arith in has_in_range f (a + 1) n k (ap f same ∙ is)
-
 pub mask_between : (low high width : ℕ) (e : Expr) (ms : List Bool) → reads_only (is_in low high) e ≡ true → ms ≡ map (is_in low high) (range_with_len 0 width) → IsMaskOf width e ms
 mask_between low high width e ms reads is = record {
   long = ap (length {A = Bool}) is ∙ length-map-range_with_len (is_in low high) 0 width;
-  reads = ap (λ (l : List Bool). reads_within l e) is ∙ reads_only-wider (is_in low high) (has_place (map (is_in low high) (range_with_len 0 width))) e (λ k in_it. let same : 0 + k ≡ k = omega arith in has_in_range (is_in low high) 0 width k (ap (is_in low high) same ∙ in_it)) reads;
+  reads = ap (λ (l : List Bool). reads_within l e) is ∙ reads_only-wider (is_in low high) (has_place (map (is_in low high) (range_with_len 0 width))) e (λ k in_it. let same : 0 + k ≡ k = omega arith in has_place-range (is_in low high) 0 width k (ap (is_in low high) same ∙ in_it)) reads;
 }
 
 -- ---- one entry

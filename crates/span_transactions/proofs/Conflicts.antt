@@ -1,41 +1,26 @@
 -- Directories by the coded keys of their root rows.
-use Rattle.std.proofs.Common.{◌≡◌, ℕ, Bool, true, false, cond, ◌&&◌, ◌||◌, ◌==◌, List, [], ◌∷◌, length, take, refl, sym, ap, subst, ◌∙◌, arith}
+use Rattle.std.proofs.Common.{◌≡◌, ℕ, Bool, true, false, cond, ◌&&◌, ◌||◌, ◌==◌, List, [], ◌∷◌, length, take, refl, sym, ap, subst, ◌∙◌}
 use Rattle.std.specs.List.{list_any}
-use Rattle.std.specs.Ordering.{is_eq}
-use Rattle.std.specs.Cmp.{both_ways, tied_itself}
+use Rattle.std.specs.Cmp.{both_ways}
 use Rattle.std.proofs.Math.Bool.{and-false}
-use Rattle.std.proofs.lemmas.Bool.{and_from, and_parts}
-use Rattle.std.proofs.lemmas.Cmp.{nat_list_cmp_total}
-use Rattle.std.proofs.lemmas.List.{length-take-le}
-use Rattle.std.proofs.lemmas.Map.Lookups.{exact_bytes}
+use Rattle.std.proofs.lemmas.Bool.{and_from, and_parts, eqb-true, eq-eqb}
 use Rattle.span_value.specs.declared.value.Value.{Value}
 use Rattle.span_schema.specs.declared.table.Table.{Table}
 use Rattle.span_schema.specs.Lineages.{MeetsRules}
 use Rattle.span_schema.specs.Numbers.{key_columns, root_of}
-use Rattle.span_keycode.specs.Order.{byte_order, is_same}
+use Rattle.span_keycode.specs.Order.{is_same}
 use Rattle.span_keycode.specs.Keys.{IsKey, key_code}
 use Rattle.span_keycode.proofs.KeyLaws.{one_key}
 use Rattle.span_keycode.proofs.LevelLaws.{fit_length}
+use Rattle.span_keycode.proofs.Order.{same_bytes, bytes_same}
 use Rattle.span_mutate.specs.declared.mutation.CheckedMutation.{CheckedMutation}
 use Rattle.span_mutate.specs.Rows.{begins}
 use Rattle.span_mutate.specs.Directories.{key_len}
-use Rattle.span_mutate.proofs.Begins.{equal_from, same_number, number_itself, same_key, front_of_taken, front_within, taken_begins}
+use Rattle.span_mutate.proofs.Begins.{taken_begins, front_taken}
 use Rattle.span_machine.specs.declared.slot.SlotState.{SlotState}
 use Rattle.span_machine.specs.Slots.{holds, is_at, root_at, root_code}
 use Rattle.span_transactions.specs.Places.{share_directory_in}
 use Rattle.span_transactions.specs.Conflicts.{HasRootKey, IsRootKey, is_in_held_directory, has_directory, AddsDirectory}
-
-same_bytes : (a b : List ℕ) → is_same a b ≡ true → a ≡ b
-same_bytes a b e = exact_bytes a b (equal_from (byte_order a b) e)
-
-bytes_same : (a b : List ℕ) → a ≡ b → is_same a b ≡ true
-bytes_same a b e = ap (λ (c : List ℕ). is_same a c) (sym e) ∙ ap is_eq (tied_itself nat_list_cmp_total a)
-
--- what is in front is what is taken
-front_taken : (us vs : List Value) → begins us vs ≡ true → us ≡ take (length us) vs
-front_taken us vs e =
-    same_key us (take (length us) vs)
-    (and_from _ _ (number_itself (length us) (length (take (length us) vs)) (sym (length-take-le (length us) vs (front_within us vs e)))) (front_of_taken us vs (length us) e (omega arith)))
 
 -- of two mutations, one is in the directory of the other just where their directories have one coded key
 module _ (schema : List Table) (rules : MeetsRules schema) (m n : CheckedMutation) (coded : HasRootKey schema m) (also : HasRootKey schema n) where
@@ -49,14 +34,14 @@ module _ (schema : List Table) (rules : MeetsRules schema) (m n : CheckedMutatio
   unfolding root_code
   there e =
       let one = one_key schema rules R S (take (key_len schema R) m.key) (take (key_len schema S) n.key) coded also (same_bytes _ _ e) in
-      and_from _ _ (number_itself S R (sym one.0)) (ap (λ (us : List Value). begins us n.key) one.1 ∙ taken_begins n.key (key_len schema S))
+      and_from _ _ (eq-eqb S R (sym one.0)) (ap (λ (us : List Value). begins us n.key) one.1 ∙ taken_begins n.key (key_len schema S))
 
   back : is_at schema (root_at schema m) n ≡ true → is_same (root_code schema (root_at schema m)) (root_code schema (root_at schema n)) ≡ true
   unfolding root_code
   back e =
       let us = take (key_len schema R) m.key in
       let parts = and_parts (S == R) (begins us n.key) e in
-      let named : S ≡ R = same_number S R parts.0 in
+      let named : S ≡ R = eqb-true S R parts.0 in
       let len : length us ≡ key_len schema R = sym (fit_length (key_columns schema R) us coded.1) in
       let taken : us ≡ take (key_len schema R) n.key = front_taken us n.key parts.1 ∙ ap (λ (j : ℕ). take j n.key) len in
       let code : key_code schema R us ≡ key_code schema S (take (key_len schema S) n.key) =

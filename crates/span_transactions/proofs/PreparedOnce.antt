@@ -6,19 +6,11 @@ use Rattle.std.proofs.lemmas.Bool.Decides.{Decides-eqb, nat_tests}
 use Rattle.std.proofs.lemmas.Map.Keys.{IsDistinct-cons}
 use Rattle.std.proofs.lemmas.Map.Made.{IsDistinct-from_AllPairs}
 use Rattle.std.proofs.lemmas.List.{length-map}
-use Rattle.std.proofs.lemmas.Bool.{eqb-true}
+use Rattle.std.proofs.lemmas.Bool.{eqb-true, or_parts}
 use Rattle.std.proofs.lemmas.Map.Steps.{length-le_from_distinct_below}
 use Rattle.span_machine.specs.declared.transaction.Prepared.{Prepared}
 use Rattle.span_machine.specs.Limits.{most_slots}
 use Rattle.span_transactions.specs.Places.{slots_of, AreDifferent, AreOfSlots}
-
-pub or_left : (a b : Bool) → (a || b) ≡ false → a ≡ false
-or_left false b e = refl
-or_left true b e = cc
-
-pub or_right : (a b : Bool) → (a || b) ≡ false → b ≡ false
-or_right false b e = e
-or_right true b e = absurd (cc)
 
 -- ---- one more
 
@@ -29,8 +21,8 @@ all_more P (q ∷ qs) p all last = (all.0, all_more P qs p all.1 last)
 distinct_more : (ps : List Prepared) (p : Prepared) → AreDifferent (slots_of ps) → list_any (λ q. q.slot == p.slot) ps ≡ false → AreDifferent (slots_of (ps ++ p ∷ []))
 distinct_more [] p once none = (tt, tt)
 distinct_more (q ∷ qs) p once none = (
-  all_more (λ n. nat_eq q.slot n ≡ false) qs p once.0 (or_left (q.slot == p.slot) (list_any (λ r. r.slot == p.slot) qs) none),
-  distinct_more qs p once.1 (or_right (q.slot == p.slot) (list_any (λ r. r.slot == p.slot) qs) none),
+  all_more (λ n. nat_eq q.slot n ≡ false) qs p once.0 ((or_parts (q.slot == p.slot) (list_any (λ r. r.slot == p.slot) qs) none).0),
+  distinct_more qs p once.1 ((or_parts (q.slot == p.slot) (list_any (λ r. r.slot == p.slot) qs) none).1),
 )
 
 -- with one more slot, where the transaction is not prepared

@@ -14,14 +14,11 @@ use Rattle.span_operators.specs.declared.typed.Mode.TheVariants.{Rows}
 use Rattle.span_typing.specs.declared.scope.Scope.{Scope}
 use Rattle.span_operators.specs.declared.function.CalledFunction.{CalledFunction}
 use Rattle.span_value.specs.Results.{and_then}
+use Rattle.span_value.proofs.Results.{ok_same}
 use Rattle.span_operators.specs.Steps.{◌>>=◌, from_result, Gives, Leaves}
 use Rattle.span_operators.specs.Operators.{in_list, chain_of, case_of, match_of, apply_function}
 use Rattle.span_typing.specs.Typing.{Operand, each, conditions, links, arms, compared_arms, optional, of_one, of_two, of_three, membership, chain, junction, searched_case, simple_case, unknown_call, aggregate_call, function_call, aggregate}
 use Rattle.span_typing.proofs.Stepping.{made_of, made_of_two, made_of_three, made_step, stopped, stopped_second}
-
--- one value alone is there
-same_there : {A : Type 0} (l : Result A Refusal) (x y : A) → l ≡ Ok x → l ≡ Ok y → x ≡ y
-same_there l x y is there = cc
 
 pub one_made : (f : Typed → Result Typed Refusal) (a : Operand) (m : Mode) (g0 g1 : List Aggregate) (l r : Result Typed Refusal) → Leaves l g1 (a m g0) → Gives r (and_then l f) → Leaves r g1 (of_one f a m g0)
 unfolding of_one
@@ -41,11 +38,11 @@ member_made a os m g0 g1 g2 l n r h k e = made_of_two (a m) (λ x. each os m) in
 
 pub chain_made : (a : Operand) (ls : List (Operator × Operand)) (m : Mode) (g0 g1 g2 : List Aggregate) (l : Result Typed Refusal) (x : Typed) (n : Result Chain Refusal) (r : Result Typed Refusal) → Leaves l g1 (a m g0) → l ≡ Ok x → Leaves n g2 (links x.kind ls m g1) → Gives r (and_then l (λ x. and_then n (λ c. Ok (chain_of x c)))) → Leaves r g2 (chain a ls m g0)
 unfolding chain
-chain_made a ls m g0 g1 g2 l x n r h is k e = made_of_two (a m) (λ x. links x.kind ls m) (λ x c. Ok (chain_of x c)) g0 g1 g2 l n r h (λ y q. subst (λ (z : Typed). Leaves n g2 (links z.kind ls m g1)) (same_there l x y is q) k) e
+chain_made a ls m g0 g1 g2 l x n r h is k e = made_of_two (a m) (λ x. links x.kind ls m) (λ x c. Ok (chain_of x c)) g0 g1 g2 l n r h (λ y q. subst (λ (z : Typed). Leaves n g2 (links z.kind ls m g1)) (ok_same l x y is q) k) e
 
 pub junction_made : (join : Typed → List TypedExpr → Typed) (a : Operand) (os : List Operand) (m : Mode) (g0 g1 g2 : List Aggregate) (l : Result Typed Refusal) (x : Typed) (n : Result (List TypedExpr) Refusal) (r : Result Typed Refusal) → Leaves l g1 (a m g0) → l ≡ Ok x → Leaves n g2 (conditions x.kind os m g1) → Gives r (and_then l (λ x. and_then n (λ es. Ok (join x es)))) → Leaves r g2 (junction join a os m g0)
 unfolding junction
-junction_made join a os m g0 g1 g2 l x n r h is k e = made_of_two (a m) (λ x. conditions x.kind os m) (λ x es. Ok (join x es)) g0 g1 g2 l n r h (λ y q. subst (λ (z : Typed). Leaves n g2 (conditions z.kind os m g1)) (same_there l x y is q) k) e
+junction_made join a os m g0 g1 g2 l x n r h is k e = made_of_two (a m) (λ x. conditions x.kind os m) (λ x es. Ok (join x es)) g0 g1 g2 l n r h (λ y q. subst (λ (z : Typed). Leaves n g2 (conditions z.kind os m g1)) (ok_same l x y is q) k) e
 
 pub searched_made : (os : List (Operand × Operand)) (other : Option Operand) (m : Mode) (g0 g1 g2 : List Aggregate) (l : Result (List TypedArm) Refusal) (n : Result (Option Typed) Refusal) (r : Result Typed Refusal) → Leaves l g1 (arms os m g0) → Leaves n g2 (optional other m g1) → Gives r (and_then l (λ xs. and_then n (λ y. case_of xs y))) → Leaves r g2 (searched_case os other m g0)
 unfolding searched_case
@@ -53,7 +50,7 @@ searched_made os other m g0 g1 g2 l n r h k e = made_of_two (arms os m) (λ xs. 
 
 pub simple_made : (a : Operand) (os : List (Operand × Operand)) (other : Option Operand) (m : Mode) (g0 g1 g2 g3 : List Aggregate) (l : Result Typed Refusal) (x : Typed) (n : Result (List TypedArm) Refusal) (o : Result (Option Typed) Refusal) (r : Result Typed Refusal) → Leaves l g1 (a m g0) → l ≡ Ok x → Leaves n g2 (compared_arms x.kind os m g1) → Leaves o g3 (optional other m g2) → Gives r (and_then l (λ x. and_then n (λ xs. and_then o (λ y. match_of x xs y)))) → Leaves r g3 (simple_case a os other m g0)
 unfolding simple_case
-simple_made a os other m g0 g1 g2 g3 l x n o r h is k j e = made_of_three (a m) (λ x. compared_arms x.kind os m) (λ x xs. optional other m) (λ x xs y. match_of x xs y) g0 g1 g2 g3 l n o r h (λ y q. subst (λ (z : Typed). Leaves n g2 (compared_arms z.kind os m g1)) (same_there l x y is q) k) (λ x y q p. j) e
+simple_made a os other m g0 g1 g2 g3 l x n o r h is k j e = made_of_three (a m) (λ x. compared_arms x.kind os m) (λ x xs. optional other m) (λ x xs y. match_of x xs y) g0 g1 g2 g3 l n o r h (λ y q. subst (λ (z : Typed). Leaves n g2 (compared_arms z.kind os m g1)) (ok_same l x y is q) k) (λ x y q p. j) e
 
 pub unknown_made : (os : List Operand) (m : Mode) (g0 g1 : List Aggregate) (l : Result (List Typed) Refusal) (r : Result Typed Refusal) → Leaves l g1 (each os m g0) → Gives r (and_then l (λ xs. Err refusal.TypeMismatch)) → Leaves r g1 (unknown_call os m g0)
 unfolding unknown_call

@@ -10,7 +10,7 @@ use Rattle.span_operators.specs.Steps.{TypingStep, from_result, ◌>>=◌, next_
 err_is : {X : Type 0} (v w : Refusal) → (let o : Result X Refusal = Err v in o) ≡ Err w → v ≡ w
 err_is v w h = cc
 
-not_ok : {X : Type 0} (v : Refusal) (x : X) → (let o : Result X Refusal = Err v in o) ≡ Ok x → ⊥
+pub not_ok : {X : Type 0} (v : Refusal) (x : X) → (let o : Result X Refusal = Err v in o) ≡ Ok x → ⊥
 not_ok v x h = absurd cc
 
 -- a refusal is passed on

@@ -3,16 +3,14 @@ use Rattle.std.proofs.Common.{◌≡◌, ◌≢◌, ◌⊎◌, ℕ, zero, suc, �
 use Rattle.std.specs.Option.{option_map}
 use Rattle.std.specs.Char.{digit_char}
 use Rattle.std.specs.List.{All}
-use Rattle.span_value.proofs.Choices.{if_true, if_false}
+use Rattle.std.proofs.lemmas.List.{append-nil}
+use Rattle.std.proofs.lemmas.Option.{same_Some}
+use Rattle.std.proofs.lemmas.Bool.{cond-true, cond-false}
 use Rattle.span_value.specs.Cells.{escaped, hex_pairs, unescaped, unescaped_after, half_byte, byte_of, decoded_hex, IsClean}
 
-differ : (b q : ℕ) (v : Bool) → (b == q) ≡ v → b ≢ q → v ≡ false
+pub differ : (b q : ℕ) (v : Bool) → (b == q) ≡ v → b ≢ q → v ≡ false
 differ b q true h n = absurd (n (eqb-true b q h))
 differ b q false h n = refl
-
-append_nil : (a : List ℕ) → a ++ [] ≡ a
-append_nil [] = refl
-append_nil (t ∷ a) = ap (λ (w : List ℕ). t ∷ w) (append_nil a)
 
 -- ---- backslashes
 
@@ -22,7 +20,7 @@ double_back bs = refl
 
 double_other : (b : ℕ) (bs : List ℕ) → b ≢ 92 → escaped (b ∷ bs) ≡ b ∷ escaped bs
 unfolding escaped
-double_other b bs n = if_false (b == 92) _ _ (differ b 92 (b == 92) refl n)
+double_other b bs n = cond-false (b == 92) _ _ (differ b 92 (b == 92) refl n)
 
 double_clean : (xs ys : List ℕ) → IsClean xs → escaped (xs ++ ys) ≡ xs ++ escaped ys
 double_clean [] ys h = refl
@@ -34,7 +32,7 @@ double_nil = refl
 
 -- a text without a backslash is unchanged by doubling
 pub double_last : (xs : List ℕ) → IsClean xs → escaped xs ≡ xs
-double_last xs h = ap escaped (sym (append_nil xs)) ∙ double_clean xs [] h ∙ ap (λ (w : List ℕ). xs ++ w) double_nil ∙ append_nil xs
+double_last xs h = ap escaped (sym (append-nil xs)) ∙ double_clean xs [] h ∙ ap (λ (w : List ℕ). xs ++ w) double_nil ∙ append-nil xs
 
 -- the beginning of the doubled text, up to a backslash
 pub double_step : (text out front tail rest : List ℕ) → out ++ escaped rest ≡ escaped text → rest ≡ front ++ (92 ∷ tail) → IsClean front
@@ -51,7 +49,7 @@ put front o = option_map (λ w. front ++ w) o
 
 half_other : (b : ℕ) (bs : List ℕ) → b ≢ 92 → unescaped (b ∷ bs) ≡ put (b ∷ []) (unescaped bs)
 unfolding unescaped_after
-half_other b bs n = if_false (b == 92) _ _ (differ b 92 (b == 92) refl n)
+half_other b bs n = cond-false (b == 92) _ _ (differ b 92 (b == 92) refl n)
 
 half_pair : (bs : List ℕ) → unescaped (92 ∷ 92 ∷ bs) ≡ put (92 ∷ []) (unescaped bs)
 unfolding unescaped_after
@@ -60,7 +58,7 @@ half_pair bs = refl
 half_alone : (bs : List ℕ) → ((rest : List ℕ) → bs ≢ 92 ∷ rest) → unescaped (92 ∷ bs) ≡ None
 unfolding unescaped_after
 half_alone [] n = refl
-half_alone (b ∷ bs) n = if_false (b == 92) _ _ (differ b 92 (b == 92) refl (λ e. n bs (ap (λ (w : ℕ). w ∷ bs) e)))
+half_alone (b ∷ bs) n = cond-false (b == 92) _ _ (differ b 92 (b == 92) refl (λ e. n bs (ap (λ (w : ℕ). w ∷ bs) e)))
 
 put_put : (xs ys : List ℕ) (o : Option (List ℕ)) → put xs (put ys o) ≡ put (xs ++ ys) o
 put_put xs ys None = refl
@@ -80,7 +78,7 @@ unfolding unescaped_after
 half_nil = refl
 
 pub half_last : (xs : List ℕ) → IsClean xs → unescaped xs ≡ Some xs
-half_last xs h = ap unescaped (sym (append_nil xs)) ∙ half_clean xs [] h ∙ ap (λ o. put xs o) half_nil ∙ ap Some (append_nil xs)
+half_last xs h = ap unescaped (sym (append-nil xs)) ∙ half_clean xs [] h ∙ ap (λ o. put xs o) half_nil ∙ ap Some (append-nil xs)
 
 -- what was read so far, and what is left
 abbrev pub IsHalvedFrom : List ℕ → List ℕ → List ℕ → Type 0
@@ -111,30 +109,27 @@ halved_doubled (b ∷ bs) = halved_doubled_cons b bs (b == 92) refl (halved_doub
         let n : b ≢ 92 = λ same. absurd (let t : (b == 92) ≡ true = eq-eqb b 92 same in cc) in
         ap unescaped (double_other b bs n) ∙ half_other b (escaped bs) n ∙ ap (λ o. put (b ∷ []) o) h
 
-some_is : (x y : List ℕ) → Some x ≡ Some y → x ≡ y
-some_is x y e = cc
-
 put_is : (front w : List ℕ) (o : Option (List ℕ)) → put front o ≡ Some w → (x : List ℕ) × (o ≡ Some x) × (front ++ x ≡ w)
 put_is front w None e = absurd cc
-put_is front w (Some x) e = (x, refl, some_is (front ++ x) w e)
+put_is front w (Some x) e = (x, refl, same_Some (front ++ x) w e)
 
 double_halved_after : (v : Bool) (bs w : List ℕ) → unescaped_after v bs ≡ Some w → escaped w ≡ (if v then 92 ∷ bs else bs)
 unfolding unescaped_after
-double_halved_after false [] w e = ap escaped (sym (some_is [] w e)) ∙ double_nil
+double_halved_after false [] w e = ap escaped (sym (same_Some [] w e)) ∙ double_nil
 double_halved_after true [] w e = absurd cc
 double_halved_after false (b ∷ bs) w e =
     elim (b == 92) as (λ v. (b == 92) ≡ v → escaped w ≡ b ∷ bs) [
-      | true ↦ λ q. double_halved_after true bs w (sym (if_true (b == 92) (unescaped_after true bs) (put (b ∷ []) (unescaped bs)) q) ∙ e) ∙ ap (λ (n : ℕ). n ∷ bs) (sym (eqb-true b 92 q))
+      | true ↦ λ q. double_halved_after true bs w (sym (cond-true (b == 92) (unescaped_after true bs) (put (b ∷ []) (unescaped bs)) q) ∙ e) ∙ ap (λ (n : ℕ). n ∷ bs) (sym (eqb-true b 92 q))
       | false ↦ λ q.
-          let p = put_is (b ∷ []) w (unescaped bs) (sym (if_false (b == 92) (unescaped_after true bs) (put (b ∷ []) (unescaped bs)) q) ∙ e) in
+          let p = put_is (b ∷ []) w (unescaped bs) (sym (cond-false (b == 92) (unescaped_after true bs) (put (b ∷ []) (unescaped bs)) q) ∙ e) in
           ap escaped (sym p.2) ∙ double_other b p.0 (λ same. absurd (let t : (b == 92) ≡ true = eq-eqb b 92 same in cc)) ∙ ap (λ (n : List ℕ). b ∷ n) (double_halved_after false bs p.0 p.1)
     ] refl
 double_halved_after true (b ∷ bs) w e =
     elim (b == 92) as (λ v. (b == 92) ≡ v → escaped w ≡ 92 ∷ b ∷ bs) [
       | true ↦ λ q.
-          let p = put_is (92 ∷ []) w (unescaped bs) (sym (if_true (b == 92) (put (92 ∷ []) (unescaped bs)) None q) ∙ e) in
+          let p = put_is (92 ∷ []) w (unescaped bs) (sym (cond-true (b == 92) (put (92 ∷ []) (unescaped bs)) None q) ∙ e) in
           ap escaped (sym p.2) ∙ double_back p.0 ∙ ap (λ (n : List ℕ). 92 ∷ 92 ∷ n) (double_halved_after false bs p.0 p.1) ∙ ap (λ (n : ℕ). 92 ∷ n ∷ bs) (sym (eqb-true b 92 q))
-      | false ↦ λ q. absurd (let t : None ≡ Some w = sym (if_false (b == 92) (put (92 ∷ []) (unescaped bs)) None q) ∙ e in cc)
+      | false ↦ λ q. absurd (let t : None ≡ Some w = sym (cond-false (b == 92) (put (92 ∷ []) (unescaped bs)) None q) ∙ e in cc)
     ] refl
 
 -- what is read was doubled
@@ -142,7 +137,7 @@ pub doubled_halved : (bs w : List ℕ) → unescaped bs ≡ Some w → escaped w
 doubled_halved bs w e = double_halved_after false bs w e
 
 pub halved_is : (text v w : List ℕ) → unescaped text ≡ Some v → escaped w ≡ text → v ≡ w
-halved_is text v w e h = some_is v w (sym e ∙ ap unescaped (sym h) ∙ halved_doubled w)
+halved_is text v w e h = same_Some v w (sym e ∙ ap unescaped (sym h) ∙ halved_doubled w)
 
 pub halved_is_not : (text w : List ℕ) → unescaped text ≡ None → escaped w ≡ text → ⊥
 halved_is_not text w e h = let t : None ≡ Some w = sym e ∙ ap unescaped (sym h) ∙ halved_doubled w in cc
@@ -165,7 +160,7 @@ pub two_pushed : (new first out a b : List ℕ) (x y : ℕ) → new ≡ first ++
 two_pushed new first out a b x y p q r s = p ∙ ap (λ (w : List ℕ). w ++ b) (q ∙ ap (λ (w : List ℕ). out ++ w) r) ∙ ap (λ (w : List ℕ). (out ++ (x ∷ [])) ++ w) s ∙ append_assoc out (x ∷ []) (y ∷ [])
 
 pub hex_end : (goal out bs : List ℕ) → out ++ hex_pairs bs ≡ goal → bs ≡ [] → out ≡ goal
-hex_end goal out bs h e = sym (append_nil out) ∙ ap (λ (w : List ℕ). out ++ w) (sym hex_nil ∙ ap hex_pairs (sym e)) ∙ h
+hex_end goal out bs h e = sym (append-nil out) ∙ ap (λ (w : List ℕ). out ++ w) (sym hex_nil ∙ ap hex_pairs (sym e)) ∙ h
 
 unhexed_nil : decoded_hex [] ≡ Some []
 unfolding decoded_hex
@@ -205,7 +200,7 @@ pub unhexed_odd : (digits out rest : List ℕ) (h : ℕ) → IsUnhexedFrom digit
 unhexed_odd digits out rest h i e = sym i ∙ ap (λ o. put out o) (ap decoded_hex e ∙ unhexed_one h)
 
 pub unhexed_end : (digits out rest : List ℕ) → IsUnhexedFrom digits out rest → rest ≡ [] → decoded_hex digits ≡ Some out
-unhexed_end digits out rest i e = sym i ∙ ap (λ o. put out o) (ap decoded_hex e ∙ unhexed_nil) ∙ ap (λ (w : List ℕ). Some w) (append_nil out)
+unhexed_end digits out rest i e = sym i ∙ ap (λ o. put out o) (ap decoded_hex e ∙ unhexed_nil) ∙ ap (λ (w : List ℕ). Some w) (append-nil out)
 
 -- what was written is read
 half_of_digit : (d : ℕ) → d < 16 → half_byte (digit_char d) ≡ Some d
@@ -230,7 +225,7 @@ byte_is : (x y : Option ℕ) (o : Option (List ℕ)) (w : List ℕ) → byte_of 
 byte_is None y o w e = absurd cc
 byte_is (Some a) None o w e = absurd cc
 byte_is (Some a) (Some b) None w e = absurd cc
-byte_is (Some a) (Some b) (Some v) w e = (a, b, v, refl, refl, refl, some_is ((a * 16 + b) ∷ v) w e)
+byte_is (Some a) (Some b) (Some v) w e = (a, b, v, refl, refl, refl, same_Some ((a * 16 + b) ∷ v) w e)
 
 abbrev IsHexOf : List ℕ → List ℕ → Type 0
 IsHexOf cs bs = (hex_pairs bs ≡ cs) × All (λ b. b < 256) bs
@@ -245,7 +240,7 @@ hexed_cons b bs cs small h = (hex_cons b bs ∙ ap (λ (w : List ℕ). digit_cha
 pub hexed_unhexed : (cs bs : List ℕ) → decoded_hex cs ≡ Some bs → (hex_pairs bs ≡ cs) × All (λ b. b < 256) bs
 hexed_unhexed [] bs e =
     let P : List ℕ → Type 0 = λ w. IsHexOf [] w in
-    subst P (some_is [] bs (sym unhexed_nil ∙ e)) (hex_nil, λ k d l. absurd (omega arith))
+    subst P (same_Some [] bs (sym unhexed_nil ∙ e)) (hex_nil, λ k d l. absurd (omega arith))
 hexed_unhexed (h ∷ []) bs e = absurd (let n : decoded_hex (h ∷ []) ≡ None = unhexed_one h in cc)
 hexed_unhexed (h ∷ l ∷ cs) bs e =
     let p = byte_is (half_byte h) (half_byte l) (decoded_hex cs) bs (sym (unhexed_cons h l cs) ∙ e) in
@@ -261,7 +256,7 @@ hexed_unhexed (h ∷ l ∷ cs) bs e =
     subst P p.6 (made.0 ∙ ap (λ (w : ℕ). w ∷ digit_char (n % 16) ∷ cs) top ∙ ap (λ (w : ℕ). h ∷ w ∷ cs) rest, made.1)
 
 pub unhexed_is : (digits v w : List ℕ) → decoded_hex digits ≡ Some v → All (λ b. b < 256) w → hex_pairs w ≡ digits → v ≡ w
-unhexed_is digits v w e all h = some_is v w (sym e ∙ ap decoded_hex (sym h) ∙ unhexed_hexed w all)
+unhexed_is digits v w e all h = same_Some v w (sym e ∙ ap decoded_hex (sym h) ∙ unhexed_hexed w all)
 
 pub unhexed_is_not : (digits w : List ℕ) → decoded_hex digits ≡ None → All (λ b. b < 256) w → hex_pairs w ≡ digits → ⊥
 unhexed_is_not digits w e all h = let t : None ≡ Some w = sym e ∙ ap decoded_hex (sym h) ∙ unhexed_hexed w all in cc

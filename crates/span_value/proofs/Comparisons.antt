@@ -1,6 +1,6 @@
 -- What a comparison of numbers answers, and what an answer says.
 use Rattle.std.proofs.Common.{◌≡◌, ℕ, ◌<◌, true, refl, arith}
-use Rattle.std.specs.Ordering.{nat_cmp, is_lt, is_gt}
+use Rattle.std.specs.Ordering.{nat_cmp, is_lt, is_gt, ordering_then}
 use Rattle.std.specs.declared.cmp.Ordering.{Ordering}
 use Rattle.std.specs.declared.cmp.Ordering.TheVariants.{Less, Equal, Greater}
 use Rattle.std.proofs.lemmas.Bool.Decides.{nat_tests}
@@ -26,3 +26,8 @@ pub is_greater : (o : Ordering) → is_gt o ≡ true → o ≡ Greater
 is_greater Less e = absurd cc
 is_greater Equal e = absurd cc
 is_greater Greater e = refl
+
+pub then_equal : (o : Ordering) → ordering_then o Equal ≡ o
+then_equal Less = refl
+then_equal Equal = refl
+then_equal Greater = refl

@@ -71,7 +71,7 @@ null_alone kind.Bytes (value.Str n) h = absurd h.0
 
 -- ---- numbers as the library reads them
 
-model : IsNumeralModel (AllDigits 10) (digits_value 10)
+pub model : IsNumeralModel (AllDigits 10) (digits_value 10)
 model = numerals_by_value (AllDigits 10) tells_digits
 
 pub ok_is : {E : Type 0} (x y : ℤ) → (let r : Result ℤ E = Ok x in r) ≡ Ok y → x ≡ y

@@ -4,3 +4,5 @@ pub mod IntCells
 pub mod Total
 pub mod Comparisons
 pub mod Lists
+pub mod Results
+pub mod Numbers

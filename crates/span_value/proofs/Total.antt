@@ -1,14 +1,15 @@
 -- The order of values is total, and only a value is equal to itself.
 use Rattle.std.proofs.Common.{◌≡◌, ℕ, ℤ, pos, Bool, true, false, List, [], refl, sym, ap, subst, ◌∙◌, arith}
 use Rattle.std.specs.declared.cmp.Ordering.{Ordering}
-use Rattle.std.specs.declared.cmp.Ordering.TheVariants.{Less, Equal, Greater}
-use Rattle.std.specs.Ordering.{nat_cmp, int_cmp, bool_cmp, ordering_reverse, ordering_then, then_cmp, on, is_eq}
+use Rattle.std.specs.declared.cmp.Ordering.TheVariants.{Equal}
+use Rattle.std.specs.Ordering.{nat_cmp, int_cmp, bool_cmp, ordering_reverse, then_cmp, on, is_eq}
 use Rattle.std.specs.Cmp.{IsTotalOrder, then_total, on_total, tied_itself}
 use Rattle.std.proofs.lemmas.Cmp.{nat_cmp_total, int_cmp_total, nat_list_cmp_total}
 use Rattle.std.specs.Cmp.Lexicographic.{slice_cmp, same_text, texts_ties}
 use Rattle.span_value.specs.declared.value.Value.{Value}
 use Rattle.span_value.specs.declared.value.Value.TheVariants as value
 use Rattle.span_value.specs.Orders.{kind_rank, value_order}
+use Rattle.span_value.proofs.Comparisons.{then_equal}
 
 -- a value as a rank, a number and bytes
 abbrev number_in : Value → ℤ
@@ -27,11 +28,6 @@ by_parts = then_cmp (on kind_rank nat_cmp) (then_cmp (on number_in int_cmp) (on 
 by_parts_total : IsTotalOrder by_parts
 by_parts_total = then_total (on_total kind_rank nat_cmp_total) (then_total (on_total number_in int_cmp_total) (on_total bytes_in nat_list_cmp_total))
 
-last_equal : (o : Ordering) → o ≡ ordering_then o Equal
-last_equal Less = refl
-last_equal Equal = refl
-last_equal Greater = refl
-
 same_parts : (x y : Value) → value_order x y ≡ by_parts x y
 same_parts value.Null value.Null = refl
 same_parts value.Null (value.Bool b) = refl
@@ -48,7 +44,7 @@ same_parts (value.Bool a) (value.Str s) = refl
 same_parts (value.Bool a) (value.Bytes s) = refl
 same_parts (value.Int m) value.Null = refl
 same_parts (value.Int m) (value.Bool b) = refl
-same_parts (value.Int m) (value.Int n) = last_equal (int_cmp m n)
+same_parts (value.Int m) (value.Int n) = sym (then_equal (int_cmp m n))
 same_parts (value.Int m) (value.Str s) = refl
 same_parts (value.Int m) (value.Bytes s) = refl
 same_parts (value.Str t) value.Null = refl
@@ -74,7 +70,7 @@ same_bool false false e = refl
 same_bool true false e = absurd cc
 same_bool false true e = absurd cc
 
-same_int : (m n : ℤ) → int_cmp m n ≡ Equal → m ≡ n
+pub same_int : (m n : ℤ) → int_cmp m n ≡ Equal → m ≡ n
 same_int m n e = grind arith
 
 pub value_order_equal : (x y : Value) → value_order x y ≡ Equal → x ≡ y

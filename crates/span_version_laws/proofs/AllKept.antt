@@ -3,6 +3,7 @@ use Rattle.std.proofs.Common.{◌≡◌, ◌≢◌, ℕ, zero, suc, true, false,
 use Rattle.std.specs.Prelude.{slice_get, slice_set}
 use Rattle.std.specs.List.{list_any}
 use Rattle.std.proofs.lemmas.List.{length-set}
+use Rattle.std.proofs.lemmas.Option.{same_Some}
 use Rattle.span_value.specs.declared.refusal.Refusal.{Refusal}
 use Rattle.span_schema.specs.declared.table.Table.{Table}
 use Rattle.span_schema.specs.Lineages.{MeetsRules}
@@ -18,7 +19,6 @@ use Rattle.span_machine_laws.proofs.Ranges.{answer_ranges}
 use Rattle.span_machine_laws.proofs.Reached.{IsReached}
 use Rattle.span_machine_laws.proofs.Splits.{part_below, part_from, split_length}
 use Rattle.span_version_laws.specs.Kept.{AreKept, AreAllKept}
-use Rattle.span_version_laws.proofs.Slots.{some_same}
 use Rattle.span_version_laws.proofs.Splitting.{kept_split_lower, kept_split_upper}
 use Rattle.span_version_laws.proofs.Steps.{start_kept, kept_by_step, kept_split_elsewhere}
 
@@ -27,7 +27,7 @@ pub start_all_kept : (schema : List Table) → AreAllKept schema start ([] ∷ [
 start_all_kept schema = record { count = refl; each = λ slot cs here. by_place slot cs here }
   where
     by_place : (slot : ℕ) (cs : List KeyVersions) → slice_get ([] ∷ []) slot ≡ Some cs → AreKept schema start slot cs
-    by_place zero cs here = subst (AreKept schema start 0) (some_same [] cs here) (start_kept schema)
+    by_place zero cs here = subst (AreKept schema start 0) (same_Some [] cs here) (start_kept schema)
     by_place (suc slot) cs here = absurd (cc)
 
 -- ---- steps that touch no shard

@@ -13,18 +13,17 @@ use Rattle.span_machine.specs.declared.transaction.OpenTransaction.{OpenTransact
 use Rattle.span_machine.specs.declared.transaction.Decision.TheVariants as decision
 use Rattle.span_machine.specs.Machine.{Machine, has_key, holds, is_transaction, is_prepared_at, without_prepared, without_first, changed_first, applied, applied_at, commit_of}
 use Rattle.span_machine.specs.Kept.{ok_or}
-use Rattle.span_machine_laws.proofs.Tests.{first_true, second_true, number_same, equal_number}
 use Rattle.span_machine_laws.proofs.Lists.{found_passes, found_in}
 use Rattle.span_machine_laws.proofs.Stability.{is_some_of, changes_at}
 use Rattle.span_machine_laws.proofs.InPlace.{IsUnder, IsRising, commits_at, claims}
 use Rattle.span_machine_laws.proofs.Claims.{left_slot}
 use Rattle.span_machine_laws.proofs.Reached.{IsReached}
 use Rattle.span_version_laws.specs.Kept.{IsCodedRoot, IsCodedCoding, is_under, MakeRows, HasRows, IsPut, IsPending, IsKeptBy, AreKept, with_change, directory_after, made}
-use Rattle.span_version_laws.proofs.Slots.{IsStill, placed_in, still_same, still_last, other_number, home}
+use Rattle.span_version_laws.proofs.Slots.{IsStill, placed_in, still_same, still_last, home}
 use Rattle.span_version_laws.proofs.Trimming.{kept_newest, is_same_of, not_same_of, made_push}
 use Rattle.span_version_laws.proofs.Keys.{applied_versions, applied_prepared, versions_at-applied, prepared_at-applied}
 use Rattle.span_version_laws.proofs.Claimers.{above_horizon}
-use Rattle.std.proofs.lemmas.Bool.{and_left}
+use Rattle.std.proofs.lemmas.Bool.{and_left, eq-eqb, eqb-true, ne_eqb, and_parts}
 use Rattle.span_version_laws.proofs.Steps.{open_of_put, kept_still, kept_under, claimers}
 use Rattle.span_version_laws.proofs.Rows.{rising_front, rows_push, rows_still, not_of_others, others_apart}
 use Rattle.std.specs.List.{AllByRecursion}
@@ -41,16 +40,16 @@ use Rattle.span_version_laws.proofs.Roots.{coded_root}
 -- what is of the transaction is prepared no more
 none_prepared : (txn : ℕ) (p : Option PreparedWrite) → IsOpenFor txn p → applied_prepared txn p ≡ None
 none_prepared txn None is = refl
-none_prepared txn (Some w) is = ap (λ b. cond b None (Some w)) (equal_number w.txn txn is)
+none_prepared txn (Some w) is = ap (λ b. cond b None (Some w)) (eq-eqb w.txn txn is)
 
 -- what is not of it stays
 still_prepared : (txn : ℕ) (p : Option PreparedWrite) → IsNotOf txn p → applied_prepared txn p ≡ p
 still_prepared txn None off = refl
-still_prepared txn (Some w) off = ap (λ b. cond b None (Some w)) (other_number w.txn txn off)
+still_prepared txn (Some w) off = ap (λ b. cond b None (Some w)) (ne_eqb w.txn txn off)
 
 still_versions : (txn : ℕ) (committed : Option ℕ) (p : Option PreparedWrite) (vs : List Version) → IsNotOf txn p → applied_versions txn committed p vs ≡ vs
 still_versions txn committed None vs off = refl
-still_versions txn committed (Some w) vs off = ap (λ b. cond b (with_version committed w.row vs) vs) (other_number w.txn txn off)
+still_versions txn committed (Some w) vs off = ap (λ b. cond b (with_version committed w.row vs) vs) (ne_eqb w.txn txn off)
 
 -- a write that is given up leaves no version
 given_up_versions : (txn : ℕ) (p : Option PreparedWrite) (vs : List Version) → applied_versions txn None p vs ≡ vs
@@ -84,7 +83,7 @@ rows_applied schema root k h front c vs before after txn p has under high now th
       makes = subst (MakeRows schema root k (front ++ c ∷ [])) (sym (still same)) (rows_still schema root k front c (made schema root k front) before after has.makes under now through same);
     }
     by_put (Some w) put = record {
-      versions = ap (λ b. cond b (with_version (Some c.timestamp) w.row vs) vs) (equal_number w.txn txn put.0)
+      versions = ap (λ b. cond b (with_version (Some c.timestamp) w.row vs) vs) (eq-eqb w.txn txn put.0)
           ∙ ap (λ (row : Option (List ℕ)). (record { timestamp = c.timestamp; row = row }) ∷ vs) put.1
           ∙ ap (λ (l : List Version). newest ∷ l) has.versions
           ∙ sym (kept_newest h newest (made schema root k front) high)
@@ -114,7 +113,7 @@ keys_applied P txn committed (c ∷ cs) all =
 
 module _ (schema : List Table) (m : Machine) (reached : IsReached schema m) {slot : ℕ} (cs : List KeyVersions) (kept : AreKept schema m slot cs) (owner txn : ℕ) (t : OpenTransaction) (found : find (is_transaction owner txn) m.transactions ≡ Some t) where
   txn_is : t.number ≡ txn
-  txn_is = number_same t.number txn (second_true (t.owner == owner) (t.number == txn) (found_passes (is_transaction owner txn) m.transactions t found))
+  txn_is = eqb-true t.number txn ((and_parts (t.owner == owner) (t.number == txn) (found_passes (is_transaction owner txn) m.transactions t found)).1)
 
   off_after : (root : Root) → claims schema root slot (without_prepared slot t) ≡ false
   off_after root = and_left (is_prepared_at slot (without_prepared slot t)) (is_some_of (filter (is_at schema root) t.mutations)) (left_slot slot t.prepared)
@@ -170,7 +169,7 @@ module _ (schema : List Table) (m : Machine) (reached : IsReached schema m) {slo
         | false ↦ λ off. kept_of_others root is_root held k under (Some ts) off
         | true ↦ λ is.
             let place = placed_in schema m reached root (coded_root schema root is_root) slot (home schema m cs kept root held) in
-            let high : kept.slot_state.horizon < ts = above_horizon schema m reached root (coded_root schema root is_root) slot (home schema m cs kept root held) t ts (found_in (is_transaction owner txn) m.transactions t found) (first_true (is_prepared_at slot t) (is_some_of (filter (is_at schema root) t.mutations)) is) e in
+            let high : kept.slot_state.horizon < ts = above_horizon schema m reached root (coded_root schema root is_root) slot (home schema m cs kept root held) t ts (found_in (is_transaction owner txn) m.transactions t found) ((and_parts (is_prepared_at slot t) (is_some_of (filter (is_at schema root) t.mutations)) is).0) e in
             subst (IsKeptBy schema root k kept.slot_state.horizon (commits_at schema root m.log) (applied_versions t.number (Some ts) (prepared_at cs k) (versions_at cs k)) (applied_prepared t.number (prepared_at cs k))) (sym (left root is_root held is))
             (applied_pending schema root k kept.slot_state.horizon (commits_at schema root m.log) (versions_at cs k) (prepared_at cs k) t ts place.rising high
             (kept_under schema m reached cs kept root is_root held k under (is_transaction owner txn) t (decision.Committed ts) found is e))

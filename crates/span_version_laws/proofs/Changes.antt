@@ -11,13 +11,16 @@ use Rattle.std.proofs.lemmas.List.Elements.{filter-append, filter_agree}
 use Rattle.std.proofs.lemmas.List.{append-nil}
 use Rattle.std.proofs.lemmas.Map.Text.{is_eq-slice_cmp}
 use Rattle.std.proofs.lemmas.Slice.Eq.{bytes_eq-Decides}
+use Rattle.std.proofs.Math.Bool.{or-false}
 use Rattle.span_value.specs.declared.value.Value.{Value}
 use Rattle.span_value.specs.declared.refusal.Refusal.{Refusal}
+use Rattle.span_value.proofs.Lists.{all_append, all_weaker, filter_none, all_whole, filter-map, filter_swap, list_any-filter, all_both}
 use Rattle.span_schema.specs.declared.table.Table.{Table}
 use Rattle.span_schema.specs.Lineages.{MeetsRules}
 use Rattle.span_keycode.specs.Order.{byte_order}
 use Rattle.span_rowcode.specs.Rows.{row_code}
 use Rattle.span_truetime.specs.Limits.{timestamp_end}
+use Rattle.span_keycode.proofs.Order.{same_bytes}
 use Rattle.span_mutate.specs.declared.mutation.CheckedMutation.{CheckedMutation}
 use Rattle.span_mutate.specs.declared.row.TableRow.{TableRow}
 use Rattle.span_mutate.specs.Database.{apply}
@@ -25,29 +28,27 @@ use Rattle.span_mutate.specs.Directories.{Root, directory, rows_cmp, IsInOrder, 
 use Rattle.span_mutate.specs.Typed.{IsTyped, AreTyped, AreTypedMutations}
 use Rattle.span_mutate.proofs.Orders.{rows_total}
 use Rattle.span_mutate.proofs.TypedRows.{typed_stay}
-use Rattle.span_maderows.proofs.Bytes.{same_bytes}
-use Rattle.span_maderows.proofs.Lists.{all_map, all_append, filter_none}
 use Rattle.span_store.specs.declared.chain.Version.{Version}
 use Rattle.span_shard.specs.Rows.{code_of, is_coded, row_coded}
 use Rattle.span_shard.specs.Reading.{is_same_row}
 use Rattle.span_shard.proofs.Databases.{one_code}
-use Rattle.span_store.proofs.Lists.{all_both, all_whole}
+use Rattle.span_shard.proofs.Touching.{typed_keyed}
 use Rattle.span_machine.specs.declared.transaction.Commit.{Commit}
 use Rattle.span_machine.specs.Sorting.{in_order}
 use Rattle.span_machine.specs.Tables.{is_before, mutations_of}
 use Rattle.span_machine.specs.Machine.{Machine, is_at}
 use Rattle.span_machine.specs.Kept.{Change, has_same_key, is_same, put_at, deletion_at, changes_between, ok_or, after_mutations, changes_from, database_after, changes_of, database_of}
-use Rattle.span_machine_laws.proofs.Lists.{filter_swap, found_passes}
+use Rattle.span_machine_laws.proofs.Lists.{found_passes}
 use Rattle.span_machine_laws.proofs.Locality.{apply-directory, apply-database, empty_database, ok_same}
-use Rattle.span_machine_laws.proofs.Ordered.{all_placed, filter-in_order}
+use Rattle.span_machine_laws.proofs.Ordered.{all_in_order, filter-in_order}
 use Rattle.span_machine_laws.proofs.Stability.{is_before-order, touches, none_of}
 use Rattle.span_machine_laws.proofs.InPlace.{IsRising, commits_at, front_through, in_order_rising}
 use Rattle.span_machine_laws.proofs.Claims.{all_kept}
-use Rattle.span_machine_laws.proofs.Schemas.{IsCommitBy, keyed_all, typed_upto}
+use Rattle.span_machine_laws.proofs.Schemas.{IsCommitBy, typed_upto}
 use Rattle.span_machine_laws.proofs.Reached.{IsReached, reached_tables}
 use Rattle.span_version_laws.specs.Kept.{IsCodedRoot, is_under, with_change, directory_after, made_from, made}
 use Rattle.span_version_laws.proofs.Roots.{coded_root, coded_in_directory}
-use Rattle.span_version_laws.proofs.Counting.{any_alike, any_both, filter_made, is_at_key, newest_first, newest_joined, AreRising}
+use Rattle.span_version_laws.proofs.Counting.{any_alike, is_at_key, newest_first, newest_joined, AreRising}
 
 -- ---- rows, and the same
 
@@ -92,7 +93,7 @@ AreCodedApart schema (r ∷ rs) = AllByRecursion (λ (q : TableRow). is_coded sc
 pub coded_apart : (schema : List Table) → MeetsRules schema → (db : List TableRow) → IsInOrder schema db → AreTyped schema db → AreCodedApart schema db
 coded_apart schema rules [] up typed = tt
 coded_apart schema rules (r ∷ rs) up typed = (
-  all_map (λ (q : TableRow). IsTyped schema q × (rows_cmp schema r q ≡ Less)) (λ (q : TableRow). is_coded schema (code_of schema r) q ≡ false) (λ q h. other q h.0 h.1) rs
+  all_weaker (λ (q : TableRow). IsTyped schema q × (rows_cmp schema r q ≡ Less)) (λ (q : TableRow). is_coded schema (code_of schema r) q ≡ false) (λ q h. other q h.0 h.1) rs
       (all_both (IsTyped schema) (λ (q : TableRow). rows_cmp schema r q ≡ Less) rs typed.1 up.0),
   coded_apart schema rules rs up.1 typed.1,
 )
@@ -150,7 +151,7 @@ module _ (schema : List Table) (k : List ℕ) (ts : ℕ) (before after : List Ta
   -- a row at the key is new where another one or none was there
   new_is : (r : TableRow) → code_of schema r ≡ k → is_new r ≡ not (list_any (λ (q : TableRow). bytes_eq (row_code r.cells) (row_code q.cells)) (option_to_list (find (is_coded schema k) before)))
   new_is r e = ap not (
-      any_both (has_same_key schema r) (λ (q : TableRow). bytes_eq (row_code r.cells) (row_code q.cells)) before
+      list_any-filter (has_same_key schema r) (λ (q : TableRow). bytes_eq (row_code r.cells) (row_code q.cells)) before
       ∙ ap (list_any (λ (q : TableRow). bytes_eq (row_code r.cells) (row_code q.cells))) (filter_agree (has_same_key schema r) (is_coded schema k) (λ q. same_test r q e) before ∙ coded_alone schema k before before_apart)
       )
 
@@ -161,10 +162,6 @@ module _ (schema : List Table) (k : List ℕ) (ts : ℕ) (before after : List Ta
   -- a row that is found at the key has its coding
   coded_found : (db : List TableRow) (r : TableRow) → find (is_coded schema k) db ≡ Some r → code_of schema r ≡ k
   coded_found db r e = sym (same_bytes k (code_of schema r) (found_passes (is_coded schema k) db r e))
-
-  and_nothing : (c : Bool) → (c || false) ≡ c
-  and_nothing true = refl
-  and_nothing false = refl
 
   put_if : (c : Bool) (x : Change) (r : TableRow) → put_at schema ts r ≡ x → map (put_at schema ts) (cond (not c) (r ∷ []) []) ++ [] ≡ cond c [] (x ∷ [])
   put_if true x r e = refl
@@ -190,7 +187,7 @@ module _ (schema : List Table) (k : List ℕ) (ts : ℕ) (before after : List Ta
       let stays : is_gone q ≡ false = gone_is q (coded_found before q f) ∙ ap (λ (o : Option TableRow). not (is_some o)) e in
       let new : is_new r ≡ not (bytes_eq (row_code q.cells) (row_code r.cells)) =
       new_is r at ∙ ap (λ (o : Option TableRow). not (list_any (λ (p : TableRow). bytes_eq (row_code r.cells) (row_code p.cells)) (option_to_list o))) f
-      ∙ ap not (and_nothing (bytes_eq (row_code r.cells) (row_code q.cells)) ∙ turned_bytes (row_code r.cells) (row_code q.cells)) in
+      ∙ ap not (or-false (bytes_eq (row_code r.cells) (row_code q.cells)) ∙ turned_bytes (row_code r.cells) (row_code q.cells)) in
       ap (λ (c : Bool). map (put_at schema ts) (cond c (r ∷ []) []) ++ map (deletion_at schema ts) (cond (is_gone q) (q ∷ []) [])) new
       ∙ ap (λ (c : Bool). map (put_at schema ts) (cond (not (bytes_eq (row_code q.cells) (row_code r.cells))) (r ∷ []) []) ++ map (deletion_at schema ts) (cond c (q ∷ []) [])) stays
       ∙ put_if (bytes_eq (row_code q.cells) (row_code r.cells)) (record { key = k; timestamp = ts; row = Some (row_code r.cells) }) r (ap (λ (l : List ℕ). record { key = l; timestamp = ts; row = Some (row_code r.cells) }) at)
@@ -200,9 +197,9 @@ module _ (schema : List Table) (k : List ℕ) (ts : ℕ) (before after : List Ta
   changes_at_key =
       filter-append (is_at_key k) (map (put_at schema ts) (filter is_new after)) (map (deletion_at schema ts) (filter is_gone before))
       ∙ ap (λ (l : List Change). l ++ filter (is_at_key k) (map (deletion_at schema ts) (filter is_gone before)))
-      (filter_made (put_at schema ts) (is_at_key k) (filter is_new after) ∙ ap (map (put_at schema ts)) (filter_swap (is_coded schema k) is_new after ∙ ap (filter is_new) (coded_alone schema k after after_apart)))
+      (filter-map (is_at_key k) (put_at schema ts) (filter is_new after) ∙ ap (map (put_at schema ts)) (filter_swap (is_coded schema k) is_new after ∙ ap (filter is_new) (coded_alone schema k after after_apart)))
       ∙ ap (λ (l : List Change). map (put_at schema ts) (filter is_new (option_to_list (find (is_coded schema k) after))) ++ l)
-      (filter_made (deletion_at schema ts) (is_at_key k) (filter is_gone before) ∙ ap (map (deletion_at schema ts)) (filter_swap (is_coded schema k) is_gone before ∙ ap (filter is_gone) (coded_alone schema k before before_apart)))
+      (filter-map (is_at_key k) (deletion_at schema ts) (filter is_gone before) ∙ ap (map (deletion_at schema ts)) (filter_swap (is_coded schema k) is_gone before ∙ ap (filter is_gone) (coded_alone schema k before before_apart)))
       ∙ changes_here (find (is_coded schema k) after) (find (is_coded schema k) before) refl refl
 
 -- ---- the changes of a directory's commits at a key
@@ -283,7 +280,7 @@ apart_of schema rules db is = coded_apart schema rules db is.database.0 is.typed
 -- mutations without a fault leave one
 pub typed_after : (schema : List Table) → MeetsRules schema → (db out : List TableRow) (ms : List CheckedMutation) → IsTypedDatabase schema db → AreTypedMutations schema ms → apply schema db ms ≡ Ok out → IsTypedDatabase schema out
 typed_after schema rules db out ms is typed e = record {
-  database = apply-database schema rules ms db out is.database (keyed_all schema ms typed) e;
+  database = apply-database schema rules ms db out is.database (typed_keyed schema ms typed) e;
   typed = typed_stay schema db ms out is.typed typed e;
 }
 
@@ -295,7 +292,7 @@ module _ (schema : List Table) (rules : MeetsRules schema) (root : Root) (is_roo
   -- what mutations make of a directory
   pub in_directory : (db out : List TableRow) (ms : List CheckedMutation) → IsTypedDatabase schema db → AreTypedMutations schema ms → apply schema db ms ≡ Ok out
       → apply schema (directory schema root db) (filter (is_at schema root) ms) ≡ Ok (directory schema root out)
-  in_directory db out ms is typed e = apply-directory schema rules ms db out root (coded_root schema root is_root) is.database (keyed_all schema ms typed) e
+  in_directory db out ms is typed e = apply-directory schema rules ms db out root (coded_root schema root is_root) is.database (typed_keyed schema ms typed) e
 
   -- mutations that do not touch the directory leave the row of the key
   pub row_untouched : (db out : List TableRow) (ms : List CheckedMutation) → IsTypedDatabase schema db → AreTypedMutations schema ms → apply schema db ms ≡ Ok out → filter (is_at schema root) ms ≡ []
@@ -345,11 +342,6 @@ database_after_is schema db out (c ∷ cs) e =
     let parts = front_through schema c.mutations (mutations_of cs) db out e in
     ap (λ (next : List TableRow). database_after schema next cs) (after_is schema db parts.0 c.mutations parts.1) ∙ database_after_is schema parts.0 out cs parts.2
 
--- what holds of each commit holds of each in order
-pub all_in_order : (P : Commit → Type 0) (cs : List Commit) → AllByRecursion P cs → AllByRecursion P (in_order is_before cs)
-all_in_order P [] all = tt
-all_in_order P (c ∷ cs) all = all_placed is_before is_before-order P c (in_order is_before cs) all.0 (all_in_order P cs all.1)
-
 -- ---- the log of a machine
 
 -- what all the commits of the log make
@@ -374,5 +366,5 @@ module _ (schema : List Table) (rules : MeetsRules schema) (m : Machine) (reache
   -- the changes of the log at a key are those of its directory's commits
   pub changes_of_key : (k : List ℕ) → is_under schema root k ≡ true → filter (is_at_key k) (changes_of schema m.log) ≡ changes_made schema root k (commits_at schema root m.log)
   changes_of_key k under =
-      changes_from_key schema rules root is_root k under [] (database_of schema m.log) (in_order is_before m.log) empty_is (all_in_order (IsCommitBy schema) m.log reached.by_schema.log) log_made.made
+      changes_from_key schema rules root is_root k under [] (database_of schema m.log) (in_order is_before m.log) empty_is (all_in_order (IsCommitBy schema) is_before m.log reached.by_schema.log) log_made.made
       ∙ ap (changes_made schema root k) (filter-in_order is_before is_before-order (touches schema root) m.log ∙ in_order_rising (commits_at schema root m.log) (reached.placed root (coded_root schema root is_root)).1.rising)

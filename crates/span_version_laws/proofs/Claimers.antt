@@ -4,10 +4,10 @@ use Rattle.std.proofs.lemmas.List.Elements.{filter-append}
 use Rattle.span_machine.specs.declared.transaction.OpenTransaction.{OpenTransaction}
 use Rattle.span_machine.specs.Machine.{Machine, changed_first, without_first}
 use Rattle.std.specs.List.{AllByRecursion, list_any}
+use Rattle.std.proofs.lemmas.Bool.{eqb-true}
 use Rattle.span_machine.specs.declared.transaction.Prepared.{Prepared}
 use Rattle.span_machine.specs.declared.transaction.Decision.TheVariants as decision
 use Rattle.span_machine.specs.Machine.{is_prepared_at}
-use Rattle.span_machine_laws.proofs.Tests.{number_same}
 use Rattle.span_machine_laws.proofs.Holdings.{IsUpto, IsHolding}
 use Rattle.span_machine_laws.proofs.Sealed.{IsAbove}
 use Rattle.span_machine_laws.proofs.Lists.{IsIn, all_in, split_found, both_nil}
@@ -66,7 +66,7 @@ claimers_of schema m reached root is_root slot has test t found =
 pub late : (slot s ts : ℕ) (ps : List Prepared) → list_any (λ p. p.slot == slot) ps ≡ true → AllByRecursion (λ p. p.slot ≡ slot → s < p.timestamp) ps → AllByRecursion (λ p. p.timestamp ≤ ts) ps → s < ts
 late slot s ts [] = λ e above low. absurd (cc)
 late slot s ts (p ∷ ps) = elim (p.slot == slot) as (λ v. (p.slot == slot) ≡ v → (v || list_any (λ p. p.slot == slot) ps) ≡ true → AllByRecursion (λ p. p.slot ≡ slot → s < p.timestamp) (p ∷ ps) → AllByRecursion (λ p. p.timestamp ≤ ts) (p ∷ ps) → s < ts) [
-  | true ↦ λ is e above low. let up : s < p.timestamp = above.0 (number_same p.slot slot is) in let down : p.timestamp ≤ ts = low.0 in omega arith
+  | true ↦ λ is e above low. let up : s < p.timestamp = above.0 (eqb-true p.slot slot is) in let down : p.timestamp ≤ ts = low.0 in omega arith
   | false ↦ λ is e above low. late slot s ts ps e above.1 low.1
 ] refl
 

@@ -1,6 +1,6 @@
 -- Counting changes and versions by their keys.
-use Rattle.std.proofs.Common.{◌≡◌, ℕ, ◌+◌, ◌<◌, Bool, true, false, cond, not, ◌&&◌, ◌||◌, nat_lt, nat_le, List, [], ◌∷◌, ◌++◌, map, length, Option, Some, None, refl, ap, sym, ◌∙◌, arith, append_assoc}
-use Rattle.std.proofs.Math.Bool.{and-false}
+use Rattle.std.proofs.Common.{◌≡◌, ℕ, ◌+◌, ◌<◌, Bool, true, false, cond, not, ◌&&◌, ◌||◌, nat_lt, nat_le, List, [], ◌∷◌, ◌++◌, length, Option, Some, None, refl, ap, sym, ◌∙◌, arith, append_assoc}
+use Rattle.std.proofs.Math.Bool.{and-false, or-false, or_comm, and-true}
 use Rattle.std.specs.Prelude.{filter, sum_by, is_some}
 use Rattle.std.specs.List.{AllByRecursion, list_any}
 use Rattle.std.specs.Ordering.{eq_by_cmp}
@@ -11,16 +11,15 @@ use Rattle.std.proofs.lemmas.List.{append-nil, length-append}
 use Rattle.std.proofs.lemmas.List.Folds.{list_any-append}
 use Rattle.std.proofs.lemmas.List.Sums.{sum_by-cons}
 use Rattle.std.proofs.lemmas.Slice.Eq.{bytes_eq-Decides}
+use Rattle.std.proofs.lemmas.Bool.{lt-ltb, and_parts}
+use Rattle.span_value.proofs.Lists.{all_weaker, all_whole, filter_swap}
 use Rattle.span_keycode.specs.Order.{byte_order}
-use Rattle.span_maderows.proofs.Bytes.{same_bytes, bytes_same}
-use Rattle.span_maderows.proofs.Lists.{all_map, all_filter_itself}
+use Rattle.span_keycode.proofs.Order.{same_bytes, bytes_same}
+use Rattle.span_maderows.proofs.Lists.{all_filter_itself}
 use Rattle.span_store.specs.declared.chain.Version.{Version}
 use Rattle.span_shard.specs.KeyVersions.{KeyVersions}
 use Rattle.span_shard.specs.Versions.{kept_version, kept_upto}
 use Rattle.span_shard.specs.Shard.{AreInOrder, is_key}
-use Rattle.span_store.proofs.Lists.{all_whole}
-use Rattle.span_machine_laws.proofs.Lists.{filter_swap}
-use Rattle.span_machine_laws.proofs.Tests.{first_true}
 use Rattle.span_machine.specs.Kept.{Change, hides, is_kept, kept}
 use Rattle.span_version_laws.proofs.Keys.{greater_apart}
 
@@ -36,14 +35,6 @@ pub any_alike : {X : Type 0} (p q : X → Bool) (xs : List X) → AllByRecursion
 any_alike p q [] same = refl
 any_alike p q (x ∷ xs) same = ap (λ (b : Bool). b || list_any p xs) same.0 ∙ ap (λ (b : Bool). q x || b) (any_alike p q xs same.1)
 
--- whether both tests pass somewhere is whether one does among what passes the other
-pub any_both : {X : Type 0} (p q : X → Bool) (xs : List X) → list_any (λ x. p x && q x) xs ≡ list_any q (filter p xs)
-any_both p q [] = refl
-any_both p q (x ∷ xs) = elim (p x) as (λ b. ((b && q x) || list_any (λ y. p y && q y) xs) ≡ list_any q (cond b (x ∷ filter p xs) (filter p xs))) [
-  | true ↦ ap (λ (b : Bool). q x || b) (any_both p q xs)
-  | false ↦ any_both p q xs
-]
-
 -- what passes the stronger test is among what passes the weaker
 pub any_within : {X : Type 0} (p q : X → Bool) → ((x : X) → q x ≡ true → p x ≡ true) → (xs : List X) → list_any q (filter p xs) ≡ list_any q xs
 any_within p q weaker [] = refl
@@ -53,14 +44,6 @@ any_within {X} p q weaker (x ∷ xs) = cases (p x) (q x) refl refl (any_within p
     cases true b e f again = ap (λ (c : Bool). list_any q (cond c (x ∷ filter p xs) (filter p xs))) e ∙ ap (λ (c : Bool). q x || c) again
     cases false true e f again = absurd (let bad : false ≡ true = sym e ∙ weaker x f in cc)
     cases false false e f again = ap (λ (c : Bool). list_any q (cond c (x ∷ filter p xs) (filter p xs))) e ∙ again ∙ ap (λ (c : Bool). c || list_any q xs) (sym f)
-
--- what passes of what is made is made of what passes
-pub filter_made : {X Y : Type 0} (f : X → Y) (p : Y → Bool) (xs : List X) → filter p (map f xs) ≡ map f (filter (λ x. p (f x)) xs)
-filter_made f p [] = refl
-filter_made {X} {Y} f p (x ∷ xs) = elim (p (f x)) as (λ b. cond b (f x ∷ filter p (map f xs)) (filter p (map f xs)) ≡ map f (cond b (x ∷ filter (λ y. p (f y)) xs) (filter (λ y. p (f y)) xs))) [
-  | true ↦ ap (λ (l : List Y). f x ∷ l) (filter_made f p xs)
-  | false ↦ filter_made f p xs
-]
 
 -- ---- changes of one key
 
@@ -89,11 +72,11 @@ pub kept_at_key : (h : ℕ) (k : List ℕ) (cs : List Change) → filter (is_at_
 kept_at_key h k cs =
     filter_swap (is_at_key k) (is_kept h cs) cs
     ∙ filter_alike (is_kept h cs) (is_kept h (filter (is_at_key k) cs)) (filter (is_at_key k) cs)
-    (all_map (λ c. is_at_key k c ≡ true) (λ c. is_kept h cs c ≡ is_kept h (filter (is_at_key k) cs) c) same (filter (is_at_key k) cs) (all_filter_itself (is_at_key k) cs))
+    (all_weaker (λ c. is_at_key k c ≡ true) (λ c. is_kept h cs c ≡ is_kept h (filter (is_at_key k) cs) c) same (filter (is_at_key k) cs) (all_filter_itself (is_at_key k) cs))
   where
     of_key : (c d : Change) → is_at_key k c ≡ true → hides h c d ≡ true → is_at_key k d ≡ true
     of_key c d at e =
-        let one : bytes_eq c.key d.key ≡ true = first_true (bytes_eq c.key d.key) (nat_lt c.timestamp d.timestamp) (first_true (bytes_eq c.key d.key && nat_lt c.timestamp d.timestamp) (nat_le d.timestamp h) e) in
+        let one : bytes_eq c.key d.key ≡ true = (and_parts (bytes_eq c.key d.key) (nat_lt c.timestamp d.timestamp) ((and_parts (bytes_eq c.key d.key && nat_lt c.timestamp d.timestamp) (nat_le d.timestamp h) e).0)).0 in
         bytes_same k d.key (same_bytes k c.key at ∙ (bytes_eq-Decides c.key d.key).0 one)
 
     same : (c : Change) → is_at_key k c ≡ true → is_kept h cs c ≡ is_kept h (filter (is_at_key k) cs) c
@@ -112,26 +95,14 @@ has_early h cs = list_any (λ (c : Change). nat_le c.timestamp h) cs
 abbrev has_old : ℕ → List Version → Bool
 has_old h vs = list_any (λ (v : Version). nat_le v.timestamp h) vs
 
--- nothing but the one test
-or_nothing : (a : Bool) → (a || false) ≡ a
-or_nothing true = refl
-or_nothing false = refl
-
--- one test or the other
-or_turned : (a b : Bool) → (a || b) ≡ (b || a)
-or_turned true true = refl
-or_turned true false = refl
-or_turned false true = refl
-or_turned false false = refl
-
 -- the versions that changes leave are as old as they
 old_is_early : (h : ℕ) (cs : List Change) → has_old h (newest_first cs) ≡ has_early h cs
 old_is_early h [] = refl
 old_is_early h (c ∷ cs) =
     list_any-append (λ (v : Version). nat_le v.timestamp h) (newest_first cs) (version_of c ∷ [])
     ∙ ap (λ (b : Bool). b || (nat_le c.timestamp h || false)) (old_is_early h cs)
-    ∙ ap (λ (b : Bool). has_early h cs || b) (or_nothing (nat_le c.timestamp h))
-    ∙ or_turned (has_early h cs) (nat_le c.timestamp h)
+    ∙ ap (λ (b : Bool). has_early h cs || b) (or-false (nat_le c.timestamp h))
+    ∙ or_comm (has_early h cs) (nat_le c.timestamp h)
 
 -- an older version after others is left out where one of them is at or below the horizon
 upto_after : (h : ℕ) (vs : List Version) (v : Version) → kept_upto h (vs ++ v ∷ []) ≡ cond (has_old h vs) (kept_upto h vs) (vs ++ kept_upto h (v ∷ []))
@@ -162,9 +133,6 @@ not_before t u low = grind (arith, nat_tests)
 not_self : (t : ℕ) → nat_lt t t ≡ false
 not_self t = grind (arith, nat_tests)
 
-before : (t u : ℕ) → t < u → nat_lt t u ≡ true
-before t u low = grind (arith, nat_tests)
-
 not_late : (h t u : ℕ) → t < u → nat_le u h ≡ true → nat_lt h t ≡ false
 not_late h t u low early = grind (arith, nat_tests)
 
@@ -180,18 +148,18 @@ hides_self h c = ap (λ (b : Bool). bytes_eq c.key c.key && b && nat_le c.timest
 hides_on : (h : ℕ) (c d : Change) → d.key ≡ c.key → c.timestamp < d.timestamp → hides h c d ≡ nat_le d.timestamp h
 hides_on h c d same low =
     ap (λ (b : Bool). b && nat_lt c.timestamp d.timestamp && nat_le d.timestamp h) ((bytes_eq-Decides c.key d.key).1 (sym same))
-    ∙ ap (λ (b : Bool). b && nat_le d.timestamp h) (before c.timestamp d.timestamp low)
+    ∙ ap (λ (b : Bool). b && nat_le d.timestamp h) (lt-ltb c.timestamp d.timestamp low)
 
 -- the first of rising changes does not bear on the others
 rest_kept : (h : ℕ) (c : Change) (cs : List Change) → AreRising (c ∷ cs) → filter (is_kept h (c ∷ cs)) cs ≡ kept h cs
-rest_kept h c cs up = filter_alike (is_kept h (c ∷ cs)) (is_kept h cs) cs (all_map (λ (d : Change). (d.key ≡ c.key) × (c.timestamp < d.timestamp)) (λ d. is_kept h (c ∷ cs) d ≡ is_kept h cs d)
+rest_kept h c cs up = filter_alike (is_kept h (c ∷ cs)) (is_kept h cs) cs (all_weaker (λ (d : Change). (d.key ≡ c.key) × (c.timestamp < d.timestamp)) (λ d. is_kept h (c ∷ cs) d ≡ is_kept h cs d)
     (λ d later. ap (λ (b : Bool). nat_lt h d.timestamp || (is_some d.row && not (b || list_any (hides h d) cs))) (hides_back h c d later.1)) cs up.0)
 
 -- and is kept by itself
 first_kept : (h : ℕ) (c : Change) (cs : List Change) → AreRising (c ∷ cs) → is_kept h (c ∷ cs) c ≡ (nat_lt h c.timestamp || (is_some c.row && not (has_early h cs)))
 first_kept h c cs up = ap (λ (b : Bool). nat_lt h c.timestamp || (is_some c.row && not b))
     (ap (λ (b : Bool). b || list_any (hides h c) cs) (hides_self h c)
-    ∙ any_alike (hides h c) (λ d. nat_le d.timestamp h) cs (all_map (λ (d : Change). (d.key ≡ c.key) × (c.timestamp < d.timestamp)) (λ (d : Change). hides h c d ≡ nat_le d.timestamp h) (λ d later. hides_on h c d later.0 later.1) cs up.0))
+    ∙ any_alike (hides h c) (λ d. nat_le d.timestamp h) cs (all_weaker (λ (d : Change). (d.key ≡ c.key) × (c.timestamp < d.timestamp)) (λ (d : Change). hides h c d ≡ nat_le d.timestamp h) (λ d later. hides_on h c d later.0 later.1) cs up.0))
 
 -- a change with a later one at or below the horizon is itself below it
 early_below : (h : ℕ) (c : Change) (cs : List Change) → AllByRecursion (λ (d : Change). (d.key ≡ c.key) × (c.timestamp < d.timestamp)) cs → has_early h cs ≡ true → nat_lt h c.timestamp ≡ false
@@ -214,10 +182,6 @@ one_kept h c = ap (λ (b : Bool). length (cond b (kept_version (version_of c) c.
     cases true row = refl
     cases false None = refl
     cases false (Some bytes) = refl
-
-and_true : (a : Bool) → (a && true) ≡ a
-and_true true = refl
-and_true false = refl
 
 -- one more where the test passes
 length_if : {X : Type 0} (b : Bool) (x : X) (xs : List X) → length (cond b (x ∷ xs) xs) ≡ length xs + cond b 1 0
@@ -245,7 +209,7 @@ kept_count h (c ∷ cs) up =
     by_early false e =
         let none : has_old h (newest_first cs) ≡ false = old_is_early h cs ∙ e in
         ap (λ (vs : List Version). length vs + cond (nat_lt h c.timestamp || (is_some c.row && true)) 1 0) (upto_late h (newest_first cs) none)
-        ∙ ap (λ (b : Bool). length (newest_first cs) + cond (nat_lt h c.timestamp || b) 1 0) (and_true (is_some c.row))
+        ∙ ap (λ (b : Bool). length (newest_first cs) + cond (nat_lt h c.timestamp || b) 1 0) (and-true (is_some c.row))
         ∙ ap (λ (n : ℕ). length (newest_first cs) + n) (sym (one_kept h c))
         ∙ sym (length-append (newest_first cs) (kept_upto h (version_of c ∷ [])))
         ∙ ap (λ (b : Bool). length (cond b (kept_upto h (newest_first cs)) (newest_first cs ++ kept_upto h (version_of c ∷ [])))) (sym none)
@@ -295,7 +259,7 @@ count_once k (c ∷ cs) up e = sum_by-cons (counted k) c cs ∙ cases (is_key k 
     cases true is again f =
         let same : k ≡ c.key = same_bytes k c.key is in
         let one : counted k c ≡ 1 = ap (λ (b : Bool). cond b 1 0) (turned_key c.key k ∙ is) in
-        let none : sum_by (counted k) cs ≡ 0 = sum_none (counted k) cs (all_map (λ (d : KeyVersions). byte_order c.key d.key ≡ Less) (λ d. counted k d ≡ 0)
+        let none : sum_by (counted k) cs ≡ 0 = sum_none (counted k) cs (all_weaker (λ (d : KeyVersions). byte_order c.key d.key ≡ Less) (λ d. counted k d ≡ 0)
         (λ d less. ap (λ (l : List ℕ). cond (eq_by_cmp byte_order d.key l) 1 0) same ∙ ap (λ (b : Bool). cond b 1 0) (greater_apart c.key d.key less)) cs up.0) in
         omega arith
     cases false is again f =
@@ -308,9 +272,9 @@ pub count_by_keys : (cs : List KeyVersions) → AreInOrder cs → (ds : List Cha
 count_by_keys cs up [] there = sum_none (λ c. 0) cs (all_whole (λ c. 0 ≡ 0) (λ c. refl) cs)
 count_by_keys cs up (d ∷ ds) there =
     let after : KeyVersions → ℕ = λ (c : KeyVersions). length (filter (is_at_key c.key) (d ∷ ds)) in
-    let before : KeyVersions → ℕ = λ (c : KeyVersions). length (filter (is_at_key c.key) ds) in
+    let lt-ltb : KeyVersions → ℕ = λ (c : KeyVersions). length (filter (is_at_key c.key) ds) in
     let one : sum_by (counted d.key) cs ≡ 1 = count_once d.key cs up there.0 in
-    let rest : sum_by before cs ≡ length ds = count_by_keys cs up ds there.1 in
-    sum_alike after (λ (c : KeyVersions). before c + counted d.key c) cs (all_whole (λ (c : KeyVersions). after c ≡ before c + counted d.key c) (λ (c : KeyVersions). length_if (is_at_key c.key d) d (filter (is_at_key c.key) ds)) cs)
-    ∙ sum_split before (counted d.key) cs
+    let rest : sum_by lt-ltb cs ≡ length ds = count_by_keys cs up ds there.1 in
+    sum_alike after (λ (c : KeyVersions). lt-ltb c + counted d.key c) cs (all_whole (λ (c : KeyVersions). after c ≡ lt-ltb c + counted d.key c) (λ (c : KeyVersions). length_if (is_at_key c.key d) d (filter (is_at_key c.key) ds)) cs)
+    ∙ sum_split lt-ltb (counted d.key) cs
     ∙ omega arith

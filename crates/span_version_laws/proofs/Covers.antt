@@ -2,11 +2,13 @@
 use Rattle.std.proofs.Common.{◌≡◌, ◌≤◌, ℕ, zero, suc, Bool, true, false, cond, List, [], ◌∷◌, ◌++◌, Option, Some, Result, Ok, refl, ap, sym, ◌∙◌, subst}
 use Rattle.std.specs.Prelude.{find, filter, map, insert, option_map, slice_get, slice_set}
 use Rattle.std.specs.List.{AllByRecursion, list_all}
+use Rattle.std.proofs.lemmas.Bool.{and_parts}
 use Rattle.span_value.specs.declared.refusal.Refusal.{Refusal}
 use Rattle.span_schema.specs.declared.table.Table.{Table}
 use Rattle.span_schema.specs.Lineages.{MeetsRules}
 use Rattle.span_schema.specs.Numbers.{IsTable}
 use Rattle.span_value.specs.declared.value.Value.{Value}
+use Rattle.span_value.proofs.Lists.{all_push}
 use Rattle.span_keycode.specs.declared.range.KeyRange.{KeyRange}
 use Rattle.span_keycode.specs.Parts.{place_among, part_between}
 use Rattle.span_keycode.proofs.PartLaws.{part_within, gap_within}
@@ -46,7 +48,7 @@ use Rattle.span_machine.specs.Run.{IsOfSchema}
 use Rattle.span_machine.specs.Tables.{tables, upto, mutations_of}
 use Rattle.span_machine.specs.Machine.{Machine, answer, answer_on, rows_or_refusal, if_some, is_query, is_safe, is_covered, uncovered, statement_plan, add_piece, with_piece, gap_in, cover, changed_first, without_first}
 use Rattle.span_machine.specs.Pieces.{Pieced, no_pieces as unread_pieces, unread, insert_piece, insert_piece_at, covered_by, queries_of}
-use Rattle.span_machine_laws.proofs.Lists.{all_push, all_without, all_changed_found, all_found, all_both}
+use Rattle.span_machine_laws.proofs.Lists.{all_without, all_changed_found, all_found, all_both}
 use Rattle.span_machine_laws.proofs.Locality.{apply-database, empty_database, ok_same}
 use Rattle.span_machine_laws.proofs.PlanLaws.{leaf_tiled, plan_leaves, planned_meaning}
 use Rattle.span_machine_laws.proofs.Pieces.{AllCovered, AreEnds, IsOpenLeaf, HasLeaves, leaves_of, opened_query, piece_at, leaves_covered}
@@ -54,7 +56,6 @@ use Rattle.span_machine_laws.proofs.Reached.{IsReached, reached_tables, answer_r
 use Rattle.span_machine_laws.proofs.Schemas.{keyed_upto, typed_upto}
 use Rattle.span_machine_laws.proofs.Sealed.{answer_keeps}
 use Rattle.span_machine_laws.proofs.Sound.{IsPartSealed, IsCoveredSealed}
-use Rattle.span_machine_laws.proofs.Tests.{first_true, second_true}
 use Rattle.span_version_laws.specs.Kept.{AreKept, HasRowsIn, AreRead, AreLeafPieces, IsPieced, ArePieced, has_row, row_within, rows_within, tables_within}
 use Rattle.span_machine_laws.proofs.RangeRows.{rows_alike_within}
 use Rattle.span_version_laws.proofs.Snapshots.{snapshot_when_safe}
@@ -169,9 +170,9 @@ module _ (schema : List Table) (rules : MeetsRules schema) (log : List Commit) (
   all_read (l ∷ ls) (p ∷ ps) covered are planned all =
       let own : joined_pieces p ≡ leaf_within schema db l.leaf l.leaf.range =
       pieces_joined l.leaf l.covered p all.0
-      ∙ sym (leaf_tiled schema rules db is_db typed l.leaf planned.0 l.leaf.range l.covered (first_true (is_covered l) (list_all is_covered ls) covered) are.0.ends are.0.range) in
+      ∙ sym (leaf_tiled schema rules db is_db typed l.leaf planned.0 l.leaf.range l.covered ((and_parts (is_covered l) (list_all is_covered ls) covered).0) are.0.ends are.0.range) in
       ap (λ (r : Rows). r ∷ map joined_pieces ps) own
-      ∙ ap (λ (rs : List Rows). leaf_within schema db l.leaf l.leaf.range ∷ rs) (all_read ls ps (second_true (is_covered l) (list_all is_covered ls) covered) are.1 planned.1 all.1)
+      ∙ ap (λ (rs : List Rows). leaf_within schema db l.leaf l.leaf.range ∷ rs) (all_read ls ps ((and_parts (is_covered l) (list_all is_covered ls) covered).1) are.1 planned.1 all.1)
 
 -- ---- the pieces of an empty journal, and those that come, are changed and go
 

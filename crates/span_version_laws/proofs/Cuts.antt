@@ -1,5 +1,5 @@
 -- A key is in the range of a slot just where the directory that it lies in is: ranges are cut at root keys.
-use Rattle.std.proofs.Common.{◌≡◌, ℕ, zero, suc, true, not, ◌&&◌, Bool, List, [], ◌∷◌, Option, Some, None, refl, ap, sym, ◌∙◌, subst}
+use Rattle.std.proofs.Common.{◌≡◌, ℕ, true, not, ◌&&◌, Bool, List, Option, Some, None, refl, ap, sym, ◌∙◌}
 use Rattle.std.specs.Prelude.{slice_get}
 use Rattle.std.specs.Ordering.{is_lt}
 use Rattle.span_schema.specs.declared.table.Table.{Table}
@@ -8,12 +8,12 @@ use Rattle.span_keycode.specs.Order.{byte_order}
 use Rattle.span_keycode.specs.Keys.{key_code}
 use Rattle.span_mutate.specs.Directories.{Root}
 use Rattle.span_machine.specs.declared.slot.SlotState.{SlotState}
-use Rattle.span_machine.specs.Slots.{IsCodedRoot, IsCut, AreCut, is_from, is_upto, is_between, has_key, holds, root_code, ranges_of}
+use Rattle.span_machine.specs.Slots.{IsCodedRoot, IsCut, is_from, is_upto, is_between, has_key, holds, root_code}
 use Rattle.span_machine.specs.Machine.{Machine}
 use Rattle.span_machine_laws.proofs.Ends.{less_cut}
 use Rattle.span_machine_laws.proofs.Reached.{IsReached}
+use Rattle.span_machine_laws.proofs.Ranges.{cut_at}
 use Rattle.span_version_laws.specs.Kept.{is_under}
-use Rattle.span_version_laws.proofs.Slots.{some_same}
 
 -- ---- ranges
 
@@ -37,17 +37,11 @@ module _ (schema : List Table) (rules : MeetsRules schema) (root : Root) (is : I
 
 -- ---- the slots of a machine
 
--- the ends of a slot's range are cuts
-cuts_of : (schema : List Table) (slots : List SlotState) (slot : ℕ) (b : SlotState) → slice_get slots slot ≡ Some b → AreCut schema (ranges_of slots) → IsCut schema b.lo × IsCut schema b.hi
-cuts_of schema [] slot b here cut = absurd (cc)
-cuts_of schema (c ∷ slots) zero b here cut = subst (λ (d : SlotState). IsCut schema d.lo × IsCut schema d.hi) (some_same c b here) cut.0
-cuts_of schema (c ∷ slots) (suc slot) b here cut = cuts_of schema slots slot b here cut.1
-
 module _ (schema : List Table) (rules : MeetsRules schema) (m : Machine) (reached : IsReached schema m) (slot : ℕ) (slot_state : SlotState) (here : slice_get m.slots slot ≡ Some slot_state)
     (root : Root) (is : IsCodedRoot schema root) (k : List ℕ) (under : is_under schema root k ≡ true) where
   -- a slot has a key in its range just where it has its directory
   pub has_as_root : has_key slot_state k ≡ holds schema slot_state root
-  has_as_root = let cut = cuts_of schema m.slots slot slot_state here reached.ranges.cut in has_under schema rules root is k under slot_state cut.0 cut.1
+  has_as_root = let cut = cut_at schema m.slots slot slot_state here reached.ranges.cut in has_under schema rules root is k under slot_state cut.0 cut.1
 
   pub held_by_key : has_key slot_state k ≡ true → holds schema slot_state root ≡ true
   held_by_key has = sym has_as_root ∙ has

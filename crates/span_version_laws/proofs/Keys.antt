@@ -3,7 +3,7 @@ use Rattle.std.specs.Prelude.{find, filter, map, option_map}
 use Rattle.std.specs.List.{AllByRecursion}
 use Rattle.std.specs.Ordering.{eq_by_cmp, is_eq}
 use Rattle.std.specs.declared.cmp.Ordering.TheVariants.{Less, Equal, Greater}
-use Rattle.span_maderows.proofs.Bytes.{bytes_total, same_bytes}
+use Rattle.span_maderows.proofs.Bytes.{bytes_total}
 use Rattle.span_store.specs.declared.chain.Version.{Version}
 use Rattle.span_store.specs.declared.chain.PreparedWrite.{PreparedWrite}
 use Rattle.span_store.specs.declared.write.Write.{Write}
@@ -11,9 +11,11 @@ use Rattle.span_shard.specs.KeyVersions.{KeyVersions}
 use Rattle.span_shard.specs.Versions.{is_used, with_prepared, with_version, applied_write, applied_to_key, kept_upto}
 use Rattle.span_shard.specs.Writes.{is_of}
 use Rattle.span_shard.specs.Shard.{AreInOrder, is_key, versions_of, prepared_of, versions_at, prepared_at, by_order, with_write, with_writes, new_key, prepared_write, applied, trimmed_key, trimmed}
-use Rattle.span_machine_laws.proofs.Lists.{all_found, all_weaker}
+use Rattle.span_machine_laws.proofs.Lists.{all_found}
 use Rattle.std.specs.Cmp.{eq_by_cmp_equiv}
+use Rattle.span_value.proofs.Lists.{all_weaker}
 use Rattle.span_keycode.specs.Order.{byte_order}
+use Rattle.span_keycode.proofs.Order.{same_bytes}
 use Rattle.span_shard.proofs.InOrder.{in_order_with_writes, key_stays}
 use Rattle.span_shard.proofs.Undo.{equal_key}
 use Rattle.span_keytree.proofs.Rising.{turned}

@@ -2,6 +2,7 @@
 use Rattle.std.proofs.Common.{◌≡◌, ◌==◌, ℕ, ◌<◌, true, false, cond, nat_le, List, [], ◌∷◌, Option, Some, None, refl, sym, subst}
 use Rattle.std.specs.Prelude.{find, filter}
 use Rattle.std.specs.List.{AllByRecursion}
+use Rattle.std.proofs.lemmas.Bool.{eqb-true, and_parts}
 use Rattle.span_schema.specs.declared.table.Table.{Table}
 use Rattle.span_schema.specs.Lineages.{MeetsRules}
 use Rattle.span_mutate.specs.declared.row.TableRow.{TableRow}
@@ -18,7 +19,6 @@ use Rattle.span_machine.specs.declared.transaction.Commit.{Commit}
 use Rattle.span_machine.specs.declared.transaction.OpenTransaction.{OpenTransaction}
 use Rattle.span_machine.specs.declared.transaction.Decision.TheVariants as decision
 use Rattle.span_machine.specs.Machine.{Machine, is_transaction, has_key, holds, commit_of}
-use Rattle.span_machine_laws.proofs.Tests.{second_true, number_same}
 use Rattle.span_machine_laws.proofs.Lists.{found_passes, all_found}
 use Rattle.span_machine_laws.proofs.InPlace.{IsUnder, IsRising, commits_at, claims}
 use Rattle.span_machine_laws.proofs.Reached.{IsReached}
@@ -85,7 +85,7 @@ of_others txn ts vs (Some w) off = λ e. absurd (off e)
 
 module _ (schema : List Table) (rules : MeetsRules schema) (m : Machine) (reached : IsReached schema m) {slot : ℕ} (cs : List KeyVersions) (kept : AreKept schema m slot cs) (owner txn : ℕ) (t : OpenTransaction) (found : find (is_transaction owner txn) m.transactions ≡ Some t) where
   txn_is : t.number ≡ txn
-  txn_is = number_same t.number txn (second_true (t.owner == owner) (t.number == txn) (found_passes (is_transaction owner txn) m.transactions t found))
+  txn_is = eqb-true t.number txn ((and_parts (t.owner == owner) (t.number == txn) (found_passes (is_transaction owner txn) m.transactions t found)).1)
 
   later_at : (ts : ℕ) → t.decision ≡ decision.Committed ts → (root : Root) (is_root : IsCodedRoot schema root) (held : holds schema kept.slot_state root ≡ true) (k : List ℕ) (under : is_under schema root k ≡ true) → IsLaterWrite t.number ts (versions_at cs k) (prepared_at cs k)
   later_at ts e root is_root held k under = elim (claims schema root slot t) as (λ v. claims schema root slot t ≡ v → IsLaterWrite t.number ts (versions_at cs k) (prepared_at cs k)) [

@@ -1,16 +1,18 @@
 -- How many versions a shard has.
-use Rattle.std.proofs.Common.{◌≡◌, ◌≢◌, ℕ, suc, ◌+◌, ◌-◌, ◌<◌, Bool, true, false, cond, not, ◌&&◌, nat_le, List, [], ◌∷◌, ◌++◌, map, length, Option, Some, None, Result, Ok, Err, refl, ap, sym, ◌∙◌, subst, inl, inr, ◌⊎◌, arith}
+use Rattle.std.proofs.Common.{◌≡◌, ◌≢◌, ℕ, ◌+◌, ◌-◌, ◌<◌, Bool, true, false, cond, not, ◌&&◌, List, [], ◌∷◌, ◌++◌, map, length, Option, Some, None, Result, Ok, Err, refl, ap, sym, ◌∙◌, subst, inl, inr, ◌⊎◌, arith}
 use Rattle.std.specs.Prelude.{find, filter, sum_by, is_some, slice_get}
 use Rattle.std.specs.List.{AllByRecursion, list_any}
-use Rattle.std.proofs.lemmas.Bool.Decides.{nat_tests}
 use Rattle.std.proofs.lemmas.List.{append-nil, length-append}
 use Rattle.std.proofs.lemmas.List.Elements.{filter-append}
 use Rattle.std.proofs.lemmas.List.Sums.{sum_by-cons}
+use Rattle.std.proofs.lemmas.Bool.{and_from, lt-leb, and_parts}
 use Rattle.span_value.specs.declared.refusal.Refusal.{Refusal}
+use Rattle.span_value.proofs.Lists.{all_append, all_weaker, filter_none, all_filter}
 use Rattle.span_schema.specs.declared.table.Table.{Table}
 use Rattle.span_schema.specs.Lineages.{MeetsRules}
 use Rattle.span_keycode.specs.Keys.{key_code}
 use Rattle.span_truetime.specs.Limits.{timestamp_end}
+use Rattle.span_keycode.proofs.Order.{same_bytes, bytes_same}
 use Rattle.span_mutate.specs.declared.mutation.CheckedMutation.{CheckedMutation}
 use Rattle.span_mutate.specs.declared.row.TableRow.{TableRow}
 use Rattle.span_mutate.specs.Database.{apply}
@@ -18,8 +20,8 @@ use Rattle.span_mutate.specs.Directories.{Root, AreKeyed, directory}
 use Rattle.span_mutate.specs.Typed.{IsTyped, AreTyped, IsTypedMutation, AreTypedMutations}
 use Rattle.span_mutate.proofs.TypedRows.{typed_stay}
 use Rattle.span_maderows.specs.Made.{begins_with}
-use Rattle.span_maderows.proofs.Bytes.{same_bytes, bytes_same, front_begins}
-use Rattle.span_maderows.proofs.Lists.{all_append, all_map, all_filter_itself, filter_none}
+use Rattle.span_maderows.proofs.Bytes.{front_begins}
+use Rattle.span_maderows.proofs.Lists.{all_filter_itself}
 use Rattle.span_store.specs.declared.chain.Version.{Version}
 use Rattle.span_store.specs.declared.chain.PreparedWrite.{PreparedWrite}
 use Rattle.span_shard.specs.KeyVersions.{KeyVersions}
@@ -28,6 +30,7 @@ use Rattle.span_shard.specs.Reading.{is_same_row}
 use Rattle.span_shard.specs.Versions.{kept_version, kept_upto}
 use Rattle.span_shard.specs.Shard.{AreInOrder, is_key, versions_of, prepared_of, versions_at, prepared_at, kept_of, live}
 use Rattle.span_store.proofs.Lists.{any_all, none_any}
+use Rattle.span_shard.proofs.Touching.{typed_keyed}
 use Rattle.span_machine.specs.declared.slot.SlotState.{SlotState}
 use Rattle.span_machine.specs.declared.transaction.Commit.{Commit}
 use Rattle.span_machine.specs.declared.transaction.OpenTransaction.{OpenTransaction}
@@ -37,24 +40,24 @@ use Rattle.span_machine.specs.Sorting.{in_order}
 use Rattle.span_machine.specs.Tables.{is_before, mutations_of}
 use Rattle.span_machine.specs.Machine.{Machine, is_at, has_key, holds, mutations_in, is_prepared_at, commit_of}
 use Rattle.span_machine.specs.Kept.{Change, put_at, deletion_at, is_same, has_same_key, changes_between, ok_or, after_mutations, changes_from, changes_of, database_after, database_of, is_kept, kept, is_committed, changes_in, count_prepared_changes, live as slot_live}
-use Rattle.span_machine_laws.proofs.Tests.{first_true, both_of}
-use Rattle.span_machine_laws.proofs.Lists.{IsIn, found_passes, kept_in, all_in, all_found, all_filtered}
+use Rattle.span_machine_laws.proofs.Lists.{IsIn, found_passes, kept_in, all_in, all_found, all_places}
 use Rattle.span_machine_laws.proofs.Locality.{IsRoot, own_root, apply-succeeds, apply-directory, empty_database, ok_same}
-use Rattle.span_machine_laws.proofs.Ordered.{filter-in_order}
+use Rattle.span_machine_laws.proofs.Ordered.{filter-in_order, all_in_order}
 use Rattle.span_machine_laws.proofs.Stability.{is_before-order, touches, is_some_of, none_of, changes_at, changes_at-cons, changes_at-filter}
 use Rattle.span_machine_laws.proofs.InPlace.{commits_at, claims, IsClaim, front_through, in_order_rising}
 use Rattle.span_machine_laws.proofs.Claims.{some_any, all_held, all_kept}
-use Rattle.span_machine_laws.proofs.Schemas.{IsBegunBy, IsCommitBy, keyed_all, keyed_upto, typed_in}
+use Rattle.span_machine_laws.proofs.Schemas.{IsBegunBy, IsCommitBy, keyed_upto, typed_in}
 use Rattle.span_machine_laws.proofs.Reached.{IsReached}
+use Rattle.span_machine_laws.proofs.Consistent.{in_filtered}
 use Rattle.span_version_laws.specs.Kept.{IsCodedRoot, IsCodedCoding, is_under, with_change, directory_after, made_from, made, HasRows, IsPut, IsPreparedBy, IsPending, IsKeptUnder, IsKeptBy, AreKept}
 use Rattle.span_version_laws.proofs.Slots.{HasRoot, held_of_some, none_held, home, state_is}
 use Rattle.span_version_laws.proofs.Cuts.{has_as_root}
 use Rattle.span_version_laws.proofs.Keys.{all_by_key}
 use Rattle.span_version_laws.proofs.Claimers.{claim_here, above_horizon}
 use Rattle.span_version_laws.proofs.Roots.{coded_root, coded_root_at, root_of_coding, coded_in_directory}
-use Rattle.span_version_laws.proofs.Sorted.{in_cons, all_of_in}
+use Rattle.span_version_laws.proofs.Sorted.{in_cons}
 use Rattle.span_version_laws.proofs.Counting.{kept_at_key, kept_count, count_by_keys, sum_alike, is_at_key}
-use Rattle.span_version_laws.proofs.Changes.{same_row_is, change_at, change_none, changes_at_key, changes_made, changes_rise, made_is, IsTypedDatabase, apart_of, typed_after, after_is, row_untouched, in_directory, all_in_order, IsLogMade, log_made, changes_of_key}
+use Rattle.span_version_laws.proofs.Changes.{same_row_is, change_at, change_none, changes_at_key, changes_made, changes_rise, made_is, IsTypedDatabase, apart_of, typed_after, after_is, row_untouched, in_directory, IsLogMade, log_made, changes_of_key}
 
 -- ---- the versions of one commit more
 
@@ -85,17 +88,13 @@ a_version ts row = record { timestamp = ts; row = row }
 abbrev a_change : List ℕ → ℕ → Option (List ℕ) → Change
 a_change k ts row = record { key = k; timestamp = ts; row = row }
 
--- what is above the horizon is not at or below it
-late_is : (h t : ℕ) → h < t → nat_le t h ≡ false
-late_is h t low = grind (arith, nat_tests)
-
 -- a version above the horizon is one version more
 upto_more : (k : List ℕ) (h ts : ℕ) (before after : Option (List ℕ)) (vs : List Version) → h < ts → length (kept_upto h (with_change ts before after vs)) ≡ length (kept_upto h vs) + length (change_at k ts before after)
 upto_more k h ts before after vs late = cases (is_same_row before after)
   where
     cases : (b : Bool) → length (kept_upto h (cond b vs (a_version ts after ∷ vs))) ≡ length (kept_upto h vs) + length (cond b [] (a_change k ts after ∷ []))
     cases true = omega arith
-    cases false = ap (λ (b : Bool). length (cond b (kept_version (a_version ts after) after) (a_version ts after ∷ kept_upto h vs))) (late_is h ts late) ∙ omega arith
+    cases false = ap (λ (b : Bool). length (cond b (kept_version (a_version ts after) after) (a_version ts after ∷ kept_upto h vs))) (lt-leb ts h late) ∙ omega arith
 
 -- what is prepared is counted as what changes
 put_count : (k : List ℕ) (ts txn : ℕ) (before after : Option (List ℕ)) (p : Option PreparedWrite) → IsPut txn before after p → length (change_at k ts before after) ≡ cond (is_some p) 1 0
@@ -178,7 +177,7 @@ outside_apart slot_state k c off has = cases (is_at_key k c) refl
 
 changes_outside : (slot_state : SlotState) (k : List ℕ) → has_key slot_state k ≡ false → (cs : List Change) → filter (is_at_key k) (changes_in slot_state cs) ≡ []
 changes_outside slot_state k off cs = filter_none (is_at_key k) (changes_in slot_state cs)
-    (all_map (λ (c : Change). has_key slot_state c.key ≡ true) (λ (c : Change). is_at_key k c ≡ false) (λ c has. outside_apart slot_state k c off has) (changes_in slot_state cs) (all_filter_itself (λ (c : Change). has_key slot_state c.key) cs))
+    (all_weaker (λ (c : Change). has_key slot_state c.key ≡ true) (λ (c : Change). is_at_key k c ≡ false) (λ c has. outside_apart slot_state k c off has) (changes_in slot_state cs) (all_filter_itself (λ (c : Change). has_key slot_state c.key) cs))
 
 -- a key outside the range is not in a shard that has none
 find_outside : (slot_state : SlotState) (k : List ℕ) (cs : List KeyVersions) → AllByRecursion (λ (c : KeyVersions). has_key slot_state c.key ≡ true) cs → has_key slot_state k ≡ false → find (is_key k) cs ≡ None
@@ -192,19 +191,6 @@ find_outside slot_state k cs inside off = cases (find (is_key k) cs) refl
         absurd (let bad : true ≡ false = sym (subst (λ (l : List ℕ). has_key slot_state l ≡ true) (sym same) has) ∙ off in cc)
 
 -- ---- lists
-
--- what passes is in the filtered list
-in_filter : {X : Type 0} (test : X → Bool) (xs : List X) (x : X) → IsIn x xs → test x ≡ true → IsIn x (filter test xs)
-in_filter test [] x at e = absurd (let bad = at.1 in cc)
-in_filter {X} test (y ∷ ys) x at e = by_place (in_cons x y ys at) (λ rest. in_filter test ys x rest e)
-  where
-    later : (b : Bool) → IsIn x (filter test ys) → IsIn x (cond b (y ∷ filter test ys) (filter test ys))
-    later true is = (suc is.0, is.1)
-    later false is = is
-
-    by_place : (x ≡ y) ⊎ IsIn x ys → (IsIn x ys → IsIn x (filter test ys)) → IsIn x (filter test (y ∷ ys))
-    by_place (inl same) again = subst (λ (b : Bool). IsIn x (cond b (y ∷ filter test ys) (filter test ys))) (sym (ap test (sym same) ∙ e)) (0, ap Some (sym same))
-    by_place (inr rest) again = later (test y) (again rest)
 
 -- a list that has an element is not empty
 not_empty : {X : Type 0} (xs : List X) (x : X) → IsIn x xs → length xs ≢ 0
@@ -222,7 +208,7 @@ log_keyed schema m reached root is_root =
 one_claims : (schema : List Table) (m : Machine) → IsReached schema m → (root : Root) → IsRoot schema root → (slot : ℕ) → HasRoot schema m slot root → (t : OpenTransaction) → IsIn t m.transactions → claims schema root slot t ≡ true → filter (claims schema root slot) m.transactions ≡ t ∷ []
 one_claims schema m reached root is_root slot has t at is =
     let claim = claim_here schema m reached root is_root slot has in
-    alone (filter (claims schema root slot) m.transactions) claim.0 claim.1 (in_filter (claims schema root slot) m.transactions t at is)
+    alone (filter (claims schema root slot) m.transactions) claim.0 claim.1 (in_filtered (claims schema root slot) m.transactions t is at)
   where
     alone : (us : List OpenTransaction) (n : ℕ) → IsClaim schema root n (commits_at schema root m.log) us → IsIn t us → us ≡ t ∷ []
     alone [] n claim here = absurd (let bad = here.1 in cc)
@@ -300,14 +286,14 @@ module _ (schema : List Table) (rules : MeetsRules schema) (m : Machine) {slot :
             let held : holds schema state root ≡ true = held_of_some schema root is_root state t.mutations some in
             let whole : filter (is_at schema root) (its t) ≡ filter (is_at schema root) t.mutations = all_its root is_root held t in
             let k : List ℕ = key_code schema root.table root.key in
-            let under = claimed_at root coded held k (begins_itself k) t at (both_of (is_prepared_at slot t) (is_some_of (filter (is_at schema root) t.mutations)) prepared (sym (ap is_some_of whole) ∙ some)) in
+            let under = claimed_at root coded held k (begins_itself k) t at (and_from (is_prepared_at slot t) (is_some_of (filter (is_at schema root) t.mutations)) prepared (sym (ap is_some_of whole) ∙ some)) in
             let by = (prepared_under schema root k horizon (commits_at schema root m.log) (versions_at cs k) (prepared_at cs k) t t.decision open_still under).0 in
             let same : directory schema root now ≡ by.before = ok_same (sym (directory_now root coded) ∙ by.now) in
             (by.after, ap (apply schema (directory schema root now)) whole ∙ ap (λ (rows : List TableRow). apply schema rows (filter (is_at schema root) t.mutations)) same ∙ by.through)
 
     -- and in the whole database
     through_now : IsLogMade schema m now → (out : List TableRow) × (apply schema now (its t) ≡ Ok out)
-    through_now log = apply-succeeds schema rules (its t) now log.is.database (keyed_all schema (its t) (its_typed t at)) through_each
+    through_now log = apply-succeeds schema rules (its t) now log.is.database (typed_keyed schema (its t) (its_typed t at)) through_each
 
   -- ---- one key
 
@@ -352,7 +338,7 @@ module _ (schema : List Table) (rules : MeetsRules schema) (m : Machine) {slot :
         let nothing : has_count ≡ 0 = ap (λ (o : Option KeyVersions). length (versions_of o) + cond (is_some (prepared_of o)) 1 0) (find_outside state k cs are_kept.inside off) in
         let of_log : filter (is_at_key k) (kept horizon (changes_in state (changes_of schema m.log))) ≡ [] = kept_at_key horizon k (changes_in state (changes_of schema m.log)) ∙ ap (kept horizon) (changes_outside state k off (changes_of schema m.log)) in
         let of_open : filter (is_at_key k) (all_prepared schema now slot state m.transactions) ≡ [] =
-        prepared_nowhere schema now slot state k m.transactions (all_of_in (λ t. filter (is_at_key k) (changes_prepared schema now slot state t) ≡ []) m.transactions
+        prepared_nowhere schema now slot state k m.transactions (all_places (λ t. filter (is_at_key k) (changes_prepared schema now slot state t) ≡ []) m.transactions
         (λ t at. untouched_none t at (none_held schema root (coded_root schema root is_root) state t.mutations away))) in
         nothing ∙ sym (ap length (
         filter-append (is_at_key k) (kept horizon (changes_in state (changes_of schema m.log))) (all_prepared schema now slot state m.transactions)
@@ -386,7 +372,7 @@ module _ (schema : List Table) (rules : MeetsRules schema) (m : Machine) {slot :
           ∙ in_directory schema rules root is_root k under now out (its t) log.is typed through.1) in
           let row_before : row_coded schema by.before k ≡ row_coded schema now k = ap (λ (rows : List TableRow). row_coded schema rows k) before ∙ coded_in_directory schema rules root is_root k under now log.is.typed in
           let row_after : row_coded schema by.after k ≡ row_coded schema out k = ap (λ (rows : List TableRow). row_coded schema rows k) after ∙ coded_in_directory schema rules root is_root k under out is_out.typed in
-          ap (λ (b : Bool). length (filter (is_at_key k) (cond b (changes_between schema 0 now (after_mutations schema now (its t))) []))) (both_of (is_prepared_at slot t) (not (is_committed t.decision)) prepared (ap not open_still))
+          ap (λ (b : Bool). length (filter (is_at_key k) (cond b (changes_between schema 0 now (after_mutations schema now (its t))) []))) (and_from (is_prepared_at slot t) (not (is_committed t.decision)) prepared (ap not open_still))
           ∙ ap length (prepared_here t typed out through.1)
           ∙ ap (λ (row : Option (List ℕ)). length (change_at k 0 row (row_coded schema out k))) (sym row_before)
           ∙ ap (λ (row : Option (List ℕ)). length (change_at k 0 (row_coded schema by.before k) row)) (sym row_after)
@@ -436,7 +422,7 @@ module _ (schema : List Table) (rules : MeetsRules schema) (m : Machine) {slot :
         where
           claimed_alone : prepared_count ≡ length (filter (is_at_key k) (all_prepared schema now slot state (filter (claims schema root slot) m.transactions)))
           claimed_alone = ap length (prepared_claimed schema now slot state k (claims schema root slot) m.transactions
-              (all_of_in (λ t. claims schema root slot t ≡ false → filter (is_at_key k) (changes_prepared schema now slot state t) ≡ []) m.transactions (λ t at off. unclaimed_none t at off)))
+              (all_places (λ t. claims schema root slot t ≡ false → filter (is_at_key k) (changes_prepared schema now slot state t) ≡ []) m.transactions (λ t at off. unclaimed_none t at off)))
 
           one_alone : (t : OpenTransaction) → filter (claims schema root slot) m.transactions ≡ t ∷ [] → prepared_count ≡ length (filter (is_at_key k) (changes_prepared schema now slot state t))
           one_alone t e =
@@ -447,14 +433,14 @@ module _ (schema : List Table) (rules : MeetsRules schema) (m : Machine) {slot :
           by_open : (t : OpenTransaction) → IsIn t m.transactions → claims schema root slot t ≡ true → filter (claims schema root slot) m.transactions ≡ t ∷ [] → is_committed t.decision ≡ false
               → IsPreparedBy schema root k (commits_at schema root m.log) t.number t.mutations (prepared_at cs k) × HasRows schema root k horizon (commits_at schema root m.log) (versions_at cs k) → has_count ≡ made_count + prepared_count
           by_open t at is one open_still rows =
-              let prepared : is_prepared_at slot t ≡ true = first_true (is_prepared_at slot t) (is_some_of (filter (is_at schema root) t.mutations)) is in
+              let prepared : is_prepared_at slot t ≡ true = (and_parts (is_prepared_at slot t) (is_some_of (filter (is_at schema root) t.mutations)) is).0 in
               let count : prepared_count ≡ cond (is_some (prepared_at cs k)) 1 0 = one_alone t one ∙ claimed_one t at prepared open_still (prepared_at cs k) rows.0 in
               ap (λ (n : ℕ). n + cond (is_some (prepared_at cs k)) 1 0) (versions_count rows.1) ∙ ap (λ (n : ℕ). made_count + n) (sym count)
 
           by_decision : (t : OpenTransaction) (o : Decision) → t.decision ≡ o → IsIn t m.transactions → claims schema root slot t ≡ true → filter (claims schema root slot) m.transactions ≡ t ∷ []
               → IsKeptUnder schema root k horizon (commits_at schema root m.log) (versions_at cs k) (prepared_at cs k) t o → has_count ≡ made_count + prepared_count
           by_decision t (decision.Committed ts) e at is one rows =
-              let prepared : is_prepared_at slot t ≡ true = first_true (is_prepared_at slot t) (is_some_of (filter (is_at schema root) t.mutations)) is in
+              let prepared : is_prepared_at slot t ≡ true = (and_parts (is_prepared_at slot t) (is_some_of (filter (is_at schema root) t.mutations)) is).0 in
               let late : horizon < ts = above_horizon schema m reached root (coded_root schema root is_root) slot (home schema m cs are_kept root held) t ts at prepared e in
               let none : prepared_count ≡ 0 =
               one_alone t one
@@ -495,8 +481,8 @@ of_rows schema change same (r ∷ rs) typed = (subst (IsCodedCoding schema) (sym
 pub coded_between : (schema : List Table) (ts : ℕ) (before after : List TableRow) → AreTyped schema before → AreTyped schema after → AllByRecursion (IsOfKey schema) (changes_between schema ts before after)
 coded_between schema ts before after typed_before typed_after =
     all_append (IsOfKey schema) (map (put_at schema ts) (filter (λ r. not (list_any (is_same schema r) before)) after)) (map (deletion_at schema ts) (filter (λ r. not (list_any (has_same_key schema r) after)) before))
-    (of_rows schema (put_at schema ts) (λ r. refl) (filter (λ r. not (list_any (is_same schema r) before)) after) (all_filtered (IsTyped schema) (λ r. not (list_any (is_same schema r) before)) after typed_after))
-    (of_rows schema (deletion_at schema ts) (λ r. refl) (filter (λ r. not (list_any (has_same_key schema r) after)) before) (all_filtered (IsTyped schema) (λ r. not (list_any (has_same_key schema r) after)) before typed_before))
+    (of_rows schema (put_at schema ts) (λ r. refl) (filter (λ r. not (list_any (is_same schema r) before)) after) (all_filter (IsTyped schema) (λ r. not (list_any (is_same schema r) before)) after typed_after))
+    (of_rows schema (deletion_at schema ts) (λ r. refl) (filter (λ r. not (list_any (has_same_key schema r) after)) before) (all_filter (IsTyped schema) (λ r. not (list_any (has_same_key schema r) after)) before typed_before))
 
 -- mutations leave typed rows, also where they have a fault
 typed_mutated : (schema : List Table) (db : List TableRow) (ms : List CheckedMutation) → AreTyped schema db → AreTypedMutations schema ms → AreTyped schema (after_mutations schema db ms)
@@ -542,7 +528,7 @@ module _ (schema : List Table) (cs : List KeyVersions) (up : AreInOrder cs) (cod
 
   -- the keys of the changes are in the shard
   all_there : AllByRecursion (λ (d : Change). list_any (is_key d.key) cs ≡ true) ds
-  all_there = all_of_in (λ (d : Change). list_any (is_key d.key) cs ≡ true) ds there
+  all_there = all_places (λ (d : Change). list_any (is_key d.key) cs ≡ true) ds there
     where
       there : (d : Change) → IsIn d ds → list_any (is_key d.key) cs ≡ true
       there d at = cases (list_any (is_key d.key) cs) refl
@@ -553,7 +539,7 @@ module _ (schema : List Table) (cs : List KeyVersions) (up : AreInOrder cs) (cod
               let none : find (is_key d.key) cs ≡ None = none_any (is_key d.key) cs e in
               let count = each d.key (all_in (IsOfKey schema) ds d at of_keys) in
               let nothing : length (versions_at cs d.key) + cond (is_some (prepared_at cs d.key)) 1 0 ≡ 0 = ap (λ (o : Option KeyVersions). length (versions_of o) + cond (is_some (prepared_of o)) 1 0) none in
-              absurd (not_empty (filter (is_at_key d.key) ds) d (in_filter (is_at_key d.key) ds d at (bytes_same d.key d.key refl)) (sym count ∙ nothing))
+              absurd (not_empty (filter (is_at_key d.key) ds) d (in_filtered (is_at_key d.key) ds d (bytes_same d.key d.key refl) at) (sym count ∙ nothing))
 
   pub live_by_keys : live cs ≡ length ds
   live_by_keys = sum_alike kept_of (λ (c : KeyVersions). length (filter (is_at_key c.key) ds)) cs each_key ∙ count_by_keys cs up ds all_there
@@ -587,13 +573,13 @@ module _ (schema : List Table) (rules : MeetsRules schema) (m : Machine) {slot :
 
   -- the log's commits in their order are typed
   in_order_by : AllByRecursion (IsCommitBy schema) (in_order is_before m.log)
-  in_order_by = all_in_order (IsCommitBy schema) m.log reached.by_schema.log
+  in_order_by = all_in_order (IsCommitBy schema) is_before m.log reached.by_schema.log
 
   -- the keys of all that is counted are coded
   pub all_coded : AllByRecursion (IsOfKey schema) counted_changes
   all_coded = all_append (IsOfKey schema) kept_changes open_changes
-      (all_filtered (IsOfKey schema) (is_kept are_kept.slot_state.horizon (changes_in are_kept.slot_state (changes_of schema m.log))) (changes_in are_kept.slot_state (changes_of schema m.log))
-      (all_filtered (IsOfKey schema) (λ (c : Change). has_key are_kept.slot_state c.key) (changes_of schema m.log) (coded_from schema [] (in_order is_before m.log) tt in_order_by)))
+      (all_filter (IsOfKey schema) (is_kept are_kept.slot_state.horizon (changes_in are_kept.slot_state (changes_of schema m.log))) (changes_in are_kept.slot_state (changes_of schema m.log))
+      (all_filter (IsOfKey schema) (λ (c : Change). has_key are_kept.slot_state c.key) (changes_of schema m.log) (coded_from schema [] (in_order is_before m.log) tt in_order_by)))
       (coded_prepared schema (database_of schema m.log) slot are_kept.slot_state m.transactions (typed_database schema [] (in_order is_before m.log) tt in_order_by) reached.by_schema.transactions)
 
   -- how many they are

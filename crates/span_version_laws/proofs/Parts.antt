@@ -1,11 +1,12 @@
 -- A part of a shard: what a slot keeps of its range is what a slot with a part of the range keeps there.
 use Rattle.std.proofs.Common.{◌≡◌, ℕ, Bool, true, false, cond, List, [], ◌∷◌, Option, Some, refl, ap, sym, ◌∙◌, subst}
 use Rattle.std.specs.Prelude.{find, filter, slice_get}
+use Rattle.span_value.proofs.Lists.{all_filter}
 use Rattle.span_schema.specs.declared.table.Table.{Table}
 use Rattle.span_schema.specs.Lineages.{MeetsRules}
+use Rattle.span_keycode.proofs.Order.{same_bytes}
 use Rattle.span_mutate.specs.Directories.{Root}
 use Rattle.span_mutate.proofs.Placing.{rising_filter}
-use Rattle.span_maderows.proofs.Bytes.{same_bytes}
 use Rattle.span_maderows.proofs.Lists.{all_filter_itself}
 use Rattle.span_store.specs.declared.chain.Version.{Version}
 use Rattle.span_store.specs.declared.chain.PreparedWrite.{PreparedWrite}
@@ -16,7 +17,7 @@ use Rattle.span_machine.specs.declared.transaction.Commit.{Commit}
 use Rattle.span_machine.specs.declared.transaction.OpenTransaction.{OpenTransaction}
 use Rattle.span_machine.specs.Slots.{IsCut, root_code}
 use Rattle.span_machine.specs.Machine.{Machine, has_key, holds}
-use Rattle.span_machine_laws.proofs.Lists.{all_filtered, all_both}
+use Rattle.span_machine_laws.proofs.Lists.{all_both}
 use Rattle.span_machine_laws.proofs.InPlace.{commits_at, claims}
 use Rattle.span_version_laws.specs.Kept.{IsCodedRoot, IsCodedCoding, IsKeptBy, AreKept}
 use Rattle.span_version_laws.proofs.Cuts.{has_under}
@@ -65,10 +66,10 @@ kept_part schema rules m n slot part cs kept new is p agrees = record {
   slot_state = new;
   here = is.here;
   keys = rising_filter keys_cmp (λ (c : KeyVersions). p c.key) cs kept.keys;
-  used = all_filtered IsInUse (λ (c : KeyVersions). p c.key) cs kept.used;
-  coded = all_filtered (λ (c : KeyVersions). IsCodedCoding schema c.key) (λ (c : KeyVersions). p c.key) cs kept.coded;
+  used = all_filter IsInUse (λ (c : KeyVersions). p c.key) cs kept.used;
+  coded = all_filter (λ (c : KeyVersions). IsCodedCoding schema c.key) (λ (c : KeyVersions). p c.key) cs kept.coded;
   inside = all_both (λ (c : KeyVersions). p c.key ≡ true) (λ (c : KeyVersions). has_key kept.slot_state c.key ≡ true) (λ (c : KeyVersions). has_key new c.key ≡ true) (λ c passes has. sym (agrees c.key has) ∙ passes) (filter (λ (c : KeyVersions). p c.key) cs)
-      (all_filter_itself (λ (c : KeyVersions). p c.key) cs) (all_filtered (λ (c : KeyVersions). has_key kept.slot_state c.key ≡ true) (λ (c : KeyVersions). p c.key) cs kept.inside);
+      (all_filter_itself (λ (c : KeyVersions). p c.key) cs) (all_filter (λ (c : KeyVersions). has_key kept.slot_state c.key ≡ true) (λ (c : KeyVersions). p c.key) cs kept.inside);
   kept = λ root is_root held k under.
       let has : has_key new k ≡ true = has_under schema rules root is_root k under new is.cut.0 is.cut.1 ∙ held in
       let there = find_part p k (agrees k (is.within k has) ∙ has) cs in

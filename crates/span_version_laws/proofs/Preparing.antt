@@ -16,8 +16,6 @@ use Rattle.span_mutate.specs.Directories.{Root, directory, IsDatabase, AreKeyed}
 use Rattle.span_mutate.specs.Typed.{AreTyped, AreTypedMutations}
 use Rattle.span_mutate.proofs.TypedRows.{typed_stay}
 use Rattle.span_maderows.specs.Made.{begins_with}
-use Rattle.span_maderows.proofs.Bytes.{bytes_same}
-use Rattle.span_maderows.proofs.Lists.{all_append}
 use Rattle.span_store.specs.declared.chain.PreparedWrite.{PreparedWrite}
 use Rattle.span_store.specs.declared.write.Write.{Write}
 use Rattle.span_shard.specs.KeyVersions.{KeyVersions}
@@ -38,8 +36,7 @@ use Rattle.span_machine.specs.Tables.{is_before, upto, mutations_of, tables}
 use Rattle.span_machine.specs.Kept.{Change, changes_between, database_of, count_changes, live_with, live as slot_live}
 use Rattle.span_machine.specs.Machine.{Machine, root_at, is_at, has_key, holds, is_transaction, is_undecided, is_prepared_at, mutations_in, has_conflict, prepare_refusal, prepare_timestamp, prepared, add_prepared, changed_first, mutations_refusal, refusal_of}
 use Rattle.span_machine_laws.proofs.Causes.{may_prepare, undecided_is}
-use Rattle.span_machine_laws.proofs.Tests.{second_true, first_or, second_or, equal_number, number_same}
-use Rattle.span_machine_laws.proofs.Lists.{found_passes, all_found, all_weaker}
+use Rattle.span_machine_laws.proofs.Lists.{found_passes, all_found}
 use Rattle.span_machine_laws.proofs.Locality.{is_at-itself, apply-directory, apply-database, empty_database, ok_same}
 use Rattle.span_machine_laws.proofs.Stability.{changes_at, touches, is_some_of, none_of}
 use Rattle.span_machine_laws.proofs.InPlace.{commits_at, claims, changes_at-upto}
@@ -51,7 +48,7 @@ use Rattle.span_version_laws.proofs.Slots.{HasRoot, held_of_some, none_held, sti
 use Rattle.span_version_laws.proofs.Cuts.{held_by_key, key_by_held}
 use Rattle.span_version_laws.proofs.Keys.{all_by_key, prepared_by, versions_at-with_writes, prepared_at-with_writes}
 use Rattle.span_version_laws.proofs.Claimers.{claimers_of}
-use Rattle.std.proofs.lemmas.Bool.{and_left, and_right}
+use Rattle.std.proofs.lemmas.Bool.{and_left, and_right, or_left, or_right, eq-eqb, eqb-true, and_parts}
 use Rattle.span_version_laws.proofs.Roots.{coded_root, coded_root_at, root_of_coding, coding_of_row, coded_in_directory}
 use Rattle.span_version_laws.proofs.Steps.{kept_still}
 use Rattle.span_version_laws.proofs.Trimming.{not_same_of}
@@ -60,13 +57,15 @@ use Rattle.span_version_laws.proofs.Changes.{change_at, change_none, changes_at_
 use Rattle.span_version_laws.proofs.Live.{IsOfKey, coded_between, live_by_keys, counted_changes, count_at, all_coded, counted_length}
 use Rattle.std.proofs.lemmas.List.{length-append}
 use Rattle.std.proofs.lemmas.List.Elements.{filter-append}
+use Rattle.span_value.proofs.Lists.{all_append, all_weaker}
+use Rattle.span_keycode.proofs.Order.{bytes_same}
 use Rattle.span_version_laws.proofs.Rows.{row_now_of_tables, not_of_others, others_apart}
 
 -- ---- tests
 
 prepared_here : (slot ts : ℕ) (ps : List Prepared) → list_any (λ p. p.slot == slot) (ps ++ (record { slot = slot; timestamp = ts }) ∷ []) ≡ true
-prepared_here slot ts [] = first_or (slot == slot) false (equal_number slot slot refl)
-prepared_here slot ts (p ∷ ps) = second_or (p.slot == slot) _ (prepared_here slot ts ps)
+prepared_here slot ts [] = or_left (slot == slot) false (eq-eqb slot slot refl)
+prepared_here slot ts (p ∷ ps) = or_right (p.slot == slot) _ (prepared_here slot ts ps)
 
 -- a touched key is under the root row of one of the mutations
 pub touched_root : (schema : List Table) → MeetsRules schema → (k : List ℕ) (ms : List CheckedMutation) → AreTypedMutations schema ms → is_touched schema ms k ≡ true
@@ -155,7 +154,7 @@ module _ (schema : List Table) (rules : MeetsRules schema) (m : Machine) (reache
   may = may_prepare (is_undecided t) (is_prepared_at slot t) (length (mutations_in schema slot_state t.mutations) == 0) (has_conflict schema m slot (mutations_in schema slot_state t.mutations)) accepted
 
   txn_is : t.number ≡ txn
-  txn_is = number_same t.number txn (second_true (t.owner == owner) (t.number == txn) (found_passes (is_transaction owner txn) m.transactions t found))
+  txn_is = eqb-true t.number txn ((and_parts (t.owner == owner) (t.number == txn) (found_passes (is_transaction owner txn) m.transactions t found)).1)
 
   pub its_typed : AreTypedMutations schema (mutations_in schema slot_state t.mutations)
   its_typed = typed_in schema slot_state t.mutations (all_found (IsBegunBy schema) (is_transaction owner txn) m.transactions t found reached.by_schema.transactions)

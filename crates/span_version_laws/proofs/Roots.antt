@@ -1,5 +1,5 @@
 -- Root rows whose keys have codings, and the keys in their directories.
-use Rattle.std.proofs.Common.{◌≡◌, ℕ, ◌-◌, ◌<◌, Bool, true, false, cond, ◌==◌, List, [], ◌∷◌, ◌++◌, Option, Some, None, length, drop, get_or, refl, ap, sym, ◌∙◌, subst, arith}
+use Rattle.std.proofs.Common.{◌≡◌, ℕ, ◌-◌, Bool, true, false, cond, ◌==◌, List, [], ◌∷◌, ◌++◌, Option, Some, None, length, drop, get_or, refl, ap, sym, ◌∙◌, subst}
 use Rattle.std.specs.Prelude.{find}
 use Rattle.std.specs.Option.{option_map}
 use Rattle.span_schema.specs.declared.table.Table.{Table}
@@ -14,11 +14,12 @@ use Rattle.span_mutate.specs.declared.row.TableRow.{TableRow}
 use Rattle.span_mutate.specs.Rows.{begins}
 use Rattle.span_mutate.specs.Directories.{Root, is_in_directory, root_row, directory}
 use Rattle.span_mutate.specs.Typed.{IsTyped, AreTyped, IsTypedMutation}
-use Rattle.span_mutate.proofs.Begins.{number_itself}
-use Rattle.std.proofs.lemmas.Bool.{and_from}
+use Rattle.std.proofs.lemmas.Bool.{and_from, eq-eqb}
+use Rattle.std.proofs.lemmas.List.{get_or_append_left}
+use Rattle.span_keycode.proofs.Order.{same_bytes}
 use Rattle.span_mutate.proofs.Filters.{filter_yes, filter_no}
 use Rattle.span_maderows.specs.Made.{begins_with}
-use Rattle.span_maderows.proofs.Bytes.{begins_front, front_begins, same_bytes}
+use Rattle.span_maderows.proofs.Bytes.{begins_front, front_begins}
 use Rattle.span_shard.specs.Rows.{code_of, is_coded, row_coded}
 use Rattle.span_shard.proofs.Under.{begins_more}
 use Rattle.span_machine.specs.Machine.{root_at}
@@ -34,10 +35,6 @@ coded_root schema root is = keyed_of schema root.table root.key is.1
 
 -- ---- what is in a directory
 
-first_of_front : (ms ns : List ℕ) → 0 < length ms → get_or (ms ++ ns) 0 0 ≡ get_or ms 0 0
-first_of_front [] ns h = absurd (let less : 0 < 0 = h in omega arith)
-first_of_front (m ∷ ms) ns h = refl
-
 -- a row whose coding begins with that of the root row is in its directory
 pub in_directory : (schema : List Table) → MeetsRules schema → (root : Root) → IsCodedRoot schema root → (r : TableRow) → IsTyped schema r → begins_with (code_of schema r) (key_code schema root.table root.key) ≡ true
     → is_in_directory schema root r.table r.key ≡ true
@@ -46,8 +43,8 @@ in_directory schema rules root is r typed front =
     let whole : code_of schema r ≡ key_code schema root.table root.key ++ rest = sym (begins_front (code_of schema r) (key_code schema root.table root.key) front) in
     let b : IsAtOrBelow schema root.table root.key r.table r.key = (begins_own_rows schema rules root.table r.table root.key r.key is.1.0 typed.0.0).0 (rest, whole) in
     let same_root : root_of schema r.table ≡ root.table =
-    ap (λ (ns : List ℕ). get_or ns 0 0) b.path ∙ first_of_front (path_of schema root.table) b.tables_below (path_has schema (root.table - 1)) ∙ is.0 in
-    and_from (root_of schema r.table == root.table) (begins root.key r.key) (number_itself (root_of schema r.table) root.table same_root) (ap (begins root.key) b.values ∙ begins_more root.key b.values_below)
+    ap (λ (ns : List ℕ). get_or ns 0 0) b.path ∙ get_or_append_left (path_of schema root.table) b.tables_below 0 0 (path_has schema (root.table - 1)) ∙ is.0 in
+    and_from (root_of schema r.table == root.table) (begins root.key r.key) (eq-eqb (root_of schema r.table) root.table same_root) (ap (begins root.key) b.values ∙ begins_more root.key b.values_below)
 
 -- the row at a key of the directory is found in the directory
 pub find_in_directory : (schema : List Table) → MeetsRules schema → (root : Root) → IsCodedRoot schema root → (k : List ℕ) → is_under schema root k ≡ true → (db : List TableRow) → AreTyped schema db

@@ -1,10 +1,11 @@
 -- The rows that versions have, by the commits of a directory.
-use Rattle.std.proofs.Common.{◌≡◌, ◌≢◌, ℕ, ◌<◌, ◌≤◌, ◌-◌, suc, Bool, true, false, cond, nat_le, List, [], ◌∷◌, ◌++◌, Option, Some, None, Ok, refl, ap, sym, ◌∙◌, subst, inl, inr, ◌⊎◌, arith}
+use Rattle.std.proofs.Common.{◌≡◌, ◌≢◌, ℕ, ◌<◌, ◌≤◌, ◌-◌, Bool, true, false, cond, nat_le, List, [], ◌∷◌, ◌++◌, Option, Some, None, Ok, refl, ap, sym, ◌∙◌, subst, inl, inr, ◌⊎◌, arith}
 use Rattle.std.specs.Prelude.{find, filter, option_and_then}
 use Rattle.std.specs.List.{AllByRecursion}
 use Rattle.std.proofs.lemmas.Bool.Decides.{nat_tests}
 use Rattle.std.proofs.lemmas.List.{append-nil}
 use Rattle.std.proofs.lemmas.List.Elements.{filter-append}
+use Rattle.std.proofs.lemmas.Bool.{both_ways}
 use Rattle.span_schema.specs.declared.table.Table.{Table}
 use Rattle.span_schema.specs.Lineages.{MeetsRules}
 use Rattle.span_truetime.specs.Limits.{timestamp_end}
@@ -26,8 +27,7 @@ use Rattle.span_machine.specs.declared.transaction.Decision.{Decision}
 use Rattle.span_machine.specs.declared.transaction.Decision.TheVariants as decision
 use Rattle.span_machine.specs.Tables.{upto, mutations_of, tables}
 use Rattle.span_machine.specs.Machine.{Machine, is_at, holds}
-use Rattle.span_machine_laws.proofs.Tests.{not_both}
-use Rattle.span_machine_laws.proofs.Lists.{IsIn, found_in, kept_in, all_in}
+use Rattle.span_machine_laws.proofs.Lists.{found_in, kept_in, all_in, all_places}
 use Rattle.span_machine_laws.proofs.Locality.{apply-directory, empty_database, ok_same}
 use Rattle.span_machine_laws.proofs.Stability.{changes_at, touches}
 use Rattle.span_machine_laws.proofs.InPlace.{IsUnder, IsRising, commits_at, claims, apply-append, changes_at-push, changes_at-upto}
@@ -41,10 +41,6 @@ use Rattle.span_version_laws.proofs.Roots.{coded_root, coded_in_directory}
 use Rattle.span_version_laws.proofs.Steps.{open_of_put}
 
 -- ---- what holds of each
-
-pub all_each : {A : Type 0} (P : A → Type 0) (xs : List A) → ((x : A) → IsIn x xs → P x) → AllByRecursion P xs
-all_each P [] each = tt
-all_each P (x ∷ xs) each = (each x (0, refl), all_each P xs (λ y is. each y (suc is.0, is.1)))
 
 all_last : {A : Type 0} (P : A → Type 0) (xs : List A) (x : A) → AllByRecursion P (xs ++ x ∷ []) → P x
 all_last P [] x all = all.0
@@ -176,6 +172,6 @@ not_of_others schema root k h cs vs p (u ∷ us) txn is off = not_of u.number tx
 -- the transactions that claim a directory have other numbers than one that does not
 pub others_apart : (schema : List Table) (m : Machine) → IsReached schema m → (root : Root) (slot : ℕ) (test : OpenTransaction → Bool) (t : OpenTransaction) → find test m.transactions ≡ Some t → claims schema root slot t ≡ false
     → AllByRecursion (λ u. u.number ≢ t.number) (filter (claims schema root slot) m.transactions)
-others_apart schema m reached root slot test t found off = all_each (λ u. u.number ≢ t.number) (filter (claims schema root slot) m.transactions) (λ u is same.
+others_apart schema m reached root slot test t found off = all_places (λ u. u.number ≢ t.number) (filter (claims schema root slot) m.transactions) (λ u is same.
     let alike : u ≡ t = same_number m reached.numbered u t (kept_in (claims schema root slot) m.transactions u is) (found_in test m.transactions t found) same in
-    not_both (claims schema root slot u) (all_in (λ x. claims schema root slot x ≡ true) (filter (claims schema root slot) m.transactions) u is (all_filter_itself (claims schema root slot) m.transactions)) (subst (λ x. claims schema root slot x ≡ false) (sym alike) off))
+    both_ways (claims schema root slot u) (subst (λ x. claims schema root slot x ≡ false) (sym alike) off) (all_in (λ x. claims schema root slot x ≡ true) (filter (claims schema root slot) m.transactions) u is (all_filter_itself (claims schema root slot) m.transactions)))

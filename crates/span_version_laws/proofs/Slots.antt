@@ -1,6 +1,7 @@
 -- The slot of a shard: the directories that it has, and what steps leave of its state.
-use Rattle.std.proofs.Common.{◌≡◌, ◌≢◌, ℕ, zero, suc, max, Bool, true, false, cond, ◌&&◌, ◌==◌, nat_lt, nat_le, List, [], ◌∷◌, Some, None, refl, ap, sym, ◌∙◌, subst}
+use Rattle.std.proofs.Common.{◌≡◌, ◌≢◌, ℕ, zero, suc, max, Bool, true, false, cond, ◌&&◌, nat_lt, nat_le, List, [], ◌∷◌, Some, None, refl, ap, sym, ◌∙◌, subst}
 use Rattle.std.specs.Prelude.{slice_get, slice_set, filter}
+use Rattle.std.proofs.lemmas.Option.{same_Some}
 use Rattle.span_truetime.specs.declared.interval.Interval.{Interval}
 use Rattle.span_schema.specs.declared.table.Table.{Table}
 use Rattle.span_mutate.specs.declared.mutation.CheckedMutation.{CheckedMutation}
@@ -9,15 +10,11 @@ use Rattle.span_shard.specs.KeyVersions.{KeyVersions}
 use Rattle.span_machine.specs.declared.slot.SlotState.{SlotState}
 use Rattle.span_machine.specs.Slots.{SlotRange, range_of, is_between, has_key}
 use Rattle.span_machine.specs.Machine.{Machine, root_at, is_at, holds, mutations_in, if_some, with_last, with_risen_floor}
-use Rattle.span_machine_laws.proofs.Tests.{number_same}
 use Rattle.span_machine_laws.proofs.Locality.{IsRoot, own_root}
 use Rattle.span_machine_laws.proofs.Stability.{is_some_of, none_of}
 use Rattle.span_machine_laws.proofs.InPlace.{IsInPlace}
 use Rattle.span_machine_laws.proofs.Reached.{IsReached, placed_at}
 use Rattle.span_version_laws.specs.Kept.{AreKept}
-
-pub some_same : {A : Type 0} (x y : A) → Some x ≡ Some y → x ≡ y
-some_same x y e = cc
 
 -- ---- the directories of a slot
 
@@ -68,7 +65,7 @@ still_same slots slot old here = record { state = old; here = here; range = refl
 pub still_set : (slots : List SlotState) (slot i : ℕ) (old a b : SlotState) → slice_get slots slot ≡ Some old → slice_get slots i ≡ Some a → range_of b ≡ range_of a → b.horizon ≡ a.horizon → IsStill (slice_set slots i b) slot old
 still_set [] slot i old a b here there range horizon = absurd (cc)
 still_set (c ∷ slots) zero zero old a b here there range horizon =
-    let same : a ≡ old = some_same a old (sym there ∙ here) in
+    let same : a ≡ old = same_Some a old (sym there ∙ here) in
     record { state = b; here = refl; range = range ∙ ap range_of same; horizon = horizon ∙ ap (λ (d : SlotState). d.horizon) same }
 still_set (c ∷ slots) zero (suc i) old a b here there range horizon = still_same (c ∷ slice_set slots i b) 0 old here
 still_set (c ∷ slots) (suc slot) zero old a b here there range horizon = still_same (b ∷ slots) (suc slot) old here
@@ -87,9 +84,6 @@ still_risen slots slot i q interval old slot_state here there = elim (nat_lt slo
   | true ↦ still_set slots slot i old slot_state (record slot_state { floor = q }) here there refl refl
   | false ↦ still_set slots slot i old slot_state slot_state here there refl refl
 ]
-
-pub other_number : (n k : ℕ) → n ≢ k → (n == k) ≡ false
-other_number n k off = elim (n == k) as (λ b. (n == k) ≡ b → b ≡ false) [ true ↦ λ e. absurd (off (number_same n k e)) | false ↦ λ e. refl ] refl
 
 -- the state of another slot stays
 pub other_set : (slots : List SlotState) (slot i : ℕ) (b : SlotState) → slot ≢ i → slice_get (slice_set slots i b) slot ≡ slice_get slots slot
@@ -112,4 +106,4 @@ module _ (schema : List Table) (m : Machine) {slot : ℕ} (cs : List KeyVersions
 
   -- the slot has one state
   pub state_is : (slot_state : SlotState) → slice_get m.slots slot ≡ Some slot_state → kept.slot_state ≡ slot_state
-  state_is slot_state here = some_same kept.slot_state slot_state (sym kept.here ∙ here)
+  state_is slot_state here = same_Some kept.slot_state slot_state (sym kept.here ∙ here)

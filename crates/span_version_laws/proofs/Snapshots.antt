@@ -1,13 +1,13 @@
 -- A snapshot at a sealed timestamp has the rows of the tables.
-use Rattle.std.proofs.Common.{◌≡◌, ◌≢◌, ℕ, suc, ◌<◌, ◌≤◌, Bool, true, false, cond, not, ◌||◌, ◌==◌, nat_lt, nat_le, List, [], ◌∷◌, ◌++◌, map, Option, Some, None, Ok, refl, ap, sym, ◌∙◌, subst, inl, inr, ◌⊎◌, arith}
+use Rattle.std.proofs.Common.{◌≡◌, ◌≢◌, ℕ, suc, ◌<◌, ◌≤◌, Bool, true, false, cond, not, ◌||◌, ◌==◌, nat_lt, nat_le, List, [], ◌∷◌, ◌++◌, map, Option, Some, None, Ok, refl, ap, sym, ◌∙◌, subst, inl, inr, ◌⊎◌}
 use Rattle.std.specs.Prelude.{slice_get, find, filter, option_map}
 use Rattle.std.specs.List.{AllByRecursion, list_all, filter_map, cons_option}
 use Rattle.std.specs.Ordering.{nat_cmp, ordering_then}
 use Rattle.std.specs.declared.cmp.Ordering.TheVariants.{Less, Equal}
 use Rattle.std.specs.Cmp.{tied_itself}
-use Rattle.std.proofs.lemmas.Bool.Decides.{nat_tests}
 use Rattle.std.proofs.lemmas.List.{append-nil}
 use Rattle.std.proofs.lemmas.List.Elements.{filter-append}
+use Rattle.std.proofs.lemmas.Bool.{lt-leb, and_parts}
 use Rattle.span_schema.specs.declared.table.Table.{Table}
 use Rattle.span_schema.specs.Lineages.{MeetsRules}
 use Rattle.span_schema.specs.Numbers.{key_columns}
@@ -21,7 +21,7 @@ use Rattle.span_mutate.specs.Directories.{Root, rows_cmp, IsRising, IsDatabase}
 use Rattle.span_mutate.specs.Typed.{IsTyped, AreTyped}
 use Rattle.span_mutate.proofs.Orders.{rows_total}
 use Rattle.span_mutate.proofs.Placing.{rising_filter}
-use Rattle.span_maderows.proofs.Bytes.{bytes_total, same_bytes, bytes_same}
+use Rattle.span_maderows.proofs.Bytes.{bytes_total}
 use Rattle.span_maderows.proofs.Lists.{all_filter_itself}
 use Rattle.span_shard.specs.KeyVersions.{KeyVersions}
 use Rattle.span_shard.specs.Rows.{code_of, is_coded, row_coded}
@@ -37,7 +37,6 @@ use Rattle.span_mutate.proofs.TypedRows.{typed_stay}
 use Rattle.span_machine_laws.proofs.Locality.{apply-database, empty_database}
 use Rattle.span_machine_laws.proofs.Schemas.{keyed_upto, typed_upto}
 use Rattle.span_machine.specs.Machine.{Machine, has_key, holds, is_prepared_at, is_safe, commit_of}
-use Rattle.span_machine_laws.proofs.Tests.{first_true, second_true}
 use Rattle.span_machine_laws.proofs.Lists.{IsIn, found_in, found_passes, kept_in, all_in, all_found, all_true}
 use Rattle.span_machine_laws.proofs.Stability.{changes_at, is_some_of}
 use Rattle.span_machine_laws.proofs.InPlace.{commits_at, claims}
@@ -50,36 +49,19 @@ use Rattle.span_machine.specs.declared.transaction.Commit.{Commit}
 use Rattle.span_store.specs.declared.chain.Version.{Version}
 use Rattle.span_version_laws.proofs.Slots.{state_is}
 use Rattle.span_version_laws.proofs.Cuts.{held_by_key}
-use Rattle.span_version_laws.proofs.Trimming.{row_kept_above}
 use Rattle.span_version_laws.proofs.Claimers.{late}
 use Rattle.span_version_laws.proofs.Keys.{IsUnderAll, all_by_key}
 use Rattle.span_machine_laws.proofs.TableOrder.{code_cmp, IsOfTable, of_table, table_rises}
 use Rattle.span_keycode.specs.declared.range.KeyRange.{KeyRange}
+use Rattle.span_keycode.proofs.Order.{same_bytes, bytes_same}
+use Rattle.span_shard.proofs.Horizons.{row_kept_above}
+use Rattle.span_machine_laws.proofs.Consistent.{in_filtered}
+use Rattle.span_machine_laws.proofs.Sound.{above_by}
 use Rattle.span_version_laws.proofs.Roots.{coding_of_row, root_of_coding}
 use Rattle.span_version_laws.proofs.Rows.{row_of_tables}
 use Rattle.span_version_laws.proofs.Sorted.{in_cons, same_rising}
 
--- ---- a commit that is not applied yet is above what is sealed
-
-above_by : (p slot s ts : ℕ) → (not (p == slot) || nat_lt s ts) ≡ true → p ≡ slot → s < ts
-above_by p slot s ts e same = grind (arith, nat_tests)
-
-not_upto : (s ts : ℕ) → s < ts → nat_le ts s ≡ false
-not_upto s ts low = grind (arith, nat_tests)
-
 -- ---- lists
-
-in_filter : {A : Type 0} (test : A → Bool) (xs : List A) (x : A) → IsIn x xs → test x ≡ true → IsIn x (filter test xs)
-in_filter test [] x at e = absurd (let bad = at.1 in cc)
-in_filter {A} test (y ∷ ys) x at e = by_place (in_cons x y ys at) (λ rest. in_filter test ys x rest e)
-  where
-    later : (b : Bool) → IsIn x (filter test ys) → IsIn x (cond b (y ∷ filter test ys) (filter test ys))
-    later true is = (suc is.0, is.1)
-    later false is = is
-
-    by_place : (x ≡ y) ⊎ IsIn x ys → (IsIn x ys → IsIn x (filter test ys)) → IsIn x (filter test (y ∷ ys))
-    by_place (inl same) again = subst (λ (b : Bool). IsIn x (cond b (y ∷ filter test ys) (filter test ys))) (sym (ap test (sym same) ∙ e)) (0, ap Some (sym same))
-    by_place (inr rest) again = later (test y) (again rest)
 
 in_filter_map : {A B : Type 0} (f : A → Option B) (xs : List A) (x : A) (y : B) → IsIn x xs → f x ≡ Some y → IsIn y (filter_map f xs)
 in_filter_map f [] x y at e = absurd (let bad = at.1 in cc)
@@ -139,10 +121,10 @@ module _ (schema : List Table) (rules : MeetsRules schema) (m : Machine) {slot :
   row_under root is_root k under u decision.Aborted e at is h = row_seen root is_root k under (commits_at schema root m.log) h.1 refl
   row_under root is_root k under u (decision.Committed ts) e at is h =
       let upto_ts : AllByRecursion (λ (p : Prepared). p.timestamp ≤ ts) u.prepared = subst (λ o. IsUpto o u.prepared) e (all_in (IsHolding _) m.transactions u at reached.holding).timely in
-      let later : s < ts = late slot s ts u.prepared (first_true (is_prepared_at slot u) (is_some_of _) is) (all_in (IsAbove s slot) m.transactions u at above) upto_ts in
+      let later : s < ts = late slot s ts u.prepared ((and_parts (is_prepared_at slot u) (is_some_of _) is).0) (all_in (IsAbove s slot) m.transactions u at above) upto_ts in
       row_seen root is_root k under h.front h.rows
       (ap (filter (λ d. nat_le d.timestamp s)) h.whole ∙ filter-append (λ d. nat_le d.timestamp s) h.front (commit_of ts u ∷ [])
-      ∙ ap (λ b. filter (λ d. nat_le d.timestamp s) h.front ++ cond b (commit_of ts u ∷ []) []) (not_upto s ts later) ∙ append-nil _)
+      ∙ ap (λ b. filter (λ d. nat_le d.timestamp s) h.front ++ cond b (commit_of ts u ∷ []) []) (lt-leb ts s later) ∙ append-nil _)
 
   -- the newest version at or below s is the row of the tables at s
   row_in_root : (root : Root) (is_root : IsCodedRoot schema root) (held : holds schema kept.slot_state root ≡ true) (k : List ℕ) (under : is_under schema root k ≡ true) → row_at (versions_at cs k) s ≡ row_coded schema db k
@@ -303,19 +285,15 @@ module _ (schema : List Table) (rules : MeetsRules schema) (m : Machine) {slot :
         (rising_filter (code_cmp schema) (row_within schema range) (filter (has_row schema kept.slot_state) (rows_of n db)) (rising_filter (code_cmp schema) (has_row schema kept.slot_state) (rows_of n db) (table_rises schema rules db is_db typed n)))
         (λ r at.
         let from : IsIn r (rows_from cs) = kept_in (λ (q : TableRow). q.table == n) (rows_from cs) r at in
-        let of_n : IsIn r (rows_of n db) = in_filter (λ (q : TableRow). q.table == n) db r (all_in (λ q. IsIn q db) (rows_from cs) r from (rows_of_database cs))
-        (all_in (λ (q : TableRow). (q.table == n) ≡ true) (rows_of n (rows_from cs)) r at (all_filter_itself (λ (q : TableRow). q.table == n) (rows_from cs))) in
-        in_filter (row_within schema range) (filter (has_row schema kept.slot_state) (rows_of n db)) r
-        (in_filter (has_row schema kept.slot_state) (rows_of n db) r of_n (all_in (λ (q : TableRow). has_row schema kept.slot_state q ≡ true) (rows_from cs) r from (rows_inside cs kept.inside)))
-        (all_in (λ (q : TableRow). row_within schema range q ≡ true) (rows_from cs) r from (rows_in_range cs)))
+        let of_n : IsIn r (rows_of n db) = in_filtered (λ (q : TableRow). q.table == n) db r (all_in (λ (q : TableRow). (q.table == n) ≡ true) (rows_of n (rows_from cs)) r at (all_filter_itself (λ (q : TableRow). q.table == n) (rows_from cs))) (all_in (λ q. IsIn q db) (rows_from cs) r from (rows_of_database cs)) in
+        in_filtered (row_within schema range) (filter (has_row schema kept.slot_state) (rows_of n db)) r (all_in (λ (q : TableRow). row_within schema range q ≡ true) (rows_from cs) r from (rows_in_range cs)) (in_filtered (has_row schema kept.slot_state) (rows_of n db) r (all_in (λ (q : TableRow). has_row schema kept.slot_state q ≡ true) (rows_from cs) r from (rows_inside cs kept.inside)) of_n))
         (λ r at.
         let held : IsIn r (filter (has_row schema kept.slot_state) (rows_of n db)) = kept_in (row_within schema range) (filter (has_row schema kept.slot_state) (rows_of n db)) r at in
         let there : IsIn r (rows_of n db) = kept_in (has_row schema kept.slot_state) (rows_of n db) r held in
         let within : row_within schema range r ≡ true = all_in (λ (q : TableRow). row_within schema range q ≡ true) (filter (row_within schema range) (filter (has_row schema kept.slot_state) (rows_of n db))) r at (all_filter_itself (row_within schema range) (filter (has_row schema kept.slot_state) (rows_of n db))) in
         let has : has_row schema kept.slot_state r ≡ true = all_in (λ (q : TableRow). has_row schema kept.slot_state q ≡ true) (filter (has_row schema kept.slot_state) (rows_of n db)) r held (all_filter_itself (has_row schema kept.slot_state) (rows_of n db)) in
         let is = all_in (IsOfTable schema n) (rows_of n db) r there (of_table schema n db typed) in
-        in_filter (λ (q : TableRow). q.table == n) (rows_from cs) r (row_is_there r is.0 has (kept_in (λ (q : TableRow). q.table == n) db r there) within)
-        (all_in (λ (q : TableRow). (q.table == n) ≡ true) (rows_of n db) r there (all_filter_itself (λ (q : TableRow). q.table == n) db)))
+        in_filtered (λ (q : TableRow). q.table == n) (rows_from cs) r (all_in (λ (q : TableRow). (q.table == n) ≡ true) (rows_of n db) r there (all_filter_itself (λ (q : TableRow). q.table == n) db)) (row_is_there r is.0 has (kept_in (λ (q : TableRow). q.table == n) db r there) within))
 
     -- what a snapshot of the range has
     pub snapshot_rows : HasRowsOf schema kept.slot_state range db (snapshot range s cs)
@@ -330,7 +308,7 @@ snapshot_when_safe schema rules m slot slot_state risen cs s reached kept here s
     let above : AllByRecursion (IsAbove s slot) m.transactions =
     all_true (IsAbove s slot) (λ t. list_all (λ p. not (p.slot == slot) || nat_lt s p.timestamp) t.prepared)
     (λ t e. all_true (λ (p : Prepared). p.slot ≡ slot → s < p.timestamp) (λ p. not (p.slot == slot) || nat_lt s p.timestamp) (λ p e same. above_by p.slot slot s p.timestamp e same) t.prepared e)
-    m.transactions (second_true (nat_le s risen.floor) _ safe) in
+    m.transactions ((and_parts (nat_le s risen.floor) _ safe).1) in
     let is_db : IsDatabase schema db = apply-database schema rules (mutations_of (upto m.log s)) [] db (empty_database schema) (keyed_upto schema m.log s reached.by_schema.log) made in
     let typed : AreTyped schema db = typed_stay schema [] (mutations_of (upto m.log s)) db tt (typed_upto schema m.log s reached.by_schema.log) made in
     subst (λ (b : SlotState). HasRowsOf schema b range db (snapshot range s cs)) same

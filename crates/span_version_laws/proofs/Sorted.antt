@@ -11,10 +11,6 @@ pub in_cons : {X : Type 0} (x y : X) (ys : List X) → IsIn x (y ∷ ys) → (x 
 in_cons x y ys (zero, e) = inl cc
 in_cons x y ys (suc i, e) = inr (i, e)
 
-pub all_of_in : {X : Type 0} (P : X → Type 0) (xs : List X) → ((x : X) → IsIn x xs → P x) → AllByRecursion P xs
-all_of_in P [] each = tt
-all_of_in P (x ∷ xs) each = (each x (0, refl), all_of_in P xs (λ y is. each y (suc is.0, is.1)))
-
 module _ {X : Type 0} (R : X → X → Ordering) (never : (x : X) → R x x ≢ Less) (across : (x y z : X) → R x y ≡ Less → R y z ≡ Less → R x z ≡ Less) where
   -- the first of one is the first of the other
   same_first : (x y : X) (xs ys : List X) → AllByRecursion (λ z. R x z ≡ Less) xs → AllByRecursion (λ z. R y z ≡ Less) ys → IsIn x (y ∷ ys) → IsIn y (x ∷ xs) → x ≡ y

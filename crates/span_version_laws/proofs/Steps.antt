@@ -28,17 +28,16 @@ use Rattle.span_checking.specs.RootKeys.{root_key}
 use Rattle.span_machine_laws.proofs.Splits.{part_below, part_from, split_other}
 use Rattle.span_machine.specs.Machine.{Machine, Answer, answer, start, first_slot, has_key, holds, begun, prepare, prepared, add_prepared, prepare_timestamp, apply_step, applied, applied_at, without_prepared, trim, trimmed, with_horizon, split_in_two, is_transaction, is_undecided, is_prepared_at, is_all_prepared, is_prepared_for, commit_timestamp, commit_of, committed, aborted, with_decision, coordinator_slot, changed_first, without_first, refused}
 use Rattle.span_machine_laws.proofs.Causes.{may_commit, undecided_is}
-use Rattle.span_machine_laws.proofs.Tests.{second_true, both_of}
 use Rattle.span_machine_laws.proofs.Stability.{is_some_of}
 use Rattle.span_machine_laws.proofs.InPlace.{commits_at, claims}
-use Rattle.span_machine_laws.proofs.Lists.{all_weaker}
 use Rattle.span_machine_laws.proofs.Claims.{commits_at-push, prepared_root, away_push, away_left, none_left}
 use Rattle.span_machine_laws.proofs.Walks.{MayRefuse, Ends, answer_by}
 use Rattle.span_machine_laws.proofs.Reached.{IsReached}
 use Rattle.span_version_laws.specs.Kept.{IsCodedRoot, is_under, IsPut, IsPending, IsCodedCoding, IsKeptUnder, IsKeptBy, IsKeptAt, AreKept}
-use Rattle.span_version_laws.proofs.Slots.{IsStill, placed_in, still_same, still_set, still_last, still_risen, other_set, same_range_has, other_number, home}
+use Rattle.span_version_laws.proofs.Slots.{IsStill, placed_in, still_same, still_set, still_last, still_risen, other_set, same_range_has, home}
 use Rattle.span_version_laws.proofs.Claimers.{Claimers, claimers_of}
-use Rattle.std.proofs.lemmas.Bool.{and_left, and_right}
+use Rattle.std.proofs.lemmas.Bool.{and_left, and_right, and_from, ne_eqb, and_parts}
+use Rattle.span_value.proofs.Lists.{all_weaker}
 use Rattle.span_schema.specs.declared.table.Table.{Table}
 use Rattle.span_mutate.specs.Directories.{Root}
 use Rattle.span_version_laws.proofs.Roots.{coded_root}
@@ -140,9 +139,9 @@ module _ (schema : List Table) (m : Machine) (reached : IsReached schema m) {slo
             subst (λ l. IsKeptBy schema root k kept.slot_state.horizon l (versions_at cs k) (prepared_at cs k) (filter (claims schema root slot) (changed_first (is_transaction owner txn) (with_decision (decision.Committed ts)) m.transactions))) (sym same)
             (subst (IsKeptBy schema root k kept.slot_state.horizon (commits_at schema root m.log) (versions_at cs k) (prepared_at cs k)) (sym (them.away (with_decision (decision.Committed ts)) off off)) (kept.kept root is_root held k under))
         | true ↦ λ e.
-            let all : list_all (is_prepared_for schema m t) t.mutations ≡ true = second_true (not (length t.prepared == 0)) (list_all (is_prepared_for schema m t) t.mutations) ready in
+            let all : list_all (is_prepared_for schema m t) t.mutations ≡ true = (and_parts (not (length t.prepared == 0)) (list_all (is_prepared_for schema m t) t.mutations) ready).1 in
             let ready_at = prepared_root schema root (coded_root schema root is_root) m slot t (placed_in schema m reached root (coded_root schema root is_root) slot (home schema m cs kept root held)).only t.mutations e all in
-            let is : claims schema root slot t ≡ true = both_of (is_prepared_at slot t) (is_some_of (filter (is_at schema root) t.mutations)) ready_at.0 e in
+            let is : claims schema root slot t ≡ true = and_from (is_prepared_at slot t) (is_some_of (filter (is_at schema root) t.mutations)) ready_at.0 e in
             let more : commits_at schema root (m.log ++ commit_of ts t ∷ []) ≡ commits_at schema root m.log ++ commit_of ts t ∷ [] =
             commits_at-push schema root m.log (commit_of ts t) ∙ ap (λ b. commits_at schema root m.log ++ cond b (commit_of ts t ∷ []) []) e in
             let now : filter (claims schema root slot) (changed_first (is_transaction owner txn) (with_decision (decision.Committed ts)) m.transactions) ≡ with_decision (decision.Committed ts) t ∷ [] =
@@ -207,14 +206,14 @@ module _ (schema : List Table) (m : Machine) (reached : IsReached schema m) {slo
   kept_prepared_away owner txn i t slot_state off found here =
       kept_still schema (prepared m owner txn i slot_state).1 slot kept.slot_state cs (still_set m.slots slot i kept.slot_state slot_state (record slot_state { last = prepare_timestamp slot_state }) kept.here here refl refl) kept.keys kept.used kept.coded kept.inside
       (λ root is_root held k under. changed_away root is_root held k under (is_transaction owner txn) t found (add_prepared i (prepare_timestamp slot_state)) (add_prepared i (prepare_timestamp slot_state) t).prepared refl
-      (away_push slot i (prepare_timestamp slot_state) t.prepared (other_number i slot (λ e. off (sym e)))))
+      (away_push slot i (prepare_timestamp slot_state) t.prepared (ne_eqb i slot (λ e. off (sym e)))))
 
   applied_away : (owner txn i : ℕ) (t : OpenTransaction) → slot ≢ i → find (is_transaction owner txn) m.transactions ≡ Some t → (root : Root) (is_root : IsCodedRoot schema root) (held : holds schema kept.slot_state root ≡ true) (k : List ℕ) (under : is_under schema root k ≡ true)
       → IsKeptBy schema root k kept.slot_state.horizon (commits_at schema root m.log) (versions_at cs k) (prepared_at cs k) (filter (claims schema root slot) (applied m owner txn i t))
   applied_away owner txn i t off found root is_root held k under = by_left (length (without_prepared i t).prepared == 0) refl
     where
       still : is_prepared_at slot (without_prepared i t) ≡ is_prepared_at slot t
-      still = away_left slot i t.prepared (other_number i slot (λ e. off (sym e)))
+      still = away_left slot i t.prepared (ne_eqb i slot (λ e. off (sym e)))
 
       by_left : (b : Bool) → (length (without_prepared i t).prepared == 0) ≡ b
           → IsKeptBy schema root k kept.slot_state.horizon (commits_at schema root m.log) (versions_at cs k) (prepared_at cs k) (filter (claims schema root slot) (cond b (without_first (is_transaction owner txn) m.transactions) (changed_first (is_transaction owner txn) (without_prepared i) m.transactions)))

@@ -4,6 +4,7 @@ use Rattle.std.specs.Prelude.{find, filter, option_and_then}
 use Rattle.std.specs.List.{AllByRecursion}
 use Rattle.std.proofs.lemmas.Bool.Decides.{nat_tests}
 use Rattle.std.proofs.lemmas.Slice.Eq.{bytes_eq-Decides}
+use Rattle.std.proofs.lemmas.Bool.{lt-leb, false_from_ne_true}
 use Rattle.span_schema.specs.declared.table.Table.{Table}
 use Rattle.span_mutate.specs.declared.row.TableRow.{TableRow}
 use Rattle.span_mutate.specs.Database.{apply}
@@ -44,14 +45,6 @@ row_kept h s (v ∷ vs) all = by_test (nat_le v.timestamp h) refl (row_kept h s 
           | false ↦ again
         ]
 
-all_above : (h s : ℕ) → h ≤ s → (vs : List Version) → AllByRecursion (λ (v : Version). v.timestamp ≤ h → v.timestamp ≤ s) vs
-all_above h s high [] = tt
-all_above h s high (v ∷ vs) = (λ low. omega arith, all_above h s high vs)
-
--- at and above the horizon
-pub row_kept_above : (h s : ℕ) (vs : List Version) → h ≤ s → row_at (kept_upto h vs) s ≡ row_at vs s
-row_kept_above h s vs high = row_kept h s vs (all_above h s high vs)
-
 all_below : (h s : ℕ) (vs : List Version) → AllByRecursion (λ (v : Version). v.timestamp ≤ s) vs → AllByRecursion (λ (v : Version). v.timestamp ≤ h → v.timestamp ≤ s) vs
 all_below h s [] all = tt
 all_below h s (v ∷ vs) all = (λ low. all.0, all_below h s vs all.1)
@@ -76,12 +69,9 @@ kept_again h n high (v ∷ vs) = by_test (nat_le v.timestamp h) refl (kept_again
     by_test true e again = one v.row refl (later e)
     by_test false e again = ap (λ (ws : List Version). cond (nat_le v.timestamp n) (kept_version v v.row) (v ∷ ws)) again
 
-not_below : (h ts : ℕ) → h < ts → nat_le ts h ≡ false
-not_below h ts high = grind (arith, nat_tests)
-
 -- a version above the horizon stays, in front of what is kept
 pub kept_newest : (h : ℕ) (v : Version) (vs : List Version) → h < v.timestamp → kept_upto h (v ∷ vs) ≡ v ∷ kept_upto h vs
-kept_newest h v vs high = ap (λ (b : Bool). cond b (kept_version v v.row) (v ∷ kept_upto h vs)) (not_below h v.timestamp high)
+kept_newest h v vs high = ap (λ (b : Bool). cond b (kept_version v v.row) (v ∷ kept_upto h vs)) (lt-leb v.timestamp h high)
 
 -- ---- rows that are the same
 
@@ -89,12 +79,8 @@ pub is_same_of : (a b : Option (List ℕ)) → a ≡ b → is_same_row a b ≡ t
 is_same_of None b e = subst (λ (o : Option (List ℕ)). is_same_row None o ≡ true) e refl
 is_same_of (Some a) b e = subst (λ (o : Option (List ℕ)). is_same_row (Some a) o ≡ true) e ((bytes_eq-Decides a a).1 refl)
 
-not_true : (b : Bool) → (b ≡ true → ⊥) → b ≡ false
-not_true true no_one = absurd (no_one refl)
-not_true false no_one = refl
-
 pub not_same_of : (a b : Option (List ℕ)) → b ≢ a → is_same_row a b ≡ false
-not_same_of a b off = not_true (is_same_row a b) (λ e. off (sym (same_row_is a b e)))
+not_same_of a b off = false_from_ne_true (is_same_row a b) (λ e. off (sym (same_row_is a b e)))
 
 -- ---- the versions that commits make
 

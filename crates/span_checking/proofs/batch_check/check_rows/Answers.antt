@@ -3,6 +3,7 @@ use Rattle.std.specs.Prelude.{Option, IfSome}
 use Rattle.std.specs.Vec.Iter.{into_iter_items}
 use Rattle.std.proofs.lemmas.List.{append-nil, nil_from_length}
 use Rattle.std.proofs.lemmas.Result.{err_from_is_err_and}
+use Rattle.span_value.proofs.Lists.{all_push}
 use Rattle.span_mutate.specs.declared.mutation.CheckedMutation.{CheckedMutation}
 use Rattle.span_mutate.specs.declared.batch.BatchRow.{BatchRow}
 use Rattle.span_checking.specs.declared.named_columns.NamedColumns.{NamedColumns}
@@ -11,7 +12,6 @@ use Rattle.span_mutate.specs.Batches.{row_mutation, row_mutations}
 use Rattle.span_mutate.specs.Typed.{IsTypedMutation, AreTypedMutations}
 use Rattle.span_checking.specs.Checking.{checked_all, with_front}
 use Rattle.span_checking.proofs.Fronts.{front_more, front_refused}
-use Rattle.span_checking.proofs.NamedKinds.{all_push}
 use Rattle.span_checking.proofs.batch_check.check_rows.Goals as goal
 
 pub returns-in_err-check_row-clause-checked : goal.returns-in_err-check_row-clause-checked

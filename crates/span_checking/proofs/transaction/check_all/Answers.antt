@@ -5,10 +5,10 @@ use Rattle.span_schema.specs.Numbers.{IsTable}
 use Rattle.std.specs.Vec.Iter.{into_iter_items}
 use Rattle.std.proofs.lemmas.List.{append-nil, nil_from_length}
 use Rattle.std.proofs.lemmas.Result.{err_from_is_err_and}
+use Rattle.span_value.proofs.Lists.{all_push}
 use Rattle.span_mutate.specs.declared.mutation.Mutation.{Mutation}
 use Rattle.span_mutate.specs.declared.mutation.CheckedMutation.{CheckedMutation}
 use Rattle.span_mutate.specs.Typed.{IsTypedMutation, AreTypedMutations}
-use Rattle.span_checking.proofs.NamedKinds.{all_push}
 use Rattle.span_checking.specs.Checking.{checked_all, with_front}
 use Rattle.span_checking.proofs.Keyed.{keyed_all}
 use Rattle.span_checking.proofs.Fronts.{front_more, front_refused}

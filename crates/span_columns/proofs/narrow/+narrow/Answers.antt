@@ -1,4 +1,5 @@
 use Rattle.std.proofs.Common.{rules, ◌≡◌, ◌∙◌, ap, subst, map, IfOk, List}
+use Rattle.std.proofs.lemmas.Result.{IfOk-at_ok}
 use Rattle.span_query.specs.declared.query.Block.{Block}
 use Rattle.span_query.specs.declared.query.Join.{Join}
 use Rattle.span_query.specs.declared.query.BoundQuery.{BoundQuery}
@@ -7,7 +8,6 @@ use Rattle.span_query.proofs.Sizes.{query_size, block_size, join_size, smaller_a
 use Rattle.span_expr.specs.Places.{rank}
 use Rattle.span_columns.specs.Narrow.{narrow, narrow_join, narrow_block}
 use Rattle.span_columns.specs.Reads.{masks_of}
-use Rattle.span_columns.proofs.Kept.{in_kept}
 use Rattle.span_columns.proofs.Layered.{one_more, join_is, block_is, query_is}
 use Rattle.span_columns.proofs.narrow.+narrow.Goals as goal
 
@@ -49,6 +49,6 @@ pub narrow_query-returns : goal.narrow_query-returns
 narrow_query-returns t c =
     let masks = masks_of c.args.leaves.now in
     let blocks : List (Block BoundQuery) → List (Block BoundQuery) = λ bs. map (narrow_block masks) (map (map_block (narrow masks)) bs) in
-    let others = in_kept (λ found. found ≡ blocks c.as_slice-2.result.now) c.narrow_blocks-others.result c.in_ok-first-2.others c.in_ok-first-2.ensures.1 c.narrow_blocks-others.ensures in
+    let others = IfOk-at_ok (λ found. found ≡ blocks c.as_slice-2.result.now) c.in_ok-first-2.ensures.1 c.narrow_blocks-others.ensures in
     query_is masks c.args.query.now c.in_ok-first-2.first c.in_ok-first-2.others c.in_ok-order.order
     (c.in_ok-first-2.ensures.0 ∙ c.in_ok-first.ensures) (others ∙ ap blocks c.as_slice-2.ensures) (c.in_ok-order.ensures ∙ c.as_slice.ensures)

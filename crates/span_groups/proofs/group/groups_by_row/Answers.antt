@@ -1,4 +1,5 @@
 use Rattle.std.proofs.Common.{rules, ◌≡◌, ◌+◌, ◌<◌, length, [], List, Some, Err, true, false, sym, subst, refl}
+use Rattle.std.proofs.lemmas.List.{get_or_read}
 use Rattle.span_query.specs.Rows.{Row, ◌>>=◌, filter_where}
 use Rattle.span_query.specs.Groups.{groups}
 use Rattle.span_rows.specs.Answers.{Gives}
@@ -7,7 +8,6 @@ use Rattle.span_groups.specs.declared.aggregate.AggregateState.{AggregateState}
 use Rattle.span_groups.specs.declared.group.GroupLists.{GroupLists}
 use Rattle.span_groups.specs.GroupStates.{AreGroupLists, HaveKeys}
 use Rattle.span_rows.specs.Filtering.{holds_where}
-use Rattle.span_groups.proofs.GroupSteps.{read_there}
 use Rattle.span_groups.proofs.Passes.{HavePassed, passed_none, pass_fails, take_fails, pass_keeps, pass_drops, groups_passed}
 use Rattle.span_groups.proofs.group.groups_by_row.Goals.{then-branch+in_ok-take_row_at, else-branch}
 use Rattle.span_groups.proofs.group.groups_by_row.Goals as goal
@@ -65,7 +65,7 @@ loop-at-preserved c =
           let new : GroupLists = w.take_row_at.new.groups in
           let kept : HavePassed filter g rows (i + 1) more new.states.items =
           pass_keeps filter g rows i keys states c.loop-at.invariant.passed row within c.row-row.ensures holds more new.states.items w.in_ok-take_row_at.ensures.ok in
-          let have : HaveKeys g (rows_at rows new.firsts.items) more = w.in_ok-take_row_at.ensures.firsts rows (read_there rows i row [] within c.row-row.ensures) c.loop-at.invariant.firsts in
+          let have : HaveKeys g (rows_at rows new.firsts.items) more = w.in_ok-take_row_at.ensures.firsts rows (sym (get_or_read rows i row within c.row-row.ensures [])) c.loop-at.invariant.firsts in
           rw (w.groups-is, w.index-is) (record { passed = kept; firsts = have })
       | else-branch w ↦
           let holds : holds_where filter row ≡ Some false = search rules in

@@ -1,12 +1,12 @@
 use Rattle.std.proofs.Common.{rules, ◌≡◌, ◌∷◌, ◌+◌, ◌*◌, ◌<◌, ◌≤◌, [], ℕ, List, Ok, Err, Some, length, drop, get_or, sym, subst, refl, ◌∙◌, arith}
 use Rattle.std.proofs.lemmas.List.{drop_all}
 use denote.Ref.{Bor}
+use Rattle.span_value.proofs.Lists.{drop_read}
 use Rattle.span_query.specs.Rows.{Row, Rows}
 use Rattle.span_query.specs.Groups.{columns_at, group_row, groups}
 use Rattle.span_rows.specs.Answers.{Gives}
 use Rattle.span_rows.specs.LentRows.{lent_rows}
-use Rattle.span_rows.proofs.Gathering.{drop_at}
-use Rattle.span_groups.specs.declared.aggregate.AggregateState.{AggregateState}
+use Rattle.span_groups.specs.declared.aggregate.State.{State}
 use Rattle.span_groups.specs.GroupStates.{keys_at}
 use Rattle.span_groups.specs.StateLists.{Group, groups_in, states_from}
 use Rattle.span_groups.proofs.GroupSteps.{group_by_first, count_by_firsts}
@@ -34,7 +34,7 @@ returns-in_err-put_row c g rows keyed wide are =
     let its : first ≡ get_or firsts i first = search rules in
     let inside : i < length all = omega (arith, within, count_by_firsts places w firsts states) in
     let is : x ≡ get_or all i x = sym (group_by_first places w firsts states i first x within its) in
-    let shown : AreShown g rows all found (x ∷ left) = subst (AreShown g rows all found) (drop_at all i x inside is) (c.loop-at.invariant g rows keyed wide are) in
+    let shown : AreShown g rows all found (x ∷ left) = subst (AreShown g rows all found) (drop_read all i x inside is) (c.loop-at.invariant g rows keyed wide are) in
     let row : Gives (Err why) (group_row g rows x.key) = gives_row g rows x (Err why) x.key c.states_at.result.now refl c.states_at.ensures (λ every taken h. puts_fails why _ _ (c.in_err-put_row.ensures every taken h)) (next_taken g rows all found x left shown) in
     let fails : Gives (Err why) (groups g rows) = subst (λ (o : Rows). Gives (Err why) o) (sym {A = Rows} (groups-shown g rows all are)) (shown_fails g rows all found x left shown why row) in
     search (rules, fails)
@@ -56,7 +56,7 @@ loop-at-preserved c g rows keyed wide are =
     let its : first ≡ get_or firsts i first = search rules in
     let inside : i < length all = omega (arith, within, count_by_firsts places w firsts states) in
     let is : x ≡ get_or all i x = sym (group_by_first places w firsts states i first x within its) in
-    let shown : AreShown g rows all found (x ∷ left) = subst (AreShown g rows all found) (drop_at all i x inside is) (c.loop-at.invariant g rows keyed wide are) in
+    let shown : AreShown g rows all found (x ∷ left) = subst (AreShown g rows all found) (drop_read all i x inside is) (c.loop-at.invariant g rows keyed wide are) in
     let row : group_row g rows x.key ≡ Some made = gives_row g rows x (Ok made) x.key c.states_at.result.now refl c.states_at.ensures c.in_ok-put_row.ensures (next_taken g rows all found x left shown) in
     subst (λ (out : List Row). AreShown g rows all out left) (sym {A = List Row} c.in_ok-push.ensures.ok) (shown_more g rows all found x left shown made row)
 

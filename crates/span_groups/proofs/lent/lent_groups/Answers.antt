@@ -5,9 +5,9 @@ use Rattle.span_query.specs.Rows.{Row}
 use Rattle.span_query.specs.Groups.{groups}
 use Rattle.span_rows.specs.Answers.{Gives}
 use Rattle.span_rows.specs.LentRows.{lent_rows}
-use Rattle.span_groups.specs.declared.aggregate.AggregateState.{AggregateState}
+use Rattle.span_rows.proofs.LentRows.{lent_get}
+use Rattle.span_groups.specs.declared.aggregate.State.{State}
 use Rattle.span_groups.specs.GroupStates.{AreGroupLists, HaveKeys}
-use Rattle.span_groups.proofs.GroupSteps.{lent_at}
 use Rattle.span_groups.proofs.Passes.{passed_none, pass_room, take_fails, pass_keeps, rows_passed}
 use Rattle.span_groups.proofs.lent.lent_groups.Goals as goal
 
@@ -16,7 +16,7 @@ take_lent_row-requires c =
     let rows : List (Bor Row) = c.args.rows.now in
     let row : Bor Row = c.index-rows-at.result in
     let within : c.loop-at.at < length (lent_rows rows) = omega (arith, c.loop-at-test.true, length-map rows (λ (r : Bor Row). r.now)) in
-    pass_room None c.args.grouping.now (lent_rows rows) c.loop-at.at c.loop-at.index.keys c.loop-at.groups.states.items c.loop-at.invariant.passed row.now within (lent_at rows c.loop-at.at row (search rules) (search rules))
+    pass_room None c.args.grouping.now (lent_rows rows) c.loop-at.at c.loop-at.index.keys c.loop-at.groups.states.items c.loop-at.invariant.passed row.now within (lent_get rows c.loop-at.at row (search rules) (search rules))
     (omega (arith, length-map rows (λ (r : Bor Row). r.now)))
 
 pub loop-at-init : goal.loop-at-init
@@ -39,7 +39,7 @@ returns-in_err-take_lent_row c =
     let within : c.loop-at.at < length (lent_rows rows) = omega (arith, c.loop-at-test.true, length-map rows (λ (r : Bor Row). r.now)) in
     let why = c.in_err-take_lent_row.field-0.0 in
     let fails : Gives (Err why) (groups g (lent_rows rows)) =
-    take_fails None g (lent_rows rows) c.loop-at.at c.loop-at.index.keys c.loop-at.groups.states.items c.loop-at.invariant.passed row.now within (lent_at rows c.loop-at.at row (search rules) (search rules)) refl why (search rules) in
+    take_fails None g (lent_rows rows) c.loop-at.at c.loop-at.index.keys c.loop-at.groups.states.items c.loop-at.invariant.passed row.now within (lent_get rows c.loop-at.at row (search rules) (search rules)) refl why (search rules) in
     search (rules, fails)
 
 pub loop-at-preserved : goal.loop-at-preserved
@@ -50,7 +50,7 @@ loop-at-preserved c =
     let within : c.loop-at.at < length (lent_rows rows) = omega (arith, c.loop-at-test.true, length-map rows (λ (r : Bor Row). r.now)) in
     record {
       passed =
-          pass_keeps None g (lent_rows rows) c.loop-at.at c.loop-at.index.keys c.loop-at.groups.states.items c.loop-at.invariant.passed row.now within (lent_at rows c.loop-at.at row (search rules) (search rules)) refl
+          pass_keeps None g (lent_rows rows) c.loop-at.at c.loop-at.index.keys c.loop-at.groups.states.items c.loop-at.invariant.passed row.now within (lent_get rows c.loop-at.at row (search rules) (search rules)) refl
           c.take_lent_row.new.index.keys c.take_lent_row.new.groups.states.items c.in_ok-take_lent_row.ensures.ok;
       firsts = c.in_ok-take_lent_row.ensures.firsts c.loop-at.invariant.firsts;
     }

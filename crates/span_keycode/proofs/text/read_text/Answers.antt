@@ -1,20 +1,16 @@
-use Rattle.std.proofs.Common.{◌≡◌, ℕ, ◌+◌, ◌-◌, ◌∙◌, ◌∷◌, ◌++◌, [], List, sym, ap, arith, length, drop, take, length-drop, Some, subst}
-use Rattle.std.proofs.lemmas.List.{drop-drop}
-use Rattle.std.proofs.lemmas.Grind.{common_steps}
+use Rattle.std.proofs.Common.{◌≡◌, ℕ, ◌+◌, ◌∙◌, ◌∷◌, ◌++◌, [], List, sym, ap, arith, drop, length-drop, Some, subst}
+use Rattle.std.proofs.lemmas.List.{drop-drop, take_rest}
 use Rattle.span_keycode.specs.Coding.{in_direction, AreBytes}
 use Rattle.span_keycode.specs.Texts.{text_at, prepend, with_first}
 use Rattle.span_keycode.proofs.Codes.{bytes_push}
 use Rattle.span_keycode.proofs.Reading.{prepend_more, prepend_nothing}
 use Rattle.span_keycode.proofs.text.read_text.Goals as goal
 
-whole : (at : ℕ) (bs : List ℕ) → take (length bs - at) (drop at bs) ≡ drop at bs
-whole at bs = grind (arith, common_steps)
-
 pub loop-byte-preserved : goal.loop-byte-preserved
 loop-byte-preserved c =
     let bs = c.args.bytes.now in
     let d = c.args.desc in
-    let w = whole c.loop-byte.at bs in
+    let w = take_rest bs c.loop-byte.at in
     let now = rw w at c.in-Byte.ensures in
     let e : drop c.in-Byte.width (drop c.loop-byte.at bs) ≡ drop (c.loop-byte.at + c.in-Byte.width) bs = drop-drop c.in-Byte.width c.loop-byte.at bs in
     let items : c.push.new.self.items ≡ c.loop-byte.text.items ++ c.in-Byte.byte ∷ [] = c.in_ok-push-in-Byte.ensures.items in
@@ -30,7 +26,7 @@ loop-byte-preserved c =
 pub returns-in-End-clause-ok : goal.returns-in-End-clause-ok
 returns-in-End-clause-ok c =
     let bs = c.args.bytes.now in
-    let w = whole c.loop-byte.at bs in
+    let w = take_rest bs c.loop-byte.at in
     let now = rw w at c.in-End.ensures in
     let e : drop 2 (drop c.loop-byte.at bs) ≡ drop (c.loop-byte.at + 2) bs = drop-drop 2 c.loop-byte.at bs in
     sym c.loop-byte.invariant.same ∙ ap (prepend c.loop-byte.text.items) now.0 ∙ prepend_nothing c.loop-byte.text.items (in_direction c.args.desc (drop 2 (drop c.loop-byte.at bs)))

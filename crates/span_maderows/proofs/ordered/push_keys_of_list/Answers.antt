@@ -1,5 +1,6 @@
 use Rattle.std.proofs.Common.{◌++◌, ◌∷◌, ◌+◌, ◌-◌, [], ℕ, List, drop, take, length, sym, ap, ◌∙◌}
-use Rattle.span_maderows.proofs.MadeRows.{slice_is, next_is}
+use Rattle.span_value.proofs.Lists.{drop_read}
+use Rattle.span_maderows.proofs.MadeRows.{slice_is}
 use Rattle.span_maderows.proofs.Pushing.{pushing_first, pushing_next, pushed_until}
 use Rattle.span_maderows.proofs.ordered.push_keys_of_list.Goals as goal
 
@@ -16,7 +17,7 @@ returns-then-not-begins_with c =
     let rest = take (length rows - n) (drop n rows) in
     let i = c.loop-key.key-index in
     let e = c.loop-key-item.result in
-    pushed_until rows c.args.front.now c.args.keys.now.items c.loop-key.keys.items e.0 e.1 (drop i rest) (drop (i + 1) rest) (next_is rest i e c.loop-key-test.true c.loop-key-item.is)
+    pushed_until rows c.args.front.now c.args.keys.now.items c.loop-key.keys.items e.0 e.1 (drop i rest) (drop (i + 1) rest) (drop_read rest i e c.loop-key-test.true c.loop-key-item.is)
     (sym c.begins_with.ensures ∙ c.if-not-begins_with.true) c.loop-key.invariant
 
 pub loop-key-preserved : goal.loop-key-preserved
@@ -26,6 +27,6 @@ loop-key-preserved c =
     let rest = take (length rows - n) (drop n rows) in
     let i = c.loop-key.key-index in
     let e = c.loop-key-item.result in
-    pushing_next rows c.args.front.now c.args.keys.now.items c.loop-key.keys.items c.push.new.self.items e.0 e.1 (drop i rest) (drop (i + 1) rest) (next_is rest i e c.loop-key-test.true c.loop-key-item.is)
+    pushing_next rows c.args.front.now c.args.keys.now.items c.loop-key.keys.items c.push.new.self.items e.0 e.1 (drop i rest) (drop (i + 1) rest) (drop_read rest i e c.loop-key-test.true c.loop-key-item.is)
     (c.in_ok-push.ensures.items ∙ ap (λ (k : List ℕ). c.loop-key.keys.items ++ k ∷ []) (c.in_ok-from_slice.ensures.bytes ∙ c.as_slice.ensures))
     (sym c.begins_with.ensures ∙ c.if-not-begins_with.false) c.loop-key.invariant

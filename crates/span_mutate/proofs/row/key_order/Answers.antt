@@ -1,11 +1,8 @@
-use Rattle.std.proofs.Common.{◌≡◌, ℕ, ◌-◌, ◌≤◌, sym, ◌∙◌, arith, length, drop, length-drop}
-use Rattle.std.proofs.lemmas.Bool.Decides.{nat_tests}
+use Rattle.std.proofs.Common.{◌≡◌, sym, ◌∙◌, arith, length, drop, length-drop}
 use Rattle.std.specs.Ordering.{nat_cmp}
+use Rattle.span_keycode.proofs.Words.{lengths_past}
 use Rattle.span_mutate.proofs.Keys.{lengths_decide}
 use Rattle.span_mutate.proofs.row.key_order.Goals as goal
-
-same_difference : (m n i : ℕ) → i ≤ m → i ≤ n → nat_cmp (m - i) (n - i) ≡ nat_cmp m n
-same_difference m n i a b = grind (arith, nat_tests)
 
 pub returns : goal.returns
 returns c =
@@ -14,5 +11,5 @@ returns c =
     let right = c.args.right.now in
     let end = lengths_decide c.args.columns.now i (drop i left) (drop i right) (omega (arith, length-drop i left, length-drop i right)) in
     let lengths : nat_cmp (length (drop i left)) (length (drop i right)) ≡ nat_cmp (length left) (length right) =
-    simp length-drop (same_difference (length left) (length right) i (omega arith) (omega arith)) in
+    simp length-drop (lengths_past i (length left) (length right) (omega arith) (omega arith)) in
     c.cmp.ensures ∙ sym (c.loop-i.invariant ∙ end ∙ lengths)

@@ -1,4 +1,5 @@
-use Rattle.span_parts.proofs.AtSlot.{unclaimed_answer, claimed_goes, if_err}
+use Rattle.std.proofs.lemmas.Result.{IfErr-weaker}
+use Rattle.span_parts.proofs.AtSlot.{unclaimed_answer, claimed_goes}
 use Rattle.span_machine.specs.Pieces.{machine_of}
 use Rattle.span_parts.proofs.slot.claim.Goals as goal
 
@@ -6,7 +7,7 @@ pub returns-clause-refused : goal.returns-clause-refused
 returns-clause-refused c =
     let a = c.args in
     let k = c.claim_gap.new.self in
-    if_err c.claim_gap.result _ _ c.claim_gap.ensures.refused (λ why is. unclaimed_answer (machine_of a.journal.now) a.query a.leaf a.slot a.interval why (machine_of k) is)
+    IfErr-weaker c.claim_gap.result _ _ (λ why is. unclaimed_answer (machine_of a.journal.now) a.query a.leaf a.slot a.interval why (machine_of k) is) c.claim_gap.ensures.refused
 
 pub returns-clause-whole : goal.returns-clause-whole
 returns-clause-whole c =

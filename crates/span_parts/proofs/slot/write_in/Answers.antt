@@ -1,7 +1,7 @@
 use Rattle.std.proofs.Common.{sym, subst}
+use Rattle.std.proofs.lemmas.Result.{on_ok_weaker, IfErr-weaker}
 use Rattle.span_machine.specs.Pieces.{machine_of}
 use Rattle.span_journal.specs.Judged.{MayPrepare}
-use Rattle.span_parts.proofs.Changes.{on_ok, on_err}
 use Rattle.span_parts.proofs.Preparing.{free, new, typed, unwritten_answer}
 use Rattle.span_parts.proofs.slot.write_in.Goals as goal
 
@@ -30,13 +30,13 @@ pub returns-in-Ok-clause-written : goal.returns-in-Ok-clause-written
 returns-in-Ok-clause-written c =
     let a = c.args in
     let may = subst (MayPrepare a.schema.now (machine_of a.journal.now) a.owner a.txn a.slot) (sym c.as_slice.ensures) c.in-Ok.ensures.accepted in
-    on_ok c.write.result c.write.ensures.ok (λ made.
-    record { mutations = c.as_slice.result.now; may = may; writes = made.0; are = made.1; few = made.2; put = made.3 })
+    on_ok_weaker c.write.result (λ made.
+    record { mutations = c.as_slice.result.now; may = may; writes = made.0; are = made.1; few = made.2; put = made.3 }) c.write.ensures.ok
 
 pub returns-in-Ok-clause-refused : goal.returns-in-Ok-clause-refused
 returns-in-Ok-clause-refused c =
     let a = c.args in
     let ms = c.as_slice.result.now in
     let may = subst (MayPrepare a.schema.now (machine_of a.journal.now) a.owner a.txn a.slot) (sym c.as_slice.ensures) c.in-Ok.ensures.accepted in
-    on_err c.write.result _ _ c.write.ensures.fault (λ why fault.
-    unwritten_answer a.schema.now a.journal.now c.requires.0 c.requires.1 a.owner a.txn a.slot ms may a.shard.now c.requires.2 why fault)
+    IfErr-weaker c.write.result _ _ (λ why fault.
+    unwritten_answer a.schema.now a.journal.now c.requires.0 c.requires.1 a.owner a.txn a.slot ms may a.shard.now c.requires.2 why fault) c.write.ensures.fault

@@ -1,12 +1,13 @@
 use Rattle.std.proofs.Common.{◌∙◌, sym, ap, subst, inl, inr}
 use Rattle.std.specs.Prelude.{Ok, Err, Some}
+use Rattle.std.proofs.lemmas.Option.{get_or_from_slice_get}
 use Rattle.span_machine.specs.declared.step.Step.TheVariants as step
 use Rattle.span_machine.specs.declared.step.Reply.TheVariants as reply_of
 use Rattle.span_machine.specs.Machine.{Machine, Answer, Answers, scan}
 use Rattle.span_machine.specs.Pieces.{machine_of}
-use Rattle.span_journal.specs.Judged.{IsGap, MayScan, leaf_of}
+use Rattle.span_journal.specs.Judged.{IsGap, MayScan}
 use Rattle.span_parts.specs.Whole.{IsRead, IsUnread}
-use Rattle.span_parts.proofs.Changes.{shard_there, at_index}
+use Rattle.span_parts.proofs.Changes.{shard_there}
 use Rattle.span_parts.proofs.Scanning.{of_leaf, scanned_leaf, scanned_tables, scanned_maskable, reads, scanned_answer, scanned_whole}
 use Rattle.span_parts.proofs.Wholes.{no_text, goes_same, goes_by, pieces_same}
 use Rattle.span_parts.proofs.steps.scan.Goals as goal
@@ -55,7 +56,7 @@ returns-in-Ok-register-clause-whole c =
     let may_then = subst (λ (m : Machine). MayScan m a.query a.leaf a.slot a.interval gap.range gap.s) (sym same) may in
     let w = goes_same a.schema.now a.journal.now k same c.in-Ok-Some.ensures.pieces a.shards.now c.requires in
     let found = shard_there a.schema.now a.journal.now a.shards.now c.requires a.slot may.slot_state may.here in
-    let there = found.1 ∙ ap (λ x. Some x) (sym (c.index-shards-slot.is ∙ at_index a.shards.now a.slot c.index-shards-slot.result found.0 found.1)) in
+    let there = found.1 ∙ ap (λ x. Some x) (sym (c.index-shards-slot.is ∙ get_or_from_slice_get a.shards.now a.slot found.0 c.index-shards-slot.result found.1)) in
     let read = of_leaf (IsRead a.schema.now c.index-shards-slot.result gap.range gap.s c.in-Ok.piece) (Ok c.in-Ok.piece) _ _ (scanned_leaf a.schema.now k a.shards.now w a.query a.leaf a.slot a.interval gap.range gap.s may_then) c.in-Ok.ensures in
     scanned_whole a.schema.now k a.shards.now w a.query a.leaf a.slot a.interval gap.range gap.s may_then _ c.register.new.self c.in-Ok-register.ensures.ok c.index-shards-slot.result there read
 
@@ -69,7 +70,7 @@ returns-in-Err-read_gap-clause-step c =
     let may_then = subst (λ (m : Machine). MayScan m a.query a.leaf a.slot a.interval gap.range gap.s) (sym same) may in
     let w = goes_same a.schema.now a.journal.now k same c.in-Ok-Some.ensures.pieces a.shards.now c.requires in
     let found = shard_there a.schema.now a.journal.now a.shards.now c.requires a.slot may.slot_state may.here in
-    let there = found.1 ∙ ap (λ x. Some x) (sym (c.index-shards-slot.is ∙ at_index a.shards.now a.slot c.index-shards-slot.result found.0 found.1)) in
+    let there = found.1 ∙ ap (λ x. Some x) (sym (c.index-shards-slot.is ∙ get_or_from_slice_get a.shards.now a.slot found.0 c.index-shards-slot.result found.1)) in
     let unread = of_leaf (λ _. IsUnread a.schema.now c.index-shards-slot.result gap.range gap.s c.in-Err-read_gap.why) (Err c.in-Err-read_gap.why) _ _ (scanned_leaf a.schema.now k a.shards.now w a.query a.leaf a.slot a.interval gap.range gap.s may_then) c.in-Err-read_gap.ensures in
     let memory = reads a.schema.now a.journal.now a.shards.now c.requires a.query a.leaf a.slot a.interval gap.range gap.s may c.index-shards-slot.result there c.in-Err-read_gap.why unread in
     inr (ap reply_of.Refused memory, same)

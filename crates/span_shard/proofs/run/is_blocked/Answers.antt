@@ -1,10 +1,10 @@
 use Rattle.std.proofs.Common.{◌∙◌, ◌∷◌, [], ℕ, List, false, true, take, inl, inr, refl, sym, subst}
 use Rattle.std.specs.List.{AllByRecursion}
 use Rattle.std.proofs.lemmas.Result.{err_from_is_err_and}
+use Rattle.span_value.proofs.Lists.{all_append}
 use Rattle.span_keycode.specs.Reads.{IsNoKey}
 use Rattle.span_keycode.specs.Order.{is_same}
-use Rattle.span_maderows.proofs.Bytes.{bytes_same}
-use Rattle.span_maderows.proofs.Lists.{all_append}
+use Rattle.span_keycode.proofs.Order.{bytes_same}
 use Rattle.span_shard.specs.Overlay.{BlocksDelete}
 use Rattle.span_shard.proofs.RunAll.{any_at, blocks_by, taken_next}
 use Rattle.span_shard.proofs.run.is_blocked.Goals as goal

@@ -1,12 +1,12 @@
 use Rattle.std.proofs.Common.{◌≡◌, ◌∙◌, ◌+◌, ◌++◌, ◌∷◌, ◌&&◌, [], ap, sym, subst, append_assoc, drop, List, rules}
 use denote.Ref.{Bor}
 use Rattle.std.specs.List.{AllByRecursion}
+use Rattle.span_value.proofs.Lists.{drop_read}
 use Rattle.span_query.specs.Rows.{Row}
 use Rattle.span_sorting.specs.declared.coded.CodedRow.{CodedRow}
 use Rattle.span_sorting.specs.Codes.{IsCodedAs, are_exact, uncoded}
 use Rattle.span_rows.specs.LentRows.{lent_rows}
 use Rattle.span_sorting.proofs.CodedRows.{uncoded_more, coded_more}
-use Rattle.span_rows.proofs.Gathering.{drop_at}
 use Rattle.span_sorting.proofs.coded.code_rows.Goals as goal
 
 pub loop-row-preserved : goal.loop-row-preserved
@@ -19,7 +19,7 @@ loop-row-preserved c =
     let x : CodedRow = c.code_row.result in
     let rest : List Row = lent_rows (drop (i + 1) rows) in
     let items : c.push.new.self.items ≡ xs ++ x ∷ [] = search rules in
-    let left : drop i rows ≡ row ∷ drop (i + 1) rows = drop_at rows i row c.loop-row-test.true c.row-item.is in
+    let left : drop i rows ≡ row ∷ drop (i + 1) rows = drop_read rows i row c.loop-row-test.true c.row-item.is in
     let is : x.row.now ≡ row.now = c.code_row.ensures.row in
     let both : c.exact_with-exact.result ≡ (c.loop-row.exact && are_exact keys x.row.now) =
     c.exact_with-exact.ensures ∙ ap (λ (r : Row). c.loop-row.exact && are_exact keys r) (sym is) in

@@ -1,11 +1,11 @@
 use Rattle.std.proofs.Common.{rules, arith, ◌≡◌, ◌∙◌, ◌+◌, ◌-◌, ◌<◌, ◌≤◌, ◌∷◌, ap, sym, subst, List, ℕ, take, drop, length}
 use denote.Ref.{Bor}
+use Rattle.span_value.proofs.Lists.{drop_read}
 use Rattle.span_query.specs.Rows.{Row}
 use Rattle.span_query.specs.Sorting.{comes_before, insert_sorted, sorted}
 use Rattle.span_rows.specs.LentRows.{lent_rows}
 use Rattle.span_sorting.specs.Orders.{IsSorted}
 use Rattle.span_sorting.proofs.FirstRows.{first_in_order, first_of_inserted}
-use Rattle.span_rows.proofs.Gathering.{drop_at}
 use Rattle.span_sorting.proofs.RowOrder.{rows_ranked}
 use Rattle.span_sorting.proofs.first_rows.first_rows.Goals as goal
 
@@ -24,7 +24,7 @@ loop-at-preserved c =
     let some : 0 < at = search rules in
     let inside : at ≤ length rows = c.loop-at.invariant.within in
     let next : at - 1 + 1 ≡ at = omega (arith, some) in
-    let rest : drop (at - 1) rows ≡ row ∷ drop at rows = drop_at rows (at - 1) row (omega (arith, some, inside)) c.index-rows-at.is ∙ ap (λ (n : ℕ). row ∷ drop n rows) next in
+    let rest : drop (at - 1) rows ≡ row ∷ drop at rows = drop_read rows (at - 1) row (omega (arith, some, inside)) c.index-rows-at.is ∙ ap (λ (n : ℕ). row ∷ drop n rows) next in
     record {
       within = omega (arith, inside);
       first = c.in_ok-put_in_order.ensures

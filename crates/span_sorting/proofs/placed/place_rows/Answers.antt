@@ -1,12 +1,12 @@
 use Rattle.std.proofs.Common.{rules, ◌≡◌, ◌∙◌, ◌+◌, ◌<◌, ◌++◌, ◌∷◌, ◌&&◌, [], ap, sym, subst, append_assoc, drop, length, get_or, List}
 use Rattle.std.specs.List.{AllByRecursion}
 use Rattle.std.proofs.lemmas.List.{get_or_default}
+use Rattle.span_value.proofs.Lists.{drop_read}
 use Rattle.span_query.specs.Rows.{Row}
 use Rattle.span_sorting.specs.declared.coded.CodedRow.{CodedRow}
 use Rattle.span_sorting.specs.declared.placed.PlacedRow.{PlacedRow}
 use Rattle.span_sorting.specs.Codes.{are_exact, uncoded}
 use Rattle.span_sorting.specs.PlacesInOrder.{IsPlaced, without_places}
-use Rattle.span_rows.proofs.Gathering.{drop_at}
 use Rattle.span_sorting.proofs.Placing.{placed_more, unplaced_more}
 use Rattle.span_sorting.proofs.placed.place_rows.Goals as goal
 
@@ -29,7 +29,7 @@ loop-place-preserved c =
     c.exact_with-exact.ensures ∙ ap (λ (r : Row). c.loop-place.exact && are_exact keys r) (sym is) in
     record {
       rows = c.loop-place.invariant.rows
-          ∙ ap (λ (l : List Row). uncoded (without_places xs) ++ l) (drop_at rows i row within here)
+          ∙ ap (λ (l : List Row). uncoded (without_places xs) ++ l) (drop_read rows i row within here)
           ∙ ap (λ (r : Row). uncoded (without_places xs) ++ r ∷ rest) (sym is)
           ∙ sym (append_assoc (uncoded (without_places xs)) (coded.row.now ∷ []) rest)
           ∙ ap (λ (l : List Row). l ++ rest) (sym (unplaced_more xs x))

@@ -1,16 +1,11 @@
-use Rattle.std.proofs.Common.{ℕ, Bool, true, List, Option, Result, Ok, Err, subst}
-use Rattle.std.specs.Prelude.{IfOk}
+use Rattle.std.proofs.Common.{ℕ, Bool, true, List, Option, subst}
+use Rattle.std.proofs.lemmas.Result.{IfOk-weaker}
 use Rattle.span_expr.specs.declared.expr.Expr.{Expr}
 use Rattle.span_query.specs.Rows.{Row}
 use Rattle.span_rowreader.specs.Entries.{IsWhetherOf}
 use Rattle.span_tablescan.specs.Scans.{IsTestOf, IsAddedWhere}
 use Rattle.span_tablescan.proofs.ScannedRows.{own_taken}
 use Rattle.span_tablescan.proofs.scan.take_entry.Goals as goal
-
--- what holds of what was found holds of each value that it may be
-if_ok : {A E : Type 0} (P Q : A → Type 0) (r : Result A E) → ((x : A) → P x → Q x) → IfOk r P → IfOk r Q
-if_ok P Q (Ok x) f p = f x p
-if_ok P Q (Err e) f p = tt {0}
 
 pub returns-in-OnColumns-clause-ok : goal.returns-in-OnColumns-clause-ok
 returns-in-OnColumns-clause-ok c =
@@ -25,6 +20,4 @@ returns-in-OnColumns-clause-ok c =
     let new : List Row = c.add_row_after.new.rows in
     let whether : IsWhetherOf schema n key true = subst (IsWhetherOf schema n key) c.if-not-is_own_key.false c.is_own_key.ensures in
     let test = subst (IsTestOf schema n reads w scan.needed) c.in-OnColumns.is c.requires.scan.test in
-    if_ok _ _ c.add_row_after.result
-    (λ found added. own_taken schema n reads w key cells found old new whether (subst (λ (ms : List Bool). IsAddedWhere schema n ms w key cells found old new) c.requires.scan.mask (added w test.2)))
-    c.add_row_after.ensures.ok
+    IfOk-weaker c.add_row_after.result _ _ (λ found added. own_taken schema n reads w key cells found old new whether (subst (λ (ms : List Bool). IsAddedWhere schema n ms w key cells found old new) c.requires.scan.mask (added w test.2))) c.add_row_after.ensures.ok
