@@ -10,7 +10,7 @@ use Rattle.span_query.specs.declared.query.Grouping.{Grouping}
 use Rattle.span_query.specs.Rows.{Row, Rows, ◌>>=◌, append_results, keep_if, holds, filter_where}
 use Rattle.span_query.specs.Groups.{groups}
 use Rattle.span_query.proofs.Results.{filter_where-nil, nil-append_results}
-use Rattle.span_groups.specs.declared.aggregate.State.{State}
+use Rattle.span_groups.specs.declared.aggregate.AggregateState.{AggregateState}
 use Rattle.span_groups.specs.declared.group.GroupLists.{GroupLists}
 use Rattle.span_rows.specs.RowPlaces.{rows_at}
 use Rattle.span_rows.specs.Answers.{Gives}
@@ -35,7 +35,7 @@ kept_at : (filter : Option Expr) (rows : List Row) (i : ℕ) (row : Row) → i <
 kept_at None rows i row inside is = ap (λ (l : List Row). Some l) (drop_read rows i row inside is)
 kept_at (Some e) rows i row inside is = gathered_at (λ row. holds e row >>= (λ b. Some (keep_if row b))) rows i row inside is
 
-module _ (filter : Option Expr) (g : Grouping) (rows : List Row) (i : ℕ) (keys : List Row) (states : List State) (passed : HavePassed filter g rows i keys states) where
+module _ (filter : Option Expr) (g : Grouping) (rows : List Row) (i : ℕ) (keys : List Row) (states : List AggregateState) (passed : HavePassed filter g rows i keys states) where
   module _ (row : Row) (inside : i < length rows) (is : row ≡ get_or rows i row) where
     next : filter_where filter (drop i rows) ≡ append_results (judged filter row) (filter_where filter (drop (i + 1) rows))
     next = kept_at filter rows i row inside is

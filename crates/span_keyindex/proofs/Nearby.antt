@@ -10,7 +10,7 @@ use Rattle.span_arena.specs.declared.cell.Cell.{Cell}
 use Rattle.span_arena.specs.Cells.{cell_at}
 use Rattle.span_arena.specs.Content.{Content}
 use Rattle.span_keyindex.specs.declared.index.KeyIndex.{KeyIndex}
-use Rattle.span_keytree.specs.Entries.{Entry, HasChain, IsAbsent}
+use Rattle.span_keytree.specs.Entries.{KeyEntry, HasChain, IsAbsent}
 use Rattle.span_keytree.specs.Items.{entry, holders, AreRising}
 use Rattle.span_keytree.specs.Roots.{tree_of}
 use Rattle.span_keyindex.specs.Indexes.{entries_of, IsIndexOf}

@@ -50,7 +50,7 @@ index_stays i a b own same chains = record {
 pub own_more : (es : List KeyEntry) (a b : Content) (key : List ℕ) (c : ℕ) → IsArenaOf es a → AreRising es → AllOther key es → IsNewChain a b c → IsArenaOf (with_entry es (entry key c)) b
 own_more es a b key c own rising other fresh = record {
   each = λ d. (
-      let new : Entry = entry key c in
+      let new : KeyEntry = entry key c in
       let cut : holders d es ≡ holders d (below key es) + holders d (above key es) = ap (holders d) (cut_at key es rising other) ∙ held_append d (below key es) (above key es) in
       let now : holders d (with_entry es new) ≡ holders d (below key es) + (one_of d new + holders d (above key es)) = held_append d (below key es) (new ∷ above key es) in
       elim (cases_eq c d) [

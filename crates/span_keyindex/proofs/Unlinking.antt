@@ -36,11 +36,11 @@ held_head : (i : ℕ) (b : Bool) (e : KeyEntry) (es : List KeyEntry) → holders
 held_head i true e es = omega arith
 held_head i false e es = omega arith
 
-pub held_filter : (p : Entry → Bool) (i : ℕ) (es : List Entry) → holders i (filter p es) ≤ holders i es
+pub held_filter : (p : KeyEntry → Bool) (i : ℕ) (es : List KeyEntry) → holders i (filter p es) ≤ holders i es
 held_filter p i [] = omega arith
 held_filter p i (e ∷ es) = omega (arith, held_head i (p e) e (filter p es), held_filter p i es)
 
-rising_head : (b : Bool) (e : Entry) (es : List Entry) → AllByRecursion (λ (f : Entry). byte_order e.key f.key ≡ Less) es → AreRising es → AreRising (cond b (e ∷ es) es)
+rising_head : (b : Bool) (e : KeyEntry) (es : List KeyEntry) → AllByRecursion (λ (f : KeyEntry). byte_order e.key f.key ≡ Less) es → AreRising es → AreRising (cond b (e ∷ es) es)
 rising_head true e es h k = (h, k)
 rising_head false e es h k = k
 

@@ -47,7 +47,7 @@ module _ (cs : List Cell) (levels : ℕ) (at : Option ℕ) (i : ℕ) (ls : Links
 
 -- ---- a chain is a cell of the tree
 
-pub chain_one : (o : Option (List Version)) → is_some o ≡ true → one_if_chain o ≡ 1
+pub chain_one : (o : Option (List ArenaVersion)) → is_some o ≡ true → one_if_chain o ≡ 1
 chain_one None is = absurd (let q : false ≡ true = is in cc)
 chain_one (Some vs) is = refl
 

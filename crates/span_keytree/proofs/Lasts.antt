@@ -54,7 +54,7 @@ module _ (cs : List Cell) (xs : List KeyEntry) (e : KeyEntry) (key : List ℕ) w
   below_last rising is =
       let a : IsAround xs e [] = around xs e [] rising in
       let less : byte_order e.key key ≡ Less = turned key e.key Greater (is_greater (byte_order key e.key) is) in
-      all_both (λ (f : Entry). byte_order f.key key ≡ Less) xs (e ∷ []) (below_more e.key key xs less a.smaller) (less, tt)
+      all_both (λ (f : KeyEntry). byte_order f.key key ≡ Less) xs (e ∷ []) (below_more e.key key xs less a.smaller) (less, tt)
 
   last_kept : (c : ℕ) → AreRising (xs ++ e ∷ []) → AllOther key (xs ++ e ∷ []) → is_gt (byte_order key e.key) ≡ false → last_cell None (with_entry (xs ++ e ∷ []) (entry key c)) ≡ last_cell None (xs ++ e ∷ [])
   last_kept c rising other is =

@@ -91,23 +91,23 @@ pairs_rising (e ∷ es) h = AllPairs-cons (λ (x y : KeyEntry). byte_order x.key
 
 -- ---- filters by key
 
-greater_of : (key : List ℕ) (e : Entry) → byte_order key e.key ≡ Less → byte_order e.key key ≡ Greater
+greater_of : (key : List ℕ) (e : KeyEntry) → byte_order key e.key ≡ Less → byte_order e.key key ≡ Greater
 greater_of key e h = turned key e.key Less h
 
-pub keeps_below : (key : List ℕ) (es : List Entry) → AllBelow key es → below key es ≡ es
-keeps_below key es h = filter_all (λ (e : Entry). is_lt (byte_order e.key key)) es (all_weaker (λ (e : Entry). byte_order e.key key ≡ Less) (λ (e : Entry). is_lt (byte_order e.key key) ≡ true) (λ e x. ap is_lt x) es h)
+pub keeps_below : (key : List ℕ) (es : List KeyEntry) → AllBelow key es → below key es ≡ es
+keeps_below key es h = filter_all (λ (e : KeyEntry). is_lt (byte_order e.key key)) es (all_weaker (λ (e : KeyEntry). byte_order e.key key ≡ Less) (λ (e : KeyEntry). is_lt (byte_order e.key key) ≡ true) (λ e x. ap is_lt x) es h)
 
 pub drops_below : (key : List ℕ) (es : List KeyEntry) → AllAbove key es → below key es ≡ []
 drops_below key es h = filter_none (λ (e : KeyEntry). is_lt (byte_order e.key key)) es (all_weaker (λ (e : KeyEntry). byte_order key e.key ≡ Less) (λ (e : KeyEntry). is_lt (byte_order e.key key) ≡ false) (λ e x. ap is_lt (greater_of key e x)) es h)
 
-pub keeps_above : (key : List ℕ) (es : List Entry) → AllAbove key es → above key es ≡ es
-keeps_above key es h = filter_all (λ (e : Entry). is_gt (byte_order e.key key)) es (all_weaker (λ (e : Entry). byte_order key e.key ≡ Less) (λ (e : Entry). is_gt (byte_order e.key key) ≡ true) (λ e x. ap is_gt (greater_of key e x)) es h)
+pub keeps_above : (key : List ℕ) (es : List KeyEntry) → AllAbove key es → above key es ≡ es
+keeps_above key es h = filter_all (λ (e : KeyEntry). is_gt (byte_order e.key key)) es (all_weaker (λ (e : KeyEntry). byte_order key e.key ≡ Less) (λ (e : KeyEntry). is_gt (byte_order e.key key) ≡ true) (λ e x. ap is_gt (greater_of key e x)) es h)
 
 pub drops_above : (key : List ℕ) (es : List KeyEntry) → AllBelow key es → above key es ≡ []
 drops_above key es h = filter_none (λ (e : KeyEntry). is_gt (byte_order e.key key)) es (all_weaker (λ (e : KeyEntry). byte_order e.key key ≡ Less) (λ (e : KeyEntry). is_gt (byte_order e.key key) ≡ false) (λ e x. ap is_gt x) es h)
 
-pub keeps_from : (key : List ℕ) (es : List Entry) → AllAbove key es → from key es ≡ es
-keeps_from key es h = filter_all (λ (e : Entry). not (is_lt (byte_order e.key key))) es (all_weaker (λ (e : Entry). byte_order key e.key ≡ Less) (λ (e : Entry). not (is_lt (byte_order e.key key)) ≡ true) (λ e x. ap (λ (o : Ordering). not (is_lt o)) (greater_of key e x)) es h)
+pub keeps_from : (key : List ℕ) (es : List KeyEntry) → AllAbove key es → from key es ≡ es
+keeps_from key es h = filter_all (λ (e : KeyEntry). not (is_lt (byte_order e.key key))) es (all_weaker (λ (e : KeyEntry). byte_order key e.key ≡ Less) (λ (e : KeyEntry). not (is_lt (byte_order e.key key)) ≡ true) (λ e x. ap (λ (o : Ordering). not (is_lt o)) (greater_of key e x)) es h)
 
 pub drops_from : (key : List ℕ) (es : List KeyEntry) → AllBelow key es → from key es ≡ []
 drops_from key es h = filter_none (λ (e : KeyEntry). not (is_lt (byte_order e.key key))) es (all_weaker (λ (e : KeyEntry). byte_order e.key key ≡ Less) (λ (e : KeyEntry). not (is_lt (byte_order e.key key)) ≡ false) (λ e x. ap (λ (o : Ordering). not (is_lt o)) x) es h)

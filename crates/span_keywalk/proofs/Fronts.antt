@@ -104,7 +104,7 @@ first_by : (b : Bool) (p : List ℕ) (x : Option ℕ) (l : Tree) (m : ℕ) (k : 
     → first_past p (Some m) l ≡ head_cell (Some m) (past p (items l)) → first_past p x r ≡ head_cell x (past p (items r))
     → cond b (first_past p (Some m) l) (first_past p x r) ≡ head_cell x (past p (items (Fork l m k bal r)))
 first_by true p x l m k bal r is a left right =
-    let rest : past p (entry k m ∷ items r) ≡ entry k m ∷ items r = filter_all (λ (e : Entry). is_past p e.key) (entry k m ∷ items r) (is, all_past p k (items r) is a.greater) in
+    let rest : past p (entry k m ∷ items r) ≡ entry k m ∷ items r = filter_all (λ (e : KeyEntry). is_past p e.key) (entry k m ∷ items r) (is, all_past p k (items r) is a.greater) in
     left
     ∙ sym (middle (past p (items l)))
     ∙ ap (λ (es : List KeyEntry). head_cell x es) (sym (filter-append (λ (e : KeyEntry). is_past p e.key) (items l) (entry k m ∷ items r) ∙ ap (λ (es : List KeyEntry). past p (items l) ++ es) rest))
@@ -137,9 +137,9 @@ cut_under_by true p e es is le rising rest =
     ∙ sym (ap (λ (b : Bool). cond b (e ∷ entries_under p es) (entries_under p es) ++ past p (e ∷ es)) is ∙ ap (λ (b : Bool). (e ∷ entries_under p es) ++ cond b (e ∷ past p es) (past p es)) out)
 cut_under_by false p e es is le rising rest =
     let after : is_past p e.key ≡ true = past_from p e.key le is in
-    let all : AllByRecursion (λ (f : Entry). is_past p f.key ≡ true) (e ∷ es) = (after, all_past p e.key es after rising.0) in
-    let none : entries_under p (e ∷ es) ≡ [] = filter_none (λ (f : Entry). begins f.key p) (e ∷ es) (all_weaker (λ (f : Entry). is_past p f.key ≡ true) (λ (f : Entry). begins f.key p ≡ false) (λ f x. (past_parts p f.key x).1) (e ∷ es) all) in
-    sym (ap (λ (xs : List Entry). xs ++ past p (e ∷ es)) none ∙ filter_all (λ (f : Entry). is_past p f.key) (e ∷ es) all)
+    let all : AllByRecursion (λ (f : KeyEntry). is_past p f.key ≡ true) (e ∷ es) = (after, all_past p e.key es after rising.0) in
+    let none : entries_under p (e ∷ es) ≡ [] = filter_none (λ (f : KeyEntry). begins f.key p) (e ∷ es) (all_weaker (λ (f : KeyEntry). is_past p f.key ≡ true) (λ (f : KeyEntry). begins f.key p ≡ false) (λ f x. (past_parts p f.key x).1) (e ∷ es) all) in
+    sym (ap (λ (xs : List KeyEntry). xs ++ past p (e ∷ es)) none ∙ filter_all (λ (f : KeyEntry). is_past p f.key) (e ∷ es) all)
 
 cut_under : (p : List ℕ) (es : List KeyEntry) → AllByRecursion (λ (e : KeyEntry). is_lt (byte_order e.key p) ≡ false) es → AreRising es → es ≡ entries_under p es ++ past p es
 cut_under p [] le rising = refl

@@ -46,7 +46,7 @@ walked_more f g (suc n) i stop some miss =
 other_eq : (i j : ℕ) → j ≢ i → nat_eq i j ≡ false
 other_eq i j differs = grind (arith, nat_tests)
 
-not_stop : (i : ℕ) (es fs : List Entry) → ((j : ℕ) → one_at j i + holders j (es ++ fs) ≤ 1) → is_stop i (head_cell None fs) ≡ false
+not_stop : (i : ℕ) (es fs : List KeyEntry) → ((j : ℕ) → one_at j i + holders j (es ++ fs) ≤ 1) → is_stop i (head_cell None fs) ≡ false
 not_stop i es [] once = refl
 not_stop i es (e ∷ fs) once =
     let some : 0 < holders e.chain.number (es ++ e ∷ fs) = omega (arith, held_append e.chain.number es (e ∷ fs), one_here e.chain.number) in

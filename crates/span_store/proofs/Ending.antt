@@ -7,7 +7,7 @@ use Rattle.std.proofs.lemmas.Bool.Decides.{nat_tests}
 use Rattle.std.proofs.lemmas.List.{get_or-set_same, get_or-set_other, take_more, append-nil, take_all, drop_all}
 use Rattle.std.proofs.lemmas.List.Elements.{filter-append}
 use Rattle.span_value.proofs.Lists.{drop_read}
-use Rattle.span_arena.specs.declared.version.Version as arena
+use Rattle.span_arena.specs.declared.version.ArenaVersion.{ArenaVersion}
 use Rattle.span_arena.specs.Content.{Content, Prepared, versions, versions_in, prepared_at, IsSomePrepared, IsChain, given_back, linked, linked_as}
 use Rattle.span_arena.specs.Order.{IsLater}
 use Rattle.span_arena.specs.Order as order

@@ -15,7 +15,7 @@ use Rattle.span_keytree.specs.Items.{holders}
 use Rattle.span_keytree.proofs.Counting.{one_same}
 use Rattle.span_keyindex.proofs.Keeping.{chain_same, same_after, same-kept}
 use Rattle.span_keytree.proofs.Linking.{held_append}
-use Rattle.span_store.specs.Stored.{versions_count, HasRoom, HaveVersions, HasSameKeys, AreMoved}
+use Rattle.span_store.specs.Stored.{versions_count, AreReserved, HaveVersions, HasSameKeys, AreMoved}
 use Rattle.span_store.proofs.Seeing.{chains_left, first_chain}
 use Rattle.span_store.proofs.Cutting.{IsNextKey, next_key}
 

@@ -30,7 +30,7 @@ use Rattle.span_store.specs.Versions.{is_empty, is_used}
 use Rattle.span_mutate.proofs.Placing.{rising_filter}
 use Rattle.span_keyindex.proofs.Unlinking.{held_filter}
 use Rattle.span_store.specs.KeyLists.{keys_cmp, AreInOrder, IsIdle, IsInUse, keys_before, keys_from}
-use Rattle.span_store.specs.Stored.{version_of, chain_versions, write_for, kept_entry, all_kept, IsNodeOf, AreOwned, IsKept, HasRoom, HaveVersions, HasSameKeys, AreMoved}
+use Rattle.span_store.specs.Stored.{version_of, chain_versions, write_for, kept_entry, all_kept, IsNodeOf, AreOwned, IsKept, AreReserved, HaveVersions, HasSameKeys, AreMoved}
 use Rattle.span_store.proofs.Owned.{write-same}
 
 abbrev key_with : List ℕ → List Version → Option PreparedWrite → KeyVersions

@@ -19,7 +19,7 @@ use Rattle.span_arena.specs.Content.{Content, Prepared, versions, versions_in, p
 use Rattle.span_arena.proofs.Keeping.{is_new_chain}
 use Rattle.span_keytree.specs.Items.{holders}
 use Rattle.span_keytree.specs.Arenas.{one_if_chain, IsArenaOf, in_use, IsWithoutUnused}
-use Rattle.span_keytree.specs.Entries.{HasChain, IsAbsent, IsSlotFor, with_entry, Entry}
+use Rattle.span_keytree.specs.Entries.{HasChain, IsAbsent, IsSlotFor, with_entry, KeyEntry}
 use Rattle.span_keyindex.proofs.Holders.{one_here, one_of, chains_elsewhere}
 use Rattle.span_keytree.proofs.Rising.{turned}
 use Rattle.span_mutate.specs.Directories.{IsRising}
@@ -98,8 +98,8 @@ parted a ps key (e ∷ es) rising absent = cases (byte_order e.key key) refl (pa
     cases Less is again = ap (λ (l : List KeyEntry). e ∷ l) again
     cases Equal is again = absurd (absent zero e (omega arith) (exact_bytes e.key key is))
     cases Greater is again =
-        let all : AllByRecursion (λ (x : Entry). byte_order x.key key ≡ Greater) es =
-        all_weaker (λ (x : Entry). byte_order e.key x.key ≡ Less) (λ (x : Entry). byte_order x.key key ≡ Greater)
+        let all : AllByRecursion (λ (x : KeyEntry). byte_order x.key key ≡ Greater) es =
+        all_weaker (λ (x : KeyEntry). byte_order e.key x.key ≡ Less) (λ (x : KeyEntry). byte_order x.key key ≡ Greater)
         (λ x lt. turned key x.key Less (bytes_total.trans key e.key x.key (turned e.key key Greater is) lt)) es
         (all_unmapped (λ (c : KeyVersions). byte_order e.key c.key ≡ Less) (kept_entry a ps) es rising.0) in
         none_in_front all
@@ -231,11 +231,11 @@ module _ (es : List KeyEntry) (a b : Content) (ps : List PreparedNode) (key : Li
 
   in_front : AllByRecursion (λ (d : KeyVersions). byte_order key d.key ≡ Greater) (map (kept_entry a ps) (filter (before key) es))
   in_front = all_mapped (λ (d : KeyVersions). byte_order key d.key ≡ Greater) (kept_entry a ps) (filter (before key) es)
-      (all_weaker (λ (e : Entry). before key e ≡ true) (λ (e : Entry). byte_order key e.key ≡ Greater) (λ e h. turned e.key key Less (is_less (byte_order e.key key) h)) (filter (before key) es) (all_filter_itself (before key) es))
+      (all_weaker (λ (e : KeyEntry). before key e ≡ true) (λ (e : KeyEntry). byte_order key e.key ≡ Greater) (λ e h. turned e.key key Less (is_less (byte_order e.key key) h)) (filter (before key) es) (all_filter_itself (before key) es))
 
   in_back : AllByRecursion (λ (d : KeyVersions). byte_order key d.key ≡ Less) (map (kept_entry a ps) (filter (later key) es))
   in_back = all_mapped (λ (d : KeyVersions). byte_order key d.key ≡ Less) (kept_entry a ps) (filter (later key) es)
-      (all_weaker (λ (e : Entry). later key e ≡ true) (λ (e : Entry). byte_order key e.key ≡ Less) (λ e h. turned e.key key Greater (is_greater (byte_order e.key key) h)) (filter (later key) es) (all_filter_itself (later key) es))
+      (all_weaker (λ (e : KeyEntry). later key e ≡ true) (λ (e : KeyEntry). byte_order key e.key ≡ Less) (λ e h. turned e.key key Greater (is_greater (byte_order e.key key) h)) (filter (later key) es) (all_filter_itself (later key) es))
 
   fresh_is : (txn : ℕ) (w : Write) → w.key ≡ key → new_key txn w ≡ with_prepared (prepared_write txn w) (kept_entry b ps (entry key chain))
   fresh_is txn w is =
@@ -326,8 +326,8 @@ module _ (es fs : List KeyEntry) (a b d : Content) (ps qs : List PreparedNode) (
       kept_equal key (chain_versions d chain.number) (chain_versions b chain.number) (write_for d qs chain.number) (Some (prepared_write txn w)) (chains_are chain.number)
       (put.writes chain.number ∙ ap (λ v. cond v (Some (prepared_write txn w)) (write_for b ps chain.number)) t)
 
-  others : (xs : List Entry) → holders chain.number xs ≡ 0 → map (kept_entry d qs) xs ≡ map (kept_entry a ps) xs
-  others xs none = map_alike (kept_entry d qs) (kept_entry a ps) xs (all_weaker (λ (e : Entry). nat_eq e.chain.number chain.number ≡ false) (λ (e : Entry). kept_entry d qs e ≡ kept_entry a ps e) other xs (no_holder chain.number xs none))
+  others : (xs : List KeyEntry) → holders chain.number xs ≡ 0 → map (kept_entry d qs) xs ≡ map (kept_entry a ps) xs
+  others xs none = map_alike (kept_entry d qs) (kept_entry a ps) xs (all_weaker (λ (e : KeyEntry). nat_eq e.chain.number chain.number ≡ false) (λ (e : KeyEntry). kept_entry d qs e ≡ kept_entry a ps e) other xs (no_holder chain.number xs none))
 
   pub put_done : all_kept d qs fs ≡ with_write txn w (all_kept a ps es)
   put_done =

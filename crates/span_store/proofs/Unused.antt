@@ -7,7 +7,7 @@ use Rattle.span_arena.specs.declared.version.ArenaVersion.{ArenaVersion}
 use Rattle.span_arena.specs.Content.{Content, Prepared, versions, versions_in, prepared_at, prepared_for, one_for, is_unused}
 use Rattle.span_arena.proofs.Counts.{one_for-at, one_for-same}
 use Rattle.span_keytree.specs.Arenas.{in_use, IsWithoutUnused}
-use Rattle.span_keytree.specs.Entries.{Entry}
+use Rattle.span_keytree.specs.Entries.{KeyEntry}
 use Rattle.span_maderows.proofs.Lists.{all_filter_itself}
 use Rattle.span_store.specs.declared.node.PreparedNode.{PreparedNode}
 use Rattle.span_store.specs.Versions.{is_empty, is_used}
@@ -88,8 +88,8 @@ module _ (es : List KeyEntry) (a b : Content) (ps : List PreparedNode) (owned : 
   pub keys_used : all_kept b ps (in_use a es) ≡ filter is_used (all_kept a ps es)
   keys_used =
       map_alike (kept_entry b ps) (kept_entry a ps) (in_use a es)
-      (all_weaker (λ (e : Entry). not (is_unused a e.chain.number) ≡ true) (λ (e : Entry). kept_entry b ps e ≡ kept_entry a ps e) key_is (in_use a es) (all_filter_itself (λ (e : Entry). not (is_unused a e.chain.number)) es))
-      ∙ ap (map (kept_entry a ps)) (filter_agree (λ (e : Entry). not (is_unused a e.chain.number)) (λ (e : Entry). is_used (kept_entry a ps e)) (λ e. used_is a ps e.key e.chain.number owned) es)
+      (all_weaker (λ (e : KeyEntry). not (is_unused a e.chain.number) ≡ true) (λ (e : KeyEntry). kept_entry b ps e ≡ kept_entry a ps e) key_is (in_use a es) (all_filter_itself (λ (e : KeyEntry). not (is_unused a e.chain.number)) es))
+      ∙ ap (map (kept_entry a ps)) (filter_agree (λ (e : KeyEntry). not (is_unused a e.chain.number)) (λ (e : KeyEntry). is_used (kept_entry a ps e)) (λ e. used_is a ps e.key e.chain.number owned) es)
       ∙ sym (filter-map is_used (kept_entry a ps) es)
 
   node_stays : (p : PreparedNode) → IsNodeOf a p → IsNodeOf b p

@@ -6,7 +6,7 @@ use Rattle.span_query.specs.Rows.{Row, Rows}
 use Rattle.span_query.specs.Groups.{columns_at, group_row, groups}
 use Rattle.span_rows.specs.Answers.{Gives}
 use Rattle.span_rows.specs.LentRows.{lent_rows}
-use Rattle.span_groups.specs.declared.aggregate.State.{State}
+use Rattle.span_groups.specs.declared.aggregate.AggregateState.{AggregateState}
 use Rattle.span_groups.specs.GroupStates.{keys_at}
 use Rattle.span_groups.specs.StateLists.{Group, groups_in, states_from}
 use Rattle.span_groups.proofs.GroupSteps.{group_by_first, count_by_firsts}

@@ -6,7 +6,7 @@ use Rattle.span_query.specs.Groups.{groups}
 use Rattle.span_rows.specs.Answers.{Gives}
 use Rattle.span_rows.specs.LentRows.{lent_rows}
 use Rattle.span_rows.proofs.LentRows.{lent_get}
-use Rattle.span_groups.specs.declared.aggregate.State.{State}
+use Rattle.span_groups.specs.declared.aggregate.AggregateState.{AggregateState}
 use Rattle.span_groups.specs.GroupStates.{AreGroupLists, HaveKeys}
 use Rattle.span_groups.proofs.Passes.{passed_none, pass_room, take_fails, pass_keeps, rows_passed}
 use Rattle.span_groups.proofs.lent.lent_groups.Goals as goal
