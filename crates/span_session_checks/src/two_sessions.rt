@@ -1,4 +1,4 @@
-//! Two sessions of one database, in slot 0, with one worker.
+//! Two sessions of one database, in slot 0.
 ghost use Rattle.std.specs.Prelude.{◌≡◌};
 ghost use Rattle.span_mutate.specs.Typed.{AreTypedMutations};
 
