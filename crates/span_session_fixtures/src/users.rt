@@ -12,6 +12,7 @@ use span_value::seq::Seq;
 use span_value::text::Text;
 use span_value::value::Value;
 use std::alloc::{AllocError, Global};
+use std::test::Fail;
 
 /// A table of users.
 pub const USERS: &str =
@@ -109,4 +110,21 @@ pub fn are_uids(rows: &Rows, wanted: &[i64]) -> bool {
         }
     }
     true
+}
+
+/// Whether the rows that were found are these, of one column, or why there are none. It takes the rows, so that the caller drops none.
+pub fn are_found(found: Result<Rows, Refusal>, wanted: &[i64]) -> Result<bool, Refusal> {
+    match found {
+        Ok(rows) => Ok(are_uids(&rows, wanted)),
+        Err(why) => Err(why),
+    }
+}
+
+/// A failure that says what was expected, where the rows that were found are not these, of one column.
+pub fn expect_uids(found: Result<Rows, Refusal>, wanted: &[i64], what: &str) -> Result<(), Fail> {
+    match are_found(found, wanted) {
+        Ok(true) => Ok(()),
+        Ok(false) => Err(Fail::new(format_args!("{what}: the rows are not {wanted:?}"))),
+        Err(why) => Err(Fail::new(format_args!("{what}: it was refused by {why:?}"))),
+    }
 }

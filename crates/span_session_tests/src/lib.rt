@@ -1,11 +1,10 @@
-//! Tests of sessions that call one after another: answers that were worked out by hand.
+//! Tests of sessions, each of them one call: what it does is in span_session_checks and span_thread_checks.
 //!
-//! They are in a crate of their own since a crate with tests is proved a second time for them.
+//! A crate with tests is a program: what it makes of the types below it is proved once more for it, and it is compiled. So all tests of sessions
+//! are here, and nothing else is.
 #![tactic(auto)]
 
 #[cfg(test)]
-mod all_slots;
+mod sessions;
 #[cfg(test)]
-mod steps;
-#[cfg(test)]
-mod two_sessions;
+mod threads;
