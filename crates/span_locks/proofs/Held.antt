@@ -5,7 +5,7 @@ use Rattle.std.specs.List.{AllByRecursion}
 use Rattle.std.proofs.lemmas.List.{length-set}
 use Rattle.atomic_table.specs.Seated.{TableId}
 use Rattle.std.proofs.lemmas.Bool.{eqb-true, and_parts}
-use Rattle.std.proofs.lemmas.Option.{slice_get-map}
+use Rattle.std.proofs.lemmas.Option.{slice_get-map, same_Some}
 use Rattle.span_value.specs.declared.refusal.Refusal.{Refusal}
 use Rattle.span_value.proofs.Lists.{all_found_at}
 use Rattle.span_value.proofs.Results.{ok_same}
@@ -292,15 +292,12 @@ pub commit_is : (j : Journaled) (owner number ts : ℕ) (k : Journaled) (ms : Li
     → k.log ≡ j.log ++ (record { timestamp = ts; number = number; owner = owner; mutations = ms }) ∷ []
 commit_is j owner number ts k ms begun done =
     let t = begun.0 in
-    let same : done.transaction ≡ t = some_same done.transaction t (sym done.found ∙ begun.1) in
+    let same : done.transaction ≡ t = same_Some done.transaction t (sym done.found ∙ begun.1) in
     let passes = found_passes (is_transaction owner number) (machine_of j).transactions t begun.1 in
     let by : t.owner ≡ owner = eqb-true t.owner owner ((and_parts (t.owner == owner) (t.number == number) passes).0) in
     let named : t.number ≡ number = eqb-true t.number number ((and_parts (t.owner == owner) (t.number == number) passes).1) in
     let is : commit_of ts t ≡ record { timestamp = ts; number = number; owner = owner; mutations = ms } = λ i. record { timestamp = ts; number = named i; owner = by i; mutations = begun.2 i } in
     done.log ∙ ap (λ (x : OpenTransaction). j.log ++ commit_of ts x ∷ []) same ∙ ap (λ (c : Commit). j.log ++ c ∷ []) is
-  where
-    some_same : (x y : OpenTransaction) → Some x ≡ Some y → x ≡ y
-    some_same x y e = cc
 
 -- the same of what a session keeps of it, which the commit takes over
 pub kept_commit_is : (j : Journaled) (owner ts : ℕ) (k : Journaled) (b r : Begun) (d : Commit) → b ≡ r

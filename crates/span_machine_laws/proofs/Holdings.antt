@@ -1,4 +1,4 @@
-use Rattle.std.proofs.Common.{◌≡◌, ℕ, ◌<◌, ◌≤◌, max, suc, Bool, true, false, cond, not, ◌==◌, ◌||◌, List, [], ◌∷◌, ◌++◌, length, Some, None, refl, sym, subst, arith}
+use Rattle.std.proofs.Common.{◌≡◌, ℕ, ◌<◌, ◌≤◌, max, suc, Bool, true, false, cond, not, ◌==◌, List, [], ◌∷◌, ◌++◌, length, Some, None, refl, sym, subst, arith}
 use Rattle.std.specs.Prelude.{slice_get, slice_set, filter}
 use Rattle.std.specs.List.{AllByRecursion, list_any}
 use Rattle.std.proofs.lemmas.Bool.Decides.{nat_tests}
@@ -19,7 +19,7 @@ use Rattle.span_schema.specs.declared.table.Table.{Table}
 use Rattle.span_value.specs.declared.refusal.Refusal.{Refusal}
 use Rattle.span_query.specs.declared.query.Statement.{Statement}
 use Rattle.std.specs.Prelude.{Result}
-use Rattle.std.proofs.lemmas.Bool.{or_parts}
+use Rattle.std.proofs.lemmas.Bool.{or_parts, or_from}
 use Rattle.span_value.proofs.Lists.{all_filter, all_push, all_weaker}
 
 -- ---- how many slots there are
@@ -123,15 +123,11 @@ holding_more n k low t h = record {
 -- nothing is prepared at a slot that there is not
 pub none_beyond : (n : ℕ) (ts : List OpenTransaction) → AllByRecursion (IsHolding n) ts → list_any (is_prepared_at n) ts ≡ false
 none_beyond n [] all = refl
-none_beyond n (t ∷ ts) all = none_of (is_prepared_at n t) (list_any (is_prepared_at n) ts) (not_there t.prepared all.0.within) (none_beyond n ts all.1)
+none_beyond n (t ∷ ts) all = or_from (is_prepared_at n t) (list_any (is_prepared_at n) ts) (not_there t.prepared all.0.within) (none_beyond n ts all.1)
   where
-    none_of : (a b : Bool) → a ≡ false → b ≡ false → (a || b) ≡ false
-    none_of false b e f = f
-    none_of true b e f = absurd (cc)
-
     not_there : (ps : List Prepared) → AllByRecursion (λ (p : Prepared). p.slot < n) ps → list_any (λ p. p.slot == n) ps ≡ false
     not_there [] low = refl
-    not_there (p ∷ ps) low = none_of (p.slot == n) (list_any (λ p. p.slot == n) ps) (other p.slot low.0) (not_there ps low.1)
+    not_there (p ∷ ps) low = or_from (p.slot == n) (list_any (λ p. p.slot == n) ps) (other p.slot low.0) (not_there ps low.1)
       where
         other : (k : ℕ) → k < n → (k == n) ≡ false
         other k less = grind (arith, nat_tests)

@@ -1,5 +1,5 @@
 -- What a leaf gives on a range is what it gives on pieces that tile the range, one after another.
-use Rattle.std.proofs.Common.{◌≡◌, ℕ, zero, suc, ◌+◌, ◌<◌, Bool, true, false, cond, ◌||◌, List, [], ◌∷◌, ◌++◌, map, take, length, Option, Some, None, refl, ap, sym, subst, ◌∙◌}
+use Rattle.std.proofs.Common.{◌≡◌, ℕ, zero, suc, ◌+◌, ◌<◌, Bool, true, false, cond, ◌||◌, List, [], ◌∷◌, ◌++◌, map, take, length, Some, refl, ap, sym, subst, ◌∙◌}
 use Rattle.std.specs.Prelude.{filter}
 use Rattle.std.specs.List.{AllByRecursion}
 use Rattle.std.specs.Ordering.{is_lt}
@@ -20,9 +20,9 @@ use Rattle.span_mutate.specs.declared.row.TableRow.{TableRow}
 use Rattle.span_mutate.specs.Database.{rows_of}
 use Rattle.span_mutate.specs.Directories.{IsDatabase}
 use Rattle.span_mutate.specs.Typed.{IsTyped, AreTyped}
-use Rattle.span_expr.specs.declared.expr.Expr.{Expr}
 use Rattle.span_query.specs.Rows.{Row, Rows, ◌>>=◌, append_results, concat_map, filter_where}
 use Rattle.span_shard.specs.Rows.{code_of}
+use Rattle.span_query.proofs.Results.{filter_where-nil}
 use Rattle.span_columns.specs.declared.leaf.Leaf.{Leaf}
 use Rattle.span_columns.specs.declared.leaf.LeafJoin.{LeafJoin}
 use Rattle.span_leaves.specs.Leaves.{width_of, root_places}
@@ -65,11 +65,7 @@ no_joins (j ∷ joins) [] = refl
 no_joins (j ∷ joins) (right ∷ tables) = no_joins joins tables
 
 nothing_where : (leaf : Leaf) → filter_where leaf.filter [] ≡ Some []
-nothing_where leaf = of_filter leaf.filter
-  where
-    of_filter : (f : Option Expr) → filter_where f [] ≡ Some []
-    of_filter None = refl
-    of_filter (Some e) = refl
+nothing_where leaf = filter_where-nil leaf.filter
 
 no_rows : (leaf : Leaf) (tables : List (List Row)) → leaf_rows leaf ([] ∷ tables) ≡ Some []
 no_rows leaf tables = ap (λ (o : Rows). o >>= filter_where leaf.filter) (no_joins leaf.joins tables) ∙ nothing_where leaf

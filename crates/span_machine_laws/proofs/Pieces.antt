@@ -1,8 +1,9 @@
 -- The pieces that cover the leaves of open queries: each leaf's are apart, and end where directories do.
 use Rattle.std.proofs.Common.{◌≡◌, ℕ, zero, suc, ◌+◌, Bool, true, false, cond, List, [], ◌∷◌, ◌++◌, Option, Some, None, Result, refl, ap, sym, ◌∙◌, subst, inl, inr, ◌⊎◌}
-use Rattle.std.specs.Prelude.{◌&&◌, slice_get, slice_set, map, flat_map, insert, take, drop}
+use Rattle.std.specs.Prelude.{slice_get, slice_set, map, flat_map, insert, take, drop}
 use Rattle.std.specs.List.{AllByRecursion, fold, list_all}
 use Rattle.std.specs.Ordering.{is_lt}
+use Rattle.std.proofs.lemmas.Bool.{and_parts}
 use Rattle.span_value.specs.declared.refusal.Refusal.{Refusal}
 use Rattle.span_schema.specs.declared.table.Table.{Table}
 use Rattle.span_schema.specs.declared.layout.KeyPart.{KeyPart}
@@ -136,16 +137,13 @@ module _ (schema : List Table) where
     bounded_ends : (bs : List KeyBound) → list_all (λ (b : KeyBound). is_of_type part.kind b.1) bs ≡ true → (r : KeyRange) → AreEnds schema r → AreEnds schema (fold (bounded (root_of schema table) part) r bs)
     bounded_ends [] typed r ends = ends
     bounded_ends (b ∷ bs) typed r ends =
-        let parts_of = both (is_of_type part.kind b.1) (list_all (λ (x : KeyBound). is_of_type part.kind x.1) bs) typed in
+        let parts_of = and_parts (is_of_type part.kind b.1) (list_all (λ (x : KeyBound). is_of_type part.kind x.1) bs) typed in
         let low : List ℕ = range_start (root_of schema table) part b.0 b.1 in
         let high : List ℕ = range_end (root_of schema table) part b.0 b.1 in
         bounded_ends bs parts_of.1 (bounded (root_of schema table) part r b) (
           one_of (IsEnd schema) (is_lt (byte_order low r.low)) r.low low ends.0 (inr (inr (record { table = table; part = part; parts = parts; columns = columns; comparison = b.0; value = b.1; typed = parts_of.0; is = inl refl }))),
           one_of (IsEnd schema) (is_lt (byte_order r.high high)) r.high high ends.1 (inr (inr (record { table = table; part = part; parts = parts; columns = columns; comparison = b.0; value = b.1; typed = parts_of.0; is = inr refl }))),
-        ) where
-          both : (a c : Bool) → (a && c) ≡ true → (a ≡ true) × (c ≡ true)
-          both true c is = (refl, is)
-          both false c is = cc
+        )
 
   narrowed_ends : (table at : ℕ) (es : List Expr) (columns : List KeyPart) (places : List ℕ) → key_columns schema table ≡ columns → AreEnds schema (narrowed (root_of schema table) columns places at es)
   narrowed_ends table at es [] places is = family_ends (root_of schema table)

@@ -5,6 +5,7 @@ use Rattle.std.specs.Ordering.{is_lt}
 use Rattle.std.proofs.lemmas.Bool.{not-true, not_from_false, and_from, and_parts}
 use Rattle.std.proofs.lemmas.Option.{get_or_from_slice_get}
 use Rattle.std.proofs.lemmas.List.Quantifiers.{position-Some}
+use Rattle.std.proofs.Math.Nat.{suc_inj}
 use Rattle.span_value.specs.Results.{first_cause}
 use Rattle.span_value.specs.declared.refusal.Refusal.TheVariants as refusal
 use Rattle.span_keycode.specs.Order.{byte_order}
@@ -90,12 +91,9 @@ split_place (c ∷ cs) (suc slot) lower upper b (suc i) h = elim (split_place cs
   | inl e ↦ inl (ap suc e.0, e.1)
   | inr rest ↦ (elim rest [
     | inl e ↦ inr (inl (ap suc e.0, e.1))
-    | inr e ↦ inr (inr (e.0, λ same. e.1 (next_same i slot same)))
+    | inr e ↦ inr (inr (e.0, λ same. e.1 (suc_inj same)))
   ])
 ]
-  where
-    next_same : (j k : ℕ) → suc j ≡ suc k → j ≡ k
-    next_same j k e = cc
 
 -- the lower part is at its place, the new slot at the end, and every other as it was
 pub split_here : (slots : List SlotState) (slot : ℕ) (a lower upper : SlotState) → slice_get slots slot ≡ Some a → slice_get (slice_set slots slot lower ++ upper ∷ []) slot ≡ Some lower

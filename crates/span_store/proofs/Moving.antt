@@ -3,7 +3,7 @@ use Rattle.std.proofs.Common.{◌≡◌, ◌≢◌, ℕ, suc, ◌+◌, ◌-◌, 
 use Rattle.std.specs.Prelude.{All}
 use Rattle.std.specs.List.{AllByRecursion}
 use Rattle.std.proofs.lemmas.Bool.{cases_eq}
-use Rattle.std.proofs.lemmas.List.{get_or-set_same, get_or-set_other}
+use Rattle.std.proofs.lemmas.List.{get_or-set_same, get_or-set_other, nil_from_length}
 use Rattle.span_value.proofs.Lists.{all_append, all_weaker}
 use Rattle.span_arena.specs.declared.token.Chain.{Chain}
 use Rattle.span_arena.specs.Content.{Content, versions, versions_in, prepared_for, one_for, IsChain, cleared, with_kept, with_free_node, with_versions}
@@ -288,7 +288,7 @@ module _ (es fs : List KeyEntry) (sources left_sources chains left_chains : List
 pub moving_ends : (es fs : List KeyEntry) (sources chains : List Chain) (a b c d : Content) → IsMoving es fs sources chains a b c d → sources ≡ [] → AreMoved es fs a b c d
 moving_ends es fs sources chains a b c d moving none =
     let nothing : moving.left ≡ [] = none_left moving.left (sym moving.sources_are ∙ none) in
-    let open_none : moving.open_ones ≡ [] = empty moving.open_ones (let z : length moving.left ≡ 0 = ap length nothing in omega (arith, moving.equal)) in
+    let open_none : moving.open_ones ≡ [] = nil_from_length moving.open_ones (let z : length moving.left ≡ 0 = ap length nothing in omega (arith, moving.equal)) in
     let whole : moving.done ≡ es = sym (moving.whole ∙ ap (λ (l : List KeyEntry). moving.done ++ l) nothing ∙ append-nil moving.done) in
     let parts : moving.filled ≡ fs = sym (moving.parts ∙ ap (λ (l : List KeyEntry). moving.filled ++ l) open_none ∙ append-nil moving.filled) in
     record {
@@ -298,7 +298,3 @@ moving_ends es fs sources chains a b c d moving none =
       to = moving.to;
       there = subst (λ (l : List KeyEntry). HaveVersions a d l fs) whole (subst (λ (l : List KeyEntry). HaveVersions a d moving.done l) parts moving.there);
     }
-  where
-    empty : (l : List KeyEntry) → length l ≡ 0 → l ≡ []
-    empty [] h = refl
-    empty (e ∷ l) h = absurd (let z : suc (length l) ≡ 0 = h in omega arith)
