@@ -1,12 +1,12 @@
 -- What a leaf gives on a range is what it gives on pieces that tile the range, one after another.
-use Rattle.std.proofs.Common.{◌≡◌, ℕ, zero, suc, ◌+◌, ◌<◌, Bool, true, false, cond, ◌||◌, List, [], ◌∷◌, ◌++◌, map, take, length, Some, refl, ap, sym, subst, ◌∙◌}
+use Rattle.std.proofs.Common.{◌≡◌, ℕ, ◌+◌, ◌<◌, Bool, true, false, cond, ◌||◌, List, [], ◌∷◌, ◌++◌, map, length, Some, refl, ap, sym, subst, ◌∙◌}
 use Rattle.std.specs.Prelude.{filter}
 use Rattle.std.specs.List.{AllByRecursion}
 use Rattle.std.specs.Ordering.{is_lt}
 use Rattle.std.proofs.lemmas.List.{map-append}
 use Rattle.std.proofs.lemmas.List.Elements.{filter_agree}
 use Rattle.span_value.specs.declared.value.Value.{Value}
-use Rattle.span_value.proofs.Lists.{all_map}
+use Rattle.span_value.proofs.Lists.{all_map, all_take}
 use Rattle.span_schema.specs.declared.table.Table.{Table}
 use Rattle.span_schema.specs.Lineages.{MeetsRules}
 use Rattle.span_schema.specs.Numbers.{root_of, key_columns, key_places}
@@ -51,11 +51,6 @@ all_kept {A = A} P p (x ∷ xs) all = of_test (p x) refl (all_kept P p xs all.1)
 none_kept : {A : Type 0} (p : A → Bool) → ((x : A) → p x ≡ false) → (xs : List A) → filter p xs ≡ []
 none_kept p none [] = refl
 none_kept {A = A} p none (x ∷ xs) = ap (λ (b : Bool). cond b (x ∷ filter p xs) (filter p xs)) (none x) ∙ none_kept p none xs
-
-all_taken : (P : ℕ → Type 0) (n : ℕ) (xs : List ℕ) → AllByRecursion P xs → AllByRecursion P (take n xs)
-all_taken P zero xs all = tt {0}
-all_taken P (suc n) [] all = tt {0}
-all_taken P (suc n) (x ∷ xs) all = (all.0, all_taken P n xs all.1)
 
 -- ---- a leaf whose tables have no rows
 
@@ -155,7 +150,7 @@ module _ (schema : List Table) (rules : MeetsRules schema) (db : List TableRow) 
         ap (λ (ts : List ℕ). leaf_rows leaf (tables_within schema db ts range)) is.tables
         ∙ ap (leaf_rows leaf) (whole_cuts tables)
         ∙ leaf-cut (is_before (root_of schema is.first)) (root_places schema is.first) (width_of schema is.first)
-        (all_taken (λ (p : ℕ). p < width_of schema is.first) (length (key_columns schema (root_of schema is.first))) (key_places schema is.first) (keyed schema is.first))
+        (all_take (λ (p : ℕ). p < width_of schema is.first) (length (key_columns schema (root_of schema is.first))) (key_places schema is.first) (keyed schema is.first))
         leaf (cut_of is.first) (map cut_of is.rest) (first_side is.first) (second_side is.first) (tables_cut is.first (width_of schema is.first) leaf.joins is.rest is.rooted)
         ∙ ap (λ (l : List (List Row)). append_results (leaf_rows leaf l) (leaf_rows leaf (map second_rows (map cut_of tables)))) (first_cuts tables)
         ∙ ap (λ (l : List (List Row)). append_results (leaf_rows leaf (tables_within schema db tables piece)) (leaf_rows leaf l)) (second_cuts tables)
