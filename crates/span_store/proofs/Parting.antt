@@ -79,16 +79,16 @@ none_still a b same none x = ap (λ (cs : List (Option (List ArenaVersion))). ve
 
 pub part_kept : (key : List ℕ) (es : List KeyEntry) (fs : List KeyEntry) (n : ℕ) (part : KeyIndex) (a b before c d : Content) → IsPartFrom key es a.most part before → AreReserved n before c → AreMoved (entries_from key es) fs a b c d → a.most ≡ most_nodes
     → IsKept part d []
-part_kept key es fs n part a b before c d is room moved most =
-    let own : IsIndexOf part c = index_stays part before c is.own room.cells (same-equal before c room.chains) in
+part_kept key es fs n part a b before c d is reserved moved most =
+    let own : IsIndexOf part c = index_stays part before c is.own reserved.cells (same-equal before c reserved.chains) in
     record {
       index = index_stays part c d own moved.to.cells moved.to.same;
       owned = record {
         nodes = tt;
-        counted = λ x. ap (prepared_for x) moved.to.prepared ∙ room.prepared x ∙ ap (prepared_for x) is.prepared;
+        counted = λ x. ap (prepared_for x) moved.to.prepared ∙ reserved.prepared x ∙ ap (prepared_for x) is.prepared;
         once = λ x. omega arith;
       };
-      most = moved.to.most ∙ room.most ∙ is.most ∙ most;
+      most = moved.to.most ∙ reserved.most ∙ is.most ∙ most;
     }
 
 -- ---- the old part

@@ -101,8 +101,8 @@ set_in_parts (x ∷ xs) (suc i) p lt =
     ap (λ (l : List PreparedNode). x ∷ l) (set_in_parts xs i p (omega arith)) ∙ ap (λ k. x ∷ (take i xs ++ p ∷ drop k (x ∷ xs))) (sym n)
 
 -- after a node was given back one is free
-pub has_room : (a : Content) (n : ℕ) (b : Content) (P : Type 0) (why : Refusal) → b ≡ given_back a n → IsInOrder b → IsRefusedNode b why → P
-has_room a n b P why is order refused =
+pub never_refused : (a : Content) (n : ℕ) (b : Content) (P : Type 0) (why : Refusal) → b ≡ given_back a n → IsInOrder b → IsRefusedNode b why → P
+never_refused a n b P why is order refused =
     let free : b.free ≡ a.free + 1 = ap (λ (x : Content). x.free) is in
     elim refused [
       | inl full ↦ absurd (omega (arith, free, order.placed, order.bounded, full.1))
