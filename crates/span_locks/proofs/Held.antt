@@ -149,11 +149,11 @@ module _ (schema other : List Table) (table here : TableId) (views : List (List 
     pub keeper_cut : (there : TableId) (after : List (List Role)) (k : Journaled) (ws part : List KeyVersions) (n : ℕ) → there ≡ table
         → after ≡ (Keeper (restated (restated (known_at views) i ws) n part) ∷ []) ∷ [] → n ≡ length j.slots → n < length (restated (known_at views) i ws).slots
         → IsCutAt other i j k vs ws part → IsKeeper schema table there after k
-    keeper_cut there after k ws part n at cut_is last room cut =
+    keeper_cut there after k ws part n at cut_is last enough cut =
         let changed : Shards = slice_set keeper.used i ws in
         let front : slice_set (known_at views).slots i ws ≡ changed ++ keeper.spare = ap (λ (l : Shards). slice_set l i ws) keeper.slots ∙ set_front keeper.used keeper.spare i ws low in
         let number : n ≡ length changed = last ∙ sym keeper.whole.kept.count ∙ sym (length-set keeper.used i ws) in
-        let within_all : n < length (changed ++ keeper.spare) = subst (λ (l : Shards). n < length l) front room in
+        let within_all : n < length (changed ++ keeper.spare) = subst (λ (l : Shards). n < length l) front enough in
         subst (λ (v : List (List Role)). IsKeeper schema table there v k) (sym cut_is)
         (record {
           at = at;

@@ -39,7 +39,7 @@ slots_ends : (schema : List Table) (m : Machine) (u : Result Statement Refusal) 
 slots_ends schema m u = record {
   refuses = λ step why may. omega arith;
   begins = λ owner ms accepted. omega arith;
-  prepares = λ owner txn slot t slot_state found here accepted well room low. as_many (length-set m.slots slot _);
+  prepares = λ owner txn slot t slot_state found here accepted well fits low. as_many (length-set m.slots slot _);
   commits = λ owner txn interval t found accepted. as_many (last_length m.slots (coordinator_slot t.prepared) (commit_timestamp m t interval));
   aborts = λ owner txn interval t found open_still. omega arith;
   applies = λ owner txn slot interval t slot_state found here accepted. as_many (slots_applied m t.decision owner txn slot t);
@@ -159,7 +159,7 @@ module _ (schema : List Table) (m : Machine) (holding : AreHolding m) where
   holding_ends u = record {
     refuses = λ step why may. holding;
     begins = λ owner ms accepted. all_push (IsHolding (length m.slots)) m.transactions (record { owner = owner; number = m.next_transaction; mutations = ms; decision = decision.Undecided; prepared = [] }) holding (record { timely = tt; apart = tt; within = tt });
-    prepares = λ owner txn slot t slot_state found here accepted well room low.
+    prepares = λ owner txn slot t slot_state found here accepted well fits low.
         let may = may_prepare (is_undecided t) (is_prepared_at slot t) (length (mutations_in schema slot_state t.mutations) == 0) (has_conflict schema m slot (mutations_in schema slot_state t.mutations)) accepted in
         let old = all_found (IsHolding (length m.slots)) (is_transaction owner txn) m.transactions t found holding in
         let p : Prepared = record { slot = slot; timestamp = prepare_timestamp slot_state } in

@@ -327,7 +327,7 @@ module _ (understands : Understanding) (schema : List Table) (begun : List Begun
   tells_ends u = record {
     refuses = λ step why may understood. tells_same step (Refused why) (refusal_quiet begun step why) (refusal_right understands schema m asked step why may);
     begins = λ owner ms accepted understood. tells_begun owner ms;
-    prepares = λ owner txn slot t slot_state found here accepted well room low understood. tells_quiet _ _ _ (record { no_begun = refl; no_asked = refl; no_commit = refl })
+    prepares = λ owner txn slot t slot_state found here accepted well fits low understood. tells_quiet _ _ _ (record { no_begun = refl; no_asked = refl; no_commit = refl })
         (all_changed (IsBegun begun) (is_transaction owner txn) (add_prepared slot (prepare_timestamp slot_state)) (λ u is. is) m.transactions known.transactions) known.queries refl refl refl tt;
     commits = λ owner txn interval t found accepted understood. tells_committed owner txn (commit_timestamp m t interval) interval t found;
     aborts = λ owner txn interval t found open_still understood. tells_quiet _ _ _ (record { no_begun = refl; no_asked = refl; no_commit = refl })

@@ -226,7 +226,7 @@ piece_ends : (schema : List Table) (m : Machine) (u : Result Statement Refusal) 
 piece_ends schema m u ranges are = record {
   refuses = λ step why may. are;
   begins = λ owner ms accepted. are;
-  prepares = λ owner txn slot t slot_state found here accepted well room low. are;
+  prepares = λ owner txn slot t slot_state found here accepted well fits low. are;
   commits = λ owner txn interval t found accepted. are;
   aborts = λ owner txn interval t found open_still. are;
   applies = λ owner txn slot interval t slot_state found here accepted. queries_applied schema m are t.decision owner txn slot t;

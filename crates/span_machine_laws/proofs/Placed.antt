@@ -294,7 +294,7 @@ module _ (schema : List Table) (rules : MeetsRules schema) (root : Root) (is : I
   placed_ends u = record {
     refuses = λ step why may. (slot, o);
     begins = λ owner ms accepted. (slot, begin_placed owner ms);
-    prepares = λ owner txn i t slot_state found here accepted well room low. (slot, prepare_there owner txn i t slot_state found here accepted well);
+    prepares = λ owner txn i t slot_state found here accepted well fits low. (slot, prepare_there owner txn i t slot_state found here accepted well);
     commits = λ owner txn interval t found accepted.
         let may = may_commit (is_undecided t) (is_all_prepared schema m t) (nat_le timestamp_end (commit_timestamp m t interval)) accepted in
         (slot, commit_here owner txn (commit_timestamp m t interval) t found may.0 may.1 (omega arith) (leb-false timestamp_end (commit_timestamp m t interval) may.2));

@@ -226,7 +226,7 @@ module _ (schema : List Table) (root : Root) (is : IsRoot schema root) (s : ℕ)
     refuses = λ step why may. kept_as_is (refused m why) refl;
     begins = λ owner ms accepted. kept_by (begun m owner ms) (rises_same m.slots)
         (λ i b h k all. all_push (IsAbove s i) m.transactions (record { owner = owner; number = m.next_transaction; mutations = ms; decision = decision.Undecided; prepared = [] }) all tt) refl;
-    prepares = λ owner txn slot t slot_state found here accepted well room low. kept_by (prepared m owner txn slot slot_state) (rises_set m.slots slot slot_state (record slot_state { last = prepare_timestamp slot_state }) here (omega arith) (λ _ k. k))
+    prepares = λ owner txn slot t slot_state found here accepted well fits low. kept_by (prepared m owner txn slot slot_state) (rises_set m.slots slot slot_state (record slot_state { last = prepare_timestamp slot_state }) here (omega arith) (λ _ k. k))
         (λ i b h k all. all_changed (IsAbove s i) (is_transaction owner txn) (add_prepared slot (prepare_timestamp slot_state))
         (λ u above. all_push (λ p. p.slot ≡ i → s < p.timestamp) u.prepared (record { slot = slot; timestamp = prepare_timestamp slot_state }) above (new_above slot i slot_state b here h k)) m.transactions all)
         refl;

@@ -111,7 +111,7 @@ module _ (schema : List Table) (m : Machine) (sound : IsSound schema m) where
   sound_ends ranges u = record {
     refuses = λ step why may. goes_same m refl;
     begins = λ owner ms accepted. goes_same _ refl;
-    prepares = λ owner txn slot t slot_state found here accepted well room low. goes_same _ refl;
+    prepares = λ owner txn slot t slot_state found here accepted well fits low. goes_same _ refl;
     commits = λ owner txn interval t found accepted. goes_same _ refl;
     aborts = λ owner txn interval t found open_still. goes_same _ refl;
     applies = λ owner txn slot interval t slot_state found here accepted. goes_applied t.decision owner txn slot t;

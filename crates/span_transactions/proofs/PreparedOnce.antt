@@ -75,8 +75,8 @@ once_few ps are =
     (length-le_from_distinct_below (slots_of ps) most_slots (to_distinct (slots_of ps) are.once) (λ n inside. low_member (slots_of ps) n are.low inside))
 
 -- so one more is within the limit
-pub room_for_one : (ps : List Prepared) (p : Prepared) → AreOfSlots ps → list_any (λ q. q.slot == p.slot) ps ≡ false → p.slot < most_slots → length ps < most_slots
-room_for_one ps p are none low =
+pub one_more_fits : (ps : List Prepared) (p : Prepared) → AreOfSlots ps → list_any (λ q. q.slot == p.slot) ps ≡ false → p.slot < most_slots → length ps < most_slots
+one_more_fits ps p are none low =
     let few : length (ps ++ p ∷ []) ≤ most_slots = once_few (ps ++ p ∷ []) (once_more ps p are none low) in
     grind (arith, few, one_longer ps p)
   where
