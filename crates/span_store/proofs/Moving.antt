@@ -263,8 +263,8 @@ module _ (es fs : List KeyEntry) (sources left_sources chains left_chains : List
         most = ap (λ (x : Content). x.most) there;
         prepared = ap (λ (x : Content). x.prepared) there;
       });
-      gone = all_append (λ (e : Entry). versions g e.chain.number ≡ []) moving.done (from_next.first ∷ [])
-          (all_weaker (λ (e : Entry). versions b e.chain.number ≡ []) (λ (e : Entry). versions g e.chain.number ≡ []) still_gone moving.done moving.gone) (ap (versions g) source_number ∙ from_here, tt);
+      gone = all_append (λ (e : KeyEntry). versions g e.chain.number ≡ []) moving.done (from_next.first ∷ [])
+          (all_weaker (λ (e : KeyEntry). versions b e.chain.number ≡ []) (λ (e : KeyEntry). versions g e.chain.number ≡ []) still_gone moving.done moving.gone) (ap (versions g) source_number ∙ from_here, tt);
       stay = λ x other. (
           let split : holders x (moving.done ++ from_next.first ∷ []) ≡ holders x moving.done + holders x (from_next.first ∷ []) = held_append x moving.done (from_next.first ∷ []) in
           let differs : x ≢ source.number = λ same. (let one = one_same x from_next.first.chain.number (same ∙ sym source_number) in absurd (omega (arith, split, one))) in
