@@ -159,7 +159,7 @@ not_next p (b ∷ rest) h = h b rest refl
 
 pair_less : (c : ℕ) → is_pair 60 c ≡ false → ((c == 61) ≡ false) × ((c == 62) ≡ false)
 unfolding is_pair
-pair_less c e = or_parts (c == 61) (c == 62) ((or_parts ((c == 61) || (c == 62)) false ((or_parts (((c == 61) || (c == 62)) || false) false e).0)).0)
+pair_less c e = or_parts (c == 61) (c == 62) (or_parts ((c == 61) || (c == 62)) false (or_parts (((c == 61) || (c == 62)) || false) false e).0).0
 
 pair_greater : (c : ℕ) → is_pair 62 c ≡ false → (c == 61) ≡ false
 unfolding is_pair

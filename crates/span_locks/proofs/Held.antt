@@ -294,8 +294,8 @@ commit_is j owner number ts k ms begun done =
     let t = begun.0 in
     let same : done.transaction ≡ t = same_Some done.transaction t (sym done.found ∙ begun.1) in
     let passes = found_passes (is_transaction owner number) (machine_of j).transactions t begun.1 in
-    let by : t.owner ≡ owner = eqb-true t.owner owner ((and_parts (t.owner == owner) (t.number == number) passes).0) in
-    let named : t.number ≡ number = eqb-true t.number number ((and_parts (t.owner == owner) (t.number == number) passes).1) in
+    let by : t.owner ≡ owner = eqb-true t.owner owner (and_parts (t.owner == owner) (t.number == number) passes).0 in
+    let named : t.number ≡ number = eqb-true t.number number (and_parts (t.owner == owner) (t.number == number) passes).1 in
     let is : commit_of ts t ≡ record { timestamp = ts; number = number; owner = owner; mutations = ms } = λ i. record { timestamp = ts; number = named i; owner = by i; mutations = begun.2 i } in
     done.log ∙ ap (λ (x : OpenTransaction). j.log ++ commit_of ts x ∷ []) same ∙ ap (λ (c : Commit). j.log ++ c ∷ []) is
 

@@ -157,7 +157,7 @@ module _ (schema : List Table) (m : Machine) (has : HasDecisions m) where
       → IsPast txn interval.earliest m
   found_past owner txn interval t n found done early numbered =
       let is : is_transaction owner txn t ≡ true = found_passes (is_transaction owner txn) m.transactions t found in
-      let number : t.number ≡ txn = eqb-true t.number txn ((and_parts (t.owner == owner) (t.number == txn) is).1) in
+      let number : t.number ≡ txn = eqb-true t.number txn (and_parts (t.owner == owner) (t.number == txn) is).1 in
       let by : IsDecidedBy m.log t = all_found (IsDecidedBy m.log) (is_transaction owner txn) m.transactions t found has.decided in
       record {
         commits = all_weaker (λ (c : Commit). c.number ≡ t.number → t.decision ≡ Committed c.timestamp) (λ (c : Commit). c.number ≡ txn → c.timestamp < interval.earliest)

@@ -94,7 +94,7 @@ greatest_all (p ∷ ps) = (omega arith, all_weaker (λ q. q.timestamp ≤ greate
 -- not prepared at a slot
 pub none_prepared : (slot : ℕ) (ps : List Prepared) → list_any (λ p. p.slot == slot) ps ≡ false → AllByRecursion (λ p. (p.slot == slot) ≡ false) ps
 none_prepared slot [] e = tt
-none_prepared slot (p ∷ ps) e = ((or_parts (p.slot == slot) (list_any (λ p. p.slot == slot) ps) e).0, none_prepared slot ps ((or_parts (p.slot == slot) (list_any (λ p. p.slot == slot) ps) e).1))
+none_prepared slot (p ∷ ps) e = ((or_parts (p.slot == slot) (list_any (λ p. p.slot == slot) ps) e).0, none_prepared slot ps (or_parts (p.slot == slot) (list_any (λ p. p.slot == slot) ps) e).1)
 
 pub apart_push : (ps : List Prepared) (p : Prepared) → AreApart ps → AllByRecursion (λ q. (q.slot == p.slot) ≡ false) ps → AreApart (ps ++ p ∷ [])
 apart_push [] p apart off = (tt, tt)

@@ -190,9 +190,9 @@ all_sealed : (schema : List Table) (m : Machine) (s : ℕ) (leaves : List ScanLe
 all_sealed schema m s [] seals covered = tt
 all_sealed schema m s (l ∷ ls) seals covered = (
   λ root is within.
-      tiles_have (IsSealed schema root s m) l.leaf.range l.covered (root_code schema root) ((and_parts (is_covered l) (list_all is_covered ls) covered).0) within
+      tiles_have (IsSealed schema root s m) l.leaf.range l.covered (root_code schema root) (and_parts (is_covered l) (list_all is_covered ls) covered).0 within
       (all_weaker (IsPartSealed schema m s) (λ (c : KeyRange). is_within c (root_code schema root) ≡ true → IsSealed schema root s m) (λ c seal. seal root is) l.covered seals.0),
-  all_sealed schema m s ls seals.1 ((and_parts (is_covered l) (list_all is_covered ls) covered).1),
+  all_sealed schema m s ls seals.1 (and_parts (is_covered l) (list_all is_covered ls) covered).1,
 )
 
 -- what is committed of a transaction that was begun
@@ -285,7 +285,7 @@ module _ (understands : Understanding) (schema : List Table) (begun : List Begun
           queries = known.queries;
           asked_below = known.asked_below;
         };
-        log = ap (λ cs. m.log ++ cs) (sym (commit_begun begun owner txn ts t (eqb-true t.owner owner ((and_parts (t.owner == owner) (t.number == txn) is).0)) (eqb-true t.number txn ((and_parts (t.owner == owner) (t.number == txn) is).1))
+        log = ap (λ cs. m.log ++ cs) (sym (commit_begun begun owner txn ts t (eqb-true t.owner owner (and_parts (t.owner == owner) (t.number == txn) is).0) (eqb-true t.number txn (and_parts (t.owner == owner) (t.number == txn) is).1)
             (all_found (IsBegun begun) (is_transaction owner txn) m.transactions t found known.transactions)));
         right = tt;
       }

@@ -191,8 +191,8 @@ module _ (schema : List Table) (root : Root) (is : IsRoot schema root) (s : ℕ)
   some_prepared t [] = λ e all above. cc
   some_prepared t (mu ∷ ms) = elim (is_at schema root mu) as (λ v. is_at schema root mu ≡ v → is_some_of (cond v (mu ∷ filter (is_at schema root) ms) (filter (is_at schema root) ms)) ≡ true → (is_prepared_for schema m t mu && list_all (is_prepared_for schema m t) ms) ≡ true
       → ((i : ℕ) (b : SlotState) → slice_get m.slots i ≡ Some b → holds schema b root ≡ true → IsAbove s i t) → s < greatest t.prepared) [
-        | true ↦ λ at e all above. prepared_above (root_at schema mu) t.prepared ((and_parts _ _ all).0) (λ i b h k. above i b h (subst (λ (q : Root). holds schema b q ≡ true) (sym (own_root schema root mu is at)) k))
-        | false ↦ λ at e all above. some_prepared t ms e ((and_parts _ _ all).1) above
+        | true ↦ λ at e all above. prepared_above (root_at schema mu) t.prepared (and_parts _ _ all).0 (λ i b h k. above i b h (subst (λ (q : Root). holds schema b q ≡ true) (sym (own_root schema root mu is at)) k))
+        | false ↦ λ at e all above. some_prepared t ms e (and_parts _ _ all).1 above
       ] refl
 
   -- a commit that touches the directory is above s
@@ -202,7 +202,7 @@ module _ (schema : List Table) (root : Root) (is : IsRoot schema root) (s : ℕ)
     | false ↦ λ e. inl refl
     | true ↦ λ e.
         let ready : is_all_prepared schema m t ≡ true = (may_commit (is_undecided t) (is_all_prepared schema m t) (nat_le timestamp_end (commit_timestamp m t interval)) accepted).1 in
-        let above : s < greatest t.prepared = some_prepared t t.mutations e ((and_parts (not (length t.prepared == 0)) (list_all (is_prepared_for schema m t) t.mutations) ready).1) (λ i b h k. all_found (IsAbove s i) (is_transaction owner txn) m.transactions t found (sealed.prepared i b h k)) in
+        let above : s < greatest t.prepared = some_prepared t t.mutations e (and_parts (not (length t.prepared == 0)) (list_all (is_prepared_for schema m t) t.mutations) ready).1 (λ i b h k. all_found (IsAbove s i) (is_transaction owner txn) m.transactions t found (sealed.prepared i b h k)) in
         inr (omega arith)
   ] refl
 

@@ -67,7 +67,7 @@ module _ (schema : List Table) (m : Machine) (sound : IsSound schema m) where
         grind (arith, nat_tests),
         all_true (IsAbove s slot) (λ t. list_all (λ p. not (p.slot == slot) || nat_lt s p.timestamp) t.prepared)
             (λ t e. all_true (λ p. p.slot ≡ slot → s < p.timestamp) (λ p. not (p.slot == slot) || nat_lt s p.timestamp) (λ p e same. above_by p.slot slot s p.timestamp e same) t.prepared e)
-            m.transactions ((and_parts (nat_le s slot_state.floor) _ safe).1),
+            m.transactions (and_parts (nat_le s slot_state.floor) _ safe).1,
       )
 
   -- the directories of a slot that is safe are sealed

@@ -44,7 +44,7 @@ below_parts code slot_state key inside e =
 pub from_parts : (code : List ℕ) (slot_state : SlotState) (key : List ℕ) → has_key slot_state code ≡ true → has_key (part_from code slot_state) key ≡ true → (has_key slot_state key ≡ true) × IsUpto code key
 unfolding is_between
 from_parts code slot_state key inside e =
-    let after : IsUpto code key = not-true (is_lt (byte_order key code)) ((and_parts (not (is_lt (byte_order key code))) (is_upto slot_state.hi key) e).0) in
+    let after : IsUpto code key = not-true (is_lt (byte_order key code)) (and_parts (not (is_lt (byte_order key code))) (is_upto slot_state.hi key) e).0 in
     let high : is_upto slot_state.hi key ≡ true = (and_parts (not (is_lt (byte_order key code))) (is_upto slot_state.hi key) e).1 in
     let low : is_from slot_state.lo code ≡ true = (and_parts (is_from slot_state.lo code) (is_upto slot_state.hi code) inside).0 in
     (and_from (is_from slot_state.lo key) (is_upto slot_state.hi key) (from_above slot_state.lo code key low after) high, after)
@@ -53,12 +53,12 @@ from_parts code slot_state key inside e =
 pub below_has : (code : List ℕ) (slot_state : SlotState) (key : List ℕ) → has_key slot_state key ≡ true → IsBefore key code → has_key (part_below code slot_state) key ≡ true
 unfolding is_between
 below_has code slot_state key has before =
-    and_from (is_from slot_state.lo key) (is_lt (byte_order key code)) ((and_parts (is_from slot_state.lo key) (is_upto slot_state.hi key) has).0) before
+    and_from (is_from slot_state.lo key) (is_lt (byte_order key code)) (and_parts (is_from slot_state.lo key) (is_upto slot_state.hi key) has).0 before
 
 pub from_has : (code : List ℕ) (slot_state : SlotState) (key : List ℕ) → has_key slot_state key ≡ true → IsUpto code key → has_key (part_from code slot_state) key ≡ true
 unfolding is_between
 from_has code slot_state key has after =
-    and_from (not (is_lt (byte_order key code))) (is_upto slot_state.hi key) (not_from_false (is_lt (byte_order key code)) after) ((and_parts (is_from slot_state.lo key) (is_upto slot_state.hi key) has).1)
+    and_from (not (is_lt (byte_order key code))) (is_upto slot_state.hi key) (not_from_false (is_lt (byte_order key code)) after) (and_parts (is_from slot_state.lo key) (is_upto slot_state.hi key) has).1
 
 -- the slot that a key is found in has it
 pub found_has : (slots : List SlotState) (key : List ℕ) (slot : ℕ) (slot_state : SlotState) → slot_of slots key ≡ Some slot → slice_get slots slot ≡ Some slot_state → has_key slot_state key ≡ true

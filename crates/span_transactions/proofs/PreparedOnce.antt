@@ -21,8 +21,8 @@ all_more P (q ∷ qs) p all last = (all.0, all_more P qs p all.1 last)
 distinct_more : (ps : List Prepared) (p : Prepared) → AreDifferent (slots_of ps) → list_any (λ q. q.slot == p.slot) ps ≡ false → AreDifferent (slots_of (ps ++ p ∷ []))
 distinct_more [] p once none = (tt, tt)
 distinct_more (q ∷ qs) p once none = (
-  all_more (λ n. nat_eq q.slot n ≡ false) qs p once.0 ((or_parts (q.slot == p.slot) (list_any (λ r. r.slot == p.slot) qs) none).0),
-  distinct_more qs p once.1 ((or_parts (q.slot == p.slot) (list_any (λ r. r.slot == p.slot) qs) none).1),
+  all_more (λ n. nat_eq q.slot n ≡ false) qs p once.0 (or_parts (q.slot == p.slot) (list_any (λ r. r.slot == p.slot) qs) none).0,
+  distinct_more qs p once.1 (or_parts (q.slot == p.slot) (list_any (λ r. r.slot == p.slot) qs) none).1,
 )
 
 -- with one more slot, where the transaction is not prepared
