@@ -159,7 +159,7 @@ module _ (nodes : List NodeRecord) (rs : List ChainRecord) (free count most : �
 
     pub content-push : (image : Option (List ℕ)) (x : NodeRecord) → count ≡ 0 → length nodes < most → prepared_of x ≡ Some (record { chain = c; image = image })
         → IsReserved (content nodes rs count most cells) (content (nodes ++ x ∷ []) (set rs c (chain.Used (with_prepared l (l.prepared + 1)))) count most cells) c image (length nodes)
-    content-push image x none room is_prepared =
+    content-push image x none below is_prepared =
         let g = node_at (nodes ++ x ∷ []) in
         let ge : length (map prepared_of nodes) ≤ length nodes = omega (arith, length-map nodes prepared_of) in
         let t : nat_lt (length nodes) (length (map prepared_of nodes)) ≡ false = grind (arith, nat_tests) in

@@ -188,13 +188,13 @@ module _ (nodes : List NodeRecord) (rs : List ChainRecord) (free count most : �
   added : IsChanged (node_at nodes) (node_at (nodes ++ x ∷ [])) (length nodes)
   added = changed-push nodes x
 
-  pub room_content : (cells : List Cell) → content (nodes ++ x ∷ []) rs (count + 1) most cells ≡ with_free_node (content nodes rs count most cells)
-  room_content cells = parts_equal _ _ _ _ (count + 1) most cells
+  pub free_node_content : (cells : List Cell) → content (nodes ++ x ∷ []) rs (count + 1) most cells ≡ with_free_node (content nodes rs count most cells)
+  free_node_content cells = parts_equal _ _ _ _ (count + 1) most cells
       (maps_stay nodes rs free count most sound (node_at (nodes ++ x ∷ [])) (length nodes) added (λ d. free_apart (node_at nodes (length nodes)).used 0 d was_free))
       (map-append prepared_of nodes (x ∷ []) ∙ ap (λ (p : Option Prepared). map prepared_of nodes ++ p ∷ []) (is_none-free x (count + 1) is_free))
 
-  pub room_sound : x.next ≡ free → length nodes < most → IsSound (nodes ++ x ∷ []) rs (length nodes) (count + 1) most
-  room_sound next below =
+  pub free_node_sound : x.next ≡ free → length nodes < most → IsSound (nodes ++ x ∷ []) rs (length nodes) (count + 1) most
+  free_node_sound next below =
       let f = node_at nodes in
       let g = node_at (nodes ++ x ∷ []) in
       let none : prepared_of x ≡ None = is_none-free x (count + 1) is_free in

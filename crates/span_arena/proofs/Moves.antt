@@ -166,7 +166,7 @@ module _ (nodes : List NodeRecord) (rs : List ChainRecord) (free count most : �
 
     -- one node more
     pub sound-push : (x : NodeRecord) → x.used ≡ Reserved c → count ≡ 0 → length nodes < most → IsSound (nodes ++ x ∷ []) (set rs c (chain.Used (with_prepared l (l.prepared + 1)))) free count most
-    sound-push x is_reserved none room =
+    sound-push x is_reserved none below =
         let g = node_at (nodes ++ x ∷ []) in
         let le : length nodes ≤ length nodes = omega arith in
         let end_is : node_at nodes (length nodes) ≡ blank = get_or-eq_default nodes blank le in

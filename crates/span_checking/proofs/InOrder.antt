@@ -3,7 +3,7 @@ use Rattle.std.proofs.Common.{◌≡◌, ℕ, zero, suc, ◌+◌, ◌-◌, ◌<�
 use Rattle.std.specs.Prelude.{slice_get, bytes_eq}
 use Rattle.std.specs.List.{AllByRecursion, find, cons_option, list_any}
 use Rattle.std.specs.Option.{option_or, option_map}
-use Rattle.std.proofs.lemmas.Bool.{and_parts, or_parts, or_from, and_left, and_right}
+use Rattle.std.proofs.lemmas.Bool.{and_parts, or_parts, or_from, and_left, and_right, or_right}
 use Rattle.std.proofs.lemmas.Option.{slice_get-get_or}
 use Rattle.std.proofs.lemmas.List.Quantifiers.{position-Some}
 use Rattle.std.proofs.lemmas.Slice.Eq.{bytes_eq-Decides}
@@ -171,13 +171,9 @@ all_named columns (p ∷ ps) (c ∷ cs) [] at e = absurd (let f : false ≡ true
 all_named columns (p ∷ ps) (c ∷ cs) (x ∷ xs) at e =
     let parts = heads columns p ps x xs c at.0 e in (
       ap (λ (b : Bool). b || is_named xs c.name) (same_self x.column c.name parts.name),
-      all_weaker (λ (d : Column). is_named xs d.name ≡ true) (λ (d : Column). is_named (x ∷ xs) d.name ≡ true) (λ d h. or_true (is_same_name x.column d.name) (is_named xs d.name) h) cs
+      all_weaker (λ (d : Column). is_named xs d.name ≡ true) (λ (d : Column). is_named (x ∷ xs) d.name ≡ true) (λ d h. or_right (is_same_name x.column d.name) (is_named xs d.name) h) cs
           (all_named columns ps cs xs at.1 parts.rest),
     )
-  where
-    or_true : (a b : Bool) → b ≡ true → (a || b) ≡ true
-    or_true true b h = refl
-    or_true false b h = h
 
 lacks_none : (key : List KeyColumn) (cells : List NamedValue) (cs : List Column) → AllByRecursion (λ (d : Column). is_named cells d.name ≡ true) (other_columns key cs) → lacks_cell key cells cs ≡ false
 lacks_none key cells [] h = refl

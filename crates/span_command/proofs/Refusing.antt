@@ -104,15 +104,15 @@ word_byte b e same = let f : is_word 32 ≡ true = subst (λ n. is_word n ≡ tr
 
 word_bytes : (w : List ℕ) → list_all is_word w ≡ true → HasNoSpace w
 word_bytes [] all i l same = absurd (omega arith)
-word_bytes (b ∷ w) all zero l same = word_byte b ((and_parts (is_word b) (list_all is_word w) all).0) same
-word_bytes (b ∷ w) all (suc i) l same = word_bytes w ((and_parts (is_word b) (list_all is_word w) all).1) i (omega arith) same
+word_bytes (b ∷ w) all zero l same = word_byte b (and_parts (is_word b) (list_all is_word w) all).0 same
+word_bytes (b ∷ w) all (suc i) l same = word_bytes w (and_parts (is_word b) (list_all is_word w) all).1 i (omega arith) same
 
 name_word : (w : List ℕ) → is_name_text w ≡ true → IsWord w
 name_word w e =
     let short : (begins is_letter w && nat_le (length w) longest_word && list_all is_word w) ≡ true = (and_parts _ _ e).0 in
     let letter : (begins is_letter w && nat_le (length w) longest_word) ≡ true = (and_parts _ (list_all is_word w) short).0 in
     let begun : begins is_letter w ≡ true = (and_parts _ (nat_le (length w) longest_word) letter).0 in
-    ((λ none. absurd (cc (ap (begins is_letter) none, begun))), word_bytes w ((and_parts (begins is_letter w && nat_le (length w) longest_word) _ short).1))
+    ((λ none. absurd (cc (ap (begins is_letter) none, begun))), word_bytes w (and_parts (begins is_letter w && nat_le (length w) longest_word) _ short).1)
 
 -- ---- words that are not split
 

@@ -37,8 +37,8 @@ module _ (g : Grouping) (row : Row) (rows : List Row) (groups : List Group) wher
   -- ---- the row
 
   module _ (at : ℕ) (place : HasPlace g row rows groups at) where
-    pub has_room : (x : Group) → x ≡ get_or groups at x → length rows + 1 < 2 ^ 64 → CanCountOne g.aggregates x.states
-    has_room x is few = record {
+    pub can_count_group : (x : Group) → x ≡ get_or groups at x → length rows + 1 < 2 ^ 64 → CanCountOne g.aggregates x.states
+    can_count_group x is few = record {
       rows = rows_with g.keys x.key rows;
       are = subst (HasTakenRows g rows) (sym is) (place.are.each at x place.within);
       few = omega (arith, filter-shorter (λ (r : Row). are_equal x.key (columns_at g.keys r)) rows);

@@ -17,10 +17,10 @@ use Rattle.span_groups.specs.StateLists.{Group, groups_in, states_from, IsChange
 use Rattle.span_groups.specs.States.{AreAdded, AreStatesOf, CanCountOne}
 use Rattle.span_groups.specs.GroupStates.{keys_of, keys_at, groups_by, AreGroups, AreGroupsOf, AreGroupLists, AreInStep, CanCountRow, HasPlace, HaveKeys, HoldGroups}
 use Rattle.span_groups.specs.MergedGroups.{AreWholeGroups, HasGroupAt}
-use Rattle.span_groups.proofs.Absorbed.{TakesRow, has_room, absorbed}
+use Rattle.span_groups.proofs.Absorbed.{TakesRow, can_count_group, absorbed}
 use Rattle.span_groups.proofs.AddedStates.{added_is}
 use Rattle.span_groups.proofs.MergedGroups.{groups_are_whole, group_merged, has_group, new_group_at}
-use Rattle.span_groups.proofs.StateLists.{keys_in, count_in, room_at, group_found, changed_at, added_last, added_long}
+use Rattle.span_groups.proofs.StateLists.{keys_in, count_in, fits_at, group_found, changed_at, added_last, added_long}
 
 -- ---- the key among the keys
 
@@ -186,9 +186,9 @@ module _ (g : Grouping) (keys : List Row) (old : List AggregateState) (at : ℕ)
   is_there : group_at old ≡ get_or (groups_by g keys old) at (group_at old)
   is_there = sym (group_found (length g.aggregates) keys old at (group_at old) [] within)
 
-  pub room_for : (row : Row) (rows : List Row) → HasPlace g row rows (groups_by g keys old) at → length rows + 1 < 2 ^ 64
+  pub can_count_at : (row : Row) (rows : List Row) → HasPlace g row rows (groups_by g keys old) at → length rows + 1 < 2 ^ 64
       → CanCountOne g.aggregates (states_from (at * length g.aggregates) (length g.aggregates) old)
-  room_for row rows place few = has_room g row rows (groups_by g keys old) at place (group_at old) is_there few
+  can_count_at row rows place few = can_count_group g row rows (groups_by g keys old) at place (group_at old) is_there few
 
   module _ (new : List AggregateState) (changed : IsChangedAt (at * length g.aggregates) (length g.aggregates) old new) where
     is_changed : groups_by g keys new ≡ set (groups_by g keys old) at (group_at new)
@@ -221,11 +221,11 @@ module _ (g : Grouping) (row : Row) (keys new : List Row) (old mid : List Aggreg
   its_place : (rows : List Row) → AreGroupLists g rows keys old → HasPlace g row rows (groups_by g new mid) at
   its_place rows h = has_place g rows keys old h row (groups_by g new mid) at (place rows (as_whole g rows keys old h))
 
-  pub room_within : at * count + count ≤ length mid
-  room_within = omega (arith, room_at at count (length new) within, step.whole)
+  pub states_within : at * count + count ≤ length mid
+  states_within = omega (arith, fits_at at count (length new) within, step.whole)
 
   pub can_count : CanCountRow g keys old → CanCountOne g.aggregates (states_from (at * count) count mid)
-  can_count room = room_for g new mid at within row room.rows (its_place room.rows room.are) room.few
+  can_count can = can_count_at g new mid at within row can.rows (its_place can.rows can.are) can.few
 
   pub taken_at : (now : List AggregateState) → IsChangedAt (at * count) count mid now → TakesRow g.aggregates row (states_from (at * count) count mid) (states_from (at * count) count now)
       → (rows : List Row) → AreGroupLists g rows keys old → AreGroupLists g (rows ++ row ∷ []) new now

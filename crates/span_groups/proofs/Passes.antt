@@ -40,8 +40,8 @@ module _ (filter : Option Expr) (g : Grouping) (rows : List Row) (i : ℕ) (keys
     next : filter_where filter (drop i rows) ≡ append_results (judged filter row) (filter_where filter (drop (i + 1) rows))
     next = kept_at filter rows i row inside is
 
-    pub pass_room : length rows < 2 ^ 64 → CanCountRow g keys states
-    pass_room small = record { rows = passed.kept; are = passed.are; few = omega (arith, passed.few) }
+    pub can_count_passed : length rows < 2 ^ 64 → CanCountRow g keys states
+    can_count_passed small = record { rows = passed.kept; are = passed.are; few = omega (arith, passed.few) }
 
     module _ (holds : holds_where filter row ≡ Some true) where
       with_it : filter_where filter rows ≡ append_results (Some (passed.kept ++ row ∷ [])) (filter_where filter (drop (i + 1) rows))

@@ -36,10 +36,10 @@ pub first_is : (width at : ℕ) → first_in width at ≡ at * width
 first_is width zero = omega arith
 first_is width (suc at) = ap (λ n. width + n) (first_is width at) ∙ (omega arith)
 
-pub room_in : (at width count : ℕ) → at < count → first_in width at + width ≤ first_in width count
-room_in at width zero within = absurd (omega arith)
-room_in zero width (suc count) within = omega arith
-room_in (suc at) width (suc count) within = omega (arith, room_in at width count (omega arith))
+pub fits_in : (at width count : ℕ) → at < count → first_in width at + width ≤ first_in width count
+fits_in at width zero within = absurd (omega arith)
+fits_in zero width (suc count) within = omega arith
+fits_in (suc at) width (suc count) within = omega (arith, fits_in at width count (omega arith))
 
 -- ---- one of them changed
 
@@ -107,16 +107,16 @@ pub read_from : (start width : ℕ) (now : List AggregateState) (k : ℕ) (d : A
 read_from start width now k d within = get_or-take width (drop start now) k d within ∙ get_or-drop start now k d
 
 pub long_from : (start width : ℕ) (now : List AggregateState) → start + width ≤ length now → length (states_from start width now) ≡ width
-long_from start width now room = length-take-le width (drop start now) (omega (arith, room, length-drop start now))
+long_from start width now fits = length-take-le width (drop start now) (omega (arith, fits, length-drop start now))
 
 pub read_at : (start width : ℕ) (now : List AggregateState) (k : ℕ) (s : AggregateState) → k < width → start + width ≤ length now → s ≡ get_or now (start + k) s → slice_get (states_from start width now) k ≡ Some s
-read_at start width now k s within room is =
-    slice_get_read (states_from start width now) width k s (sym (long_from start width now room)) within (is ∙ sym (read_from start width now k s within))
+read_at start width now k s within fits is =
+    slice_get_read (states_from start width now) width k s (sym (long_from start width now fits)) within (is ∙ sym (read_from start width now k s within))
 
 -- ---- by the number of the group
 
-pub room_at : (at width count : ℕ) → at < count → at * width + width ≤ count * width
-room_at at width count within = omega (arith, room_in at width count within, first_is width at, first_is width count)
+pub fits_at : (at width count : ℕ) → at < count → at * width + width ≤ count * width
+fits_at at width count within = omega (arith, fits_in at width count within, first_is width at, first_is width count)
 
 pub group_found : (width : ℕ) (keys : List Row) (states : List AggregateState) (at : ℕ) (d : Group) (key : Row) → at < length keys
     → get_or (groups_in width keys states) at d ≡ record { key = get_or keys at key; states = states_from (at * width) width states }

@@ -100,8 +100,8 @@ module _ (all : List Aggregate) (row : Row) (old : List AggregateState) where
   takes_all now at same takes rows h all_done =
       record { long = same ∙ h.long; each = λ k a s here there. (takes rows h k a s here there).0 (omega (arith, slice_get_within all k a here)) }
 
-  pub room_left : (now : List AggregateState) (at : ℕ) (a : Aggregate) (s : AggregateState) → CanCountOne all old → Takes now at → slice_get all at ≡ Some a → slice_get now at ≡ Some s → count_of s + 1 < 2 ^ 64
-  room_left now at a s room takes here there = omega (arith, room.few, counted_few a room.rows s ((takes room.rows room.are at a s here there).1 (omega arith)))
+  pub can_count_more : (now : List AggregateState) (at : ℕ) (a : Aggregate) (s : AggregateState) → CanCountOne all old → Takes now at → slice_get all at ≡ Some a → slice_get now at ≡ Some s → count_of s + 1 < 2 ^ 64
+  can_count_more now at a s can takes here there = omega (arith, can.few, counted_few a can.rows s ((takes can.rows can.are at a s here there).1 (omega arith)))
 
 -- ---- one more aggregate
 

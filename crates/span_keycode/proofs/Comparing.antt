@@ -1,14 +1,13 @@
 -- Comparing a code with bytes part by part.
-use Rattle.std.proofs.Common.{◌≡◌, ℕ, zero, suc, ◌+◌, ◌<◌, ◌≤◌, List, [], ◌∷◌, ◌++◌, refl, sym, ◌∙◌, ap, append_assoc, arith, length, drop, get_or, Bool, true, false, ◌⊎◌, inl, inr}
-use Rattle.std.specs.Ordering.{nat_cmp, ordering_then}
+use Rattle.std.proofs.Common.{◌≡◌, ℕ, zero, suc, ◌+◌, ◌<◌, ◌≤◌, List, [], ◌∷◌, ◌++◌, refl, sym, ◌∙◌, ap, append_assoc, length, drop, get_or, Bool, true, false, ◌⊎◌, inl, inr}
+use Rattle.std.specs.Ordering.{ordering_then}
 use Rattle.std.specs.declared.cmp.Ordering.{Ordering}
-use Rattle.std.specs.declared.cmp.Ordering.TheVariants.{Equal}
 use Rattle.std.specs.Borrow.{Bor}
 use Rattle.std.specs.Prelude.{Result, MatchResult}
 use Rattle.std.proofs.lemmas.Result.{MatchResult-weaker}
 use Rattle.std.proofs.lemmas.List.{drop_more, at_drop_all, map-append, append-nil}
-use Rattle.std.proofs.lemmas.Bool.Decides.{nat_tests}
 use Rattle.span_value.specs.declared.value.Value.{Value}
+use Rattle.span_value.proofs.Comparisons.{number_equal}
 use Rattle.span_schema.specs.declared.layout.KeyPart.{KeyPart}
 use Rattle.span_keycode.specs.Order.{byte_order, flipped}
 use Rattle.span_keycode.specs.Coding.{escaped, escaped_byte, in_direction, column_code, tuple_code}
@@ -23,13 +22,10 @@ pub record IsLeft (whole bytes code rest : List ℕ) : Type 0 where
 pub left_all : (whole bytes : List ℕ) → IsLeft whole bytes whole bytes
 left_all whole bytes = record { front = []; whole_is = refl; bytes_are = refl }
 
-equal_first : (n : ℕ) → nat_cmp n n ≡ Equal
-equal_first n = grind (arith, nat_tests)
-
 -- equal fronts do not decide
 pub front_same : (p xs ys : List ℕ) → byte_order (p ++ xs) (p ++ ys) ≡ byte_order xs ys
 front_same [] xs ys = refl
-front_same (n ∷ p) xs ys = ap (λ (o : Ordering). ordering_then o (byte_order (p ++ xs) (p ++ ys))) (equal_first n) ∙ front_same p xs ys
+front_same (n ∷ p) xs ys = ap (λ (o : Ordering). ordering_then o (byte_order (p ++ xs) (p ++ ys))) (number_equal n n refl) ∙ front_same p xs ys
 
 -- the next part is the same
 pub left_more : (whole bytes code rest part code_after rest_after : List ℕ) → IsLeft whole bytes code rest → code ≡ part ++ code_after → rest ≡ part ++ rest_after

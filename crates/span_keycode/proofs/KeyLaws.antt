@@ -2,6 +2,7 @@
 use Rattle.std.proofs.Common.{◌≡◌, ℕ, ◌+◌, ◌-◌, ◌<◌, List, [], ◌∷◌, ◌++◌, Option, Some, None, refl, sym, ◌∙◌, ap, subst, append_assoc, arith, length, map, take, add-sub_cancel}
 use Rattle.std.proofs.lemmas.List.{map-append, take-append-drop, append-nil}
 use Rattle.std.proofs.Math.Seq.{take-append_seam}
+use Rattle.std.proofs.lemmas.Option.{same_Some}
 use Rattle.span_value.specs.declared.value.Value.{Value}
 use Rattle.span_schema.specs.declared.table.Table.{Table}
 use Rattle.span_schema.specs.declared.layout.KeyPart.{KeyPart}
@@ -97,17 +98,10 @@ pub one_key : OneKey
 one_key tables rules n m vs ws k l e =
     let begins = levels_begin tables (levels_at tables (n - 1) vs) (levels_at tables (m - 1) ws) [] (known tables rules n vs k) (known tables rules m ws l) (append-nil (key_code tables n vs) ∙ e) in
     let none = no_more tables begins.0 begins.2 in
-    let same : levels_at tables (m - 1) ws ≡ levels_at tables (n - 1) vs = begins.1 ∙ ap (λ (ls : List Level). levels_at tables (n - 1) vs ++ ls) none ∙ levels_none (levels_at tables (n - 1) vs) in
+    let same : levels_at tables (m - 1) ws ≡ levels_at tables (n - 1) vs = begins.1 ∙ ap (λ (ls : List Level). levels_at tables (n - 1) vs ++ ls) none ∙ append-nil (levels_at tables (n - 1) vs) in
     let paths : path_at tables (m - 1) ≡ path_at tables (n - 1) = sym (tables_back tables ws (path_at tables (m - 1))) ∙ ap tables_of same ∙ tables_back tables vs (path_at tables (n - 1)) in
     let last : Some (m - 1 + 1) ≡ Some (n - 1 + 1) = sym (last_path tables (m - 1)) ∙ ap (last_or None) paths ∙ last_path tables (n - 1) in
-    let number : m - 1 + 1 ≡ n - 1 + 1 = same_some (m - 1 + 1) (n - 1 + 1) last in (
+    let number : m - 1 + 1 ≡ n - 1 + 1 = same_Some (m - 1 + 1) (n - 1 + 1) last in (
       omega (arith, number, k.0.0, l.0.0),
       sym (values_back tables rules (n - 1) (place_within tables n k.0) vs k.1) ∙ ap values_of (sym same) ∙ values_back tables rules (m - 1) (place_within tables m l.0) ws l.1,
     )
-  where
-    levels_none : (ls : List Level) → ls ++ [] ≡ ls
-    levels_none [] = refl
-    levels_none (l ∷ ls) = ap (λ (ms : List Level). l ∷ ms) (levels_none ls)
-
-    same_some : (a b : ℕ) → Some a ≡ Some b → a ≡ b
-    same_some a b e = cc

@@ -147,12 +147,8 @@ decides-key tables rules = by_parents tables
     (λ i. i < length tables → (vs ws : List Value) → AreFit (key_at tables i) vs → AreFit (key_at tables i) ws
     → Decides (code_of tables (levels_at tables i vs)) (code_of tables (levels_at tables i ws)) (tuple_cmp (key_at tables i) vs ws)) step
   where
-    append_none : (xs : List ℕ) → xs ++ [] ≡ xs
-    append_none [] = refl
-    append_none (x ∷ xs) = ap (λ (ys : List ℕ). x ∷ ys) (append_none xs)
-
     one : (i : ℕ) (vs : List Value) → code_of tables (level_of tables vs (i + 1) ∷ []) ≡ (i + 1) ∷ tuple_code (own_key_at tables i) (own_values_at tables i vs)
-    one i vs = append_none (level_code tables (level_of tables vs (i + 1))) ∙ level_here tables i vs
+    one i vs = append-nil (level_code tables (level_of tables vs (i + 1))) ∙ level_here tables i vs
 
     same_number : (n : ℕ) (p q : List ℕ) (o : Ordering) → Decides p q o → Decides (n ∷ p) (n ∷ q) o
     same_number n p q o d = rw (number_equal n n refl) at (decides-cons n n p q o d)

@@ -2,6 +2,7 @@
 use Rattle.std.proofs.Common.{◌≡◌, ℕ, zero, suc, ◌+◌, ◌<◌, ◌≤◌, List, [], ◌∷◌, ◌++◌, Option, Some, None, refl, sym, ◌∙◌, ap, subst, arith, length, length-append, map, drop, inl, inr, add-sub_cancel}
 use Rattle.std.specs.List.{AllByRecursion}
 use Rattle.std.proofs.lemmas.Option.{slice_get_cases}
+use Rattle.std.proofs.Math.Seq.{drop-append_seam}
 use Rattle.span_value.specs.declared.value.Value.{Value}
 use Rattle.span_schema.specs.declared.table.Table.{Table}
 use Rattle.span_schema.specs.declared.layout.KeyPart.{KeyPart}
@@ -28,15 +29,11 @@ key_split tables rules i p h e =
       | inl here ↦ elim (slice_get_cases tables p).1 [
         | inl there ↦ (let goes = key_goes_on tables rules i p here.0 there.0 here.2 there.2 e in
             goes.1 ∙ ap (λ (own : List KeyPart). key_at tables p ++ own)
-            (sym (ap (λ (o : Option ℕ). drop (columns_above tables o) (key_at tables i)) e ∙ ap (drop (length (key_at tables p))) goes.1 ∙ past (key_at tables p) goes.0)))
+            (sym (ap (λ (o : Option ℕ). drop (columns_above tables o) (key_at tables i)) e ∙ ap (drop (length (key_at tables p))) goes.1 ∙ drop-append_seam (key_at tables p) goes.0)))
         | inr gone ↦ absurd (omega arith)
       ]
       | inr gone ↦ absurd (omega arith)
     ]
-  where
-    past : (xs ys : List KeyPart) → drop (length xs) (xs ++ ys) ≡ ys
-    past [] ys = refl
-    past (x ∷ xs) ys = past xs ys
 
 pub key_root : (tables : List Table) (i : ℕ) → parent_at tables i ≡ None → own_key_at tables i ≡ key_at tables i
 key_root tables i e = ap (λ (o : Option ℕ). drop (columns_above tables o) (key_at tables i)) e

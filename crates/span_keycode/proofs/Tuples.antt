@@ -1,6 +1,6 @@
 -- Reading a tuple, column by column.
 use Rattle.std.proofs.Common.{◌≡◌, ℕ, ◌+◌, ◌<◌, List, [], ◌∷◌, ◌++◌, refl, sym, ◌∙◌, ap, subst, append_assoc, arith, length, length-drop, take, drop, get_or}
-use Rattle.std.proofs.lemmas.List.{drop-drop, take_more, drop_more}
+use Rattle.std.proofs.lemmas.List.{drop-drop, take_more, drop_more, append-nil}
 use Rattle.std.proofs.lemmas.Map.Lookups.{exact_bytes}
 use Rattle.span_value.specs.declared.value.Value.{Value}
 use Rattle.span_schema.specs.declared.layout.KeyPart.{KeyPart}
@@ -34,12 +34,8 @@ tuple_more cs bs before mid after i at w d v h t c e =
       within = omega (arith, t.within, c.within, length-drop at bs);
     })
   where
-    none_after : (xs : List ℕ) → xs ++ [] ≡ xs
-    none_after [] = refl
-    none_after (x ∷ xs) = ap (λ (ys : List ℕ). x ∷ ys) (none_after xs)
-
     one : (c : KeyPart) (v : Value) → tuple_code (c ∷ []) (v ∷ []) ≡ column_code c v
-    one c v = none_after (column_code c v)
+    one c v = append-nil (column_code c v)
 
 no_rest : (c : KeyPart) (cs : List KeyPart) (more : List ℕ) (w : Value) → Fits c.kind w → IsNoTuple cs more → (vs : List Value) (rest : List ℕ) → AreFit (c ∷ cs) vs
     → column_code c w ++ more ≡ tuple_code (c ∷ cs) vs ++ rest → ⊥

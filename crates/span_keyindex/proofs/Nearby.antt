@@ -17,9 +17,10 @@ use Rattle.span_keyindex.specs.Indexes.{entries_of, IsIndexOf}
 use Rattle.span_keyindex.specs.Nears.{ComesBefore}
 use Rattle.span_keytree.specs.Nexts.{next_of, IsLinked, head_cell}
 use Rattle.std.proofs.lemmas.Map.Lookups.{exact_bytes}
+use Rattle.span_value.proofs.Lists.{all_append, all_weaker}
 use Rattle.span_keytree.proofs.Counting.{one_other}
 use Rattle.span_keytree.proofs.Linking.{linked_back, linked_first}
-use Rattle.span_keytree.proofs.Rising.{all_back, all_both, IsAround, around, apart, turned, above_more, below_more, all_weaker}
+use Rattle.span_keytree.proofs.Rising.{all_back, IsAround, around, apart, turned, above_more, below_more}
 use Rattle.span_keytree.proofs.Keyed.{keys_in_cells}
 use Rattle.span_keytree.proofs.Into.{chain_one}
 
@@ -92,7 +93,7 @@ module _ (i : KeyIndex) (a : Content) (own : IsIndexOf i a) (near : ℕ) (is_cha
       let less : byte_order split.here.key key ≡ Less = turned key split.here.key Greater (ap (byte_order key) (sym here_key) ∙ is) in
       let after = other_after a.cells key split.back sides.back (all_back (λ (e : KeyEntry). (cell_at a.cells e.chain.number).key ≡ e.key) split.front (split.here ∷ split.back) keys).1 (subst (ComesBefore a.cells key) next before) in
       let all : AllByRecursion (λ (e : KeyEntry). e.key ≢ key) (split.front ++ split.here ∷ split.back) =
-      all_both (λ (e : KeyEntry). e.key ≢ key) split.front (split.here ∷ split.back)
+      all_append (λ (e : KeyEntry). e.key ≢ key) split.front (split.here ∷ split.back)
       (all_weaker (λ (e : KeyEntry). byte_order e.key key ≡ Less) (λ (e : KeyEntry). e.key ≢ key) (λ e x same. apart e.key key x same) split.front (below_more split.here.key key split.front less sides.smaller))
       ((λ same. apart split.here.key key less same), after) in
       All-from_recursion (λ (e : KeyEntry). e.key ≢ key) (entries_of i a) (subst (λ (l : List KeyEntry). AllByRecursion (λ (e : KeyEntry). e.key ≢ key) l) (sym split.is) all)

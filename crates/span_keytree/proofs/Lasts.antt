@@ -6,6 +6,7 @@ use Rattle.std.specs.declared.cmp.Ordering.{Ordering}
 use Rattle.std.specs.declared.cmp.Ordering.TheVariants.{Less, Equal, Greater}
 use Rattle.std.proofs.lemmas.Map.Lookups.{exact_bytes}
 use Rattle.span_value.proofs.Comparisons.{is_greater}
+use Rattle.span_value.proofs.Lists.{all_append}
 use Rattle.span_keycode.specs.Order.{byte_order}
 use Rattle.span_arena.specs.declared.cell.Cell.{Cell}
 use Rattle.span_arena.specs.declared.cell.Balance.{Balance}
@@ -18,7 +19,7 @@ use Rattle.span_keytree.specs.Nexts.{last_cell, before_in}
 use Rattle.span_keytree.specs.Lasts.{IsAboveRight, is_after, one_if_some}
 use Rattle.span_keytree.proofs.Avl.{fewer_levels}
 use Rattle.span_keytree.proofs.Linking.{last_some, last_held}
-use Rattle.span_keytree.proofs.Rising.{AllBelow, turned, all_back, all_both, below_more, IsAround, around, keeps_below, drops_above, with_entry_left}
+use Rattle.span_keytree.proofs.Rising.{AllBelow, turned, all_back, below_more, IsAround, around, keeps_below, drops_above, with_entry_left}
 use Rattle.span_keytree.proofs.Searching.{AllOther, last_middle, before_is}
 
 -- the entries have the keys of their cells
@@ -54,7 +55,7 @@ module _ (cs : List Cell) (xs : List KeyEntry) (e : KeyEntry) (key : List ℕ) w
   below_last rising is =
       let a : IsAround xs e [] = around xs e [] rising in
       let less : byte_order e.key key ≡ Less = turned key e.key Greater (is_greater (byte_order key e.key) is) in
-      all_both (λ (f : KeyEntry). byte_order f.key key ≡ Less) xs (e ∷ []) (below_more e.key key xs less a.smaller) (less, tt)
+      all_append (λ (f : KeyEntry). byte_order f.key key ≡ Less) xs (e ∷ []) (below_more e.key key xs less a.smaller) (less, tt)
 
   last_kept : (c : ℕ) → AreRising (xs ++ e ∷ []) → AllOther key (xs ++ e ∷ []) → is_gt (byte_order key e.key) ≡ false → last_cell None (with_entry (xs ++ e ∷ []) (entry key c)) ≡ last_cell None (xs ++ e ∷ [])
   last_kept c rising other is =

@@ -9,7 +9,7 @@ use Rattle.std.proofs.lemmas.Cmp.{nat_list_cmp_total, tied_itself}
 use Rattle.std.proofs.lemmas.Map.Lookups.{exact_bytes}
 use Rattle.std.proofs.lemmas.List.Elements.{filter-append, All-from_recursion}
 use Rattle.std.proofs.lemmas.List.Kept.{AllPairs-cons}
-use Rattle.span_value.proofs.Lists.{filter_all, filter_none}
+use Rattle.span_value.proofs.Lists.{filter_all, filter_none, all_append, all_weaker}
 use Rattle.span_keycode.specs.Order.{byte_order}
 use Rattle.span_keytree.specs.Entries.{with_entry, KeyEntry}
 use Rattle.span_keytree.specs.Items.{AreRising, below, above, from, is_between, entries_between}
@@ -32,22 +32,14 @@ AllBelow key es = AllByRecursion (λ (e : KeyEntry). byte_order e.key key ≡ Le
 abbrev pub AllAbove : List ℕ → List KeyEntry → Type 0
 AllAbove key es = AllByRecursion (λ (e : KeyEntry). byte_order key e.key ≡ Less) es
 
-module _ (P : KeyEntry → Type 0) where
-  pub all_front : (xs ys : List KeyEntry) → AllByRecursion P (xs ++ ys) → AllByRecursion P xs
+module _ {X : Type 0} (P : X → Type 0) where
+  pub all_front : (xs ys : List X) → AllByRecursion P (xs ++ ys) → AllByRecursion P xs
   all_front [] ys h = tt
   all_front (x ∷ xs) ys h = (h.0, all_front xs ys h.1)
 
-  pub all_back : (xs ys : List KeyEntry) → AllByRecursion P (xs ++ ys) → AllByRecursion P ys
+  pub all_back : (xs ys : List X) → AllByRecursion P (xs ++ ys) → AllByRecursion P ys
   all_back [] ys h = h
   all_back (x ∷ xs) ys h = all_back xs ys h.1
-
-  pub all_both : (xs ys : List KeyEntry) → AllByRecursion P xs → AllByRecursion P ys → AllByRecursion P (xs ++ ys)
-  all_both [] ys h k = k
-  all_both (x ∷ xs) ys h k = (h.0, all_both xs ys h.1 k)
-
-pub all_weaker : (P Q : KeyEntry → Type 0) → ((e : KeyEntry) → P e → Q e) → (es : List KeyEntry) → AllByRecursion P es → AllByRecursion Q es
-all_weaker P Q f [] h = tt
-all_weaker P Q f (e ∷ es) h = (f e h.0, all_weaker P Q f es h.1)
 
 pub below_more : (low key : List ℕ) (es : List KeyEntry) → byte_order low key ≡ Less → AllBelow low es → AllBelow key es
 below_more low key es less h = all_weaker (λ (e : KeyEntry). byte_order e.key low ≡ Less) (λ (e : KeyEntry). byte_order e.key key ≡ Less) (λ e x. less_trans e.key low key x less) es h
@@ -78,7 +70,7 @@ pub rising_around : (xs : List KeyEntry) (e : KeyEntry) (ys : List KeyEntry) →
 rising_around [] e ys h = (h.greater, h.back)
 rising_around (x ∷ xs) e ys h =
     let over : AllAbove x.key ys = above_more x.key e.key ys h.smaller.0 h.greater in
-    (all_both (λ (f : KeyEntry). byte_order x.key f.key ≡ Less) xs (e ∷ ys) h.front.0 (h.smaller.0, over), rising_around xs e ys (record { front = h.front.1; back = h.back; smaller = h.smaller.1; greater = h.greater }))
+    (all_append (λ (f : KeyEntry). byte_order x.key f.key ≡ Less) xs (e ∷ ys) h.front.0 (h.smaller.0, over), rising_around xs e ys (record { front = h.front.1; back = h.back; smaller = h.smaller.1; greater = h.greater }))
 
 pub rising_back : (xs ys : List KeyEntry) → AreRising (xs ++ ys) → AreRising ys
 rising_back [] ys h = h

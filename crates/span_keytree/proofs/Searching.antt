@@ -5,13 +5,14 @@ use Rattle.std.specs.declared.cmp.Ordering.{Ordering}
 use Rattle.std.specs.declared.cmp.Ordering.TheVariants.{Less, Equal, Greater}
 use Rattle.std.proofs.lemmas.Map.Lookups.{exact_bytes}
 use Rattle.std.proofs.lemmas.List.Elements.{Contains-append_left, Contains-append_right, All-from_recursion}
+use Rattle.span_value.proofs.Lists.{all_append, all_weaker}
 use Rattle.span_keycode.specs.Order.{byte_order}
 use Rattle.span_arena.specs.declared.cell.Balance.{Balance}
 use Rattle.span_keytree.specs.Trees.{Tree, Leaf, Fork, size, by_side, search_in}
 use Rattle.span_keytree.specs.Entries.{IsAbsent, KeyEntry}
 use Rattle.span_keytree.specs.Items.{entry, items, AreRising, HasCell, below, from}
 use Rattle.span_keytree.specs.Nexts.{before_in, first_in, last_cell, head_cell}
-use Rattle.span_keytree.proofs.Rising.{AllBelow, AllAbove, apart, turned, all_both, all_weaker, below_more, above_more, IsAround, around, below_left, below_right, from_left, from_right, from_here}
+use Rattle.span_keytree.proofs.Rising.{AllBelow, AllAbove, apart, turned, below_more, above_more, IsAround, around, below_left, below_right, from_left, from_right, from_here}
 
 -- as many entries as cells
 pub length_items : (t : Tree) → length (items t) ≡ size t
@@ -50,11 +51,11 @@ other_by : (o : Ordering) (key : List ℕ) (l : Tree) (m : ℕ) (k : List ℕ) (
     → (search_in key l ≡ None → AllOther key (items l)) → (search_in key r ≡ None → AllOther key (items r))
     → by_side o (search_in key l) m (search_in key r) ≡ None → AllOther key (items (Fork l m k b r))
 other_by Less key l m k b r is a left right h =
-    all_both (λ (e : KeyEntry). e.key ≢ key) (items l) (entry k m ∷ items r) (left h) (above_other key (entry k m ∷ items r) (is, above_more key k (items r) is a.greater))
+    all_append (λ (e : KeyEntry). e.key ≢ key) (items l) (entry k m ∷ items r) (left h) (above_other key (entry k m ∷ items r) (is, above_more key k (items r) is a.greater))
 other_by Equal key l m k b r is a left right h = absurd (let e : Some m ≡ None = h in cc)
 other_by Greater key l m k b r is a left right h =
     let less : byte_order k key ≡ Less = turned key k Greater is in
-    all_both (λ (e : KeyEntry). e.key ≢ key) (items l) (entry k m ∷ items r) (below_other key (items l) (below_more k key (items l) less a.smaller)) (λ same. apart k key less same, right h)
+    all_append (λ (e : KeyEntry). e.key ≢ key) (items l) (entry k m ∷ items r) (below_other key (items l) (below_more k key (items l) less a.smaller)) (λ same. apart k key less same, right h)
 
 pub search_other : (key : List ℕ) (t : Tree) → AreRising (items t) → search_in key t ≡ None → AllOther key (items t)
 search_other key Leaf rising h = tt

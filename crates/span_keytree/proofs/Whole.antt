@@ -87,13 +87,13 @@ linked_with cs at t ns key c tree rising linked places free number absent =
     let longer : length (with_place ns c).next ≡ places_with (length cs) c = length_place ns c ∙ ap (λ (m : ℕ). places_with m c) places in
     let more : length cs ≤ places_with (length cs) c = places_more (length cs) c in
     let here : c < places_with (length cs) c = places_here (length cs) c number in
-    let in_room : IsLinked (next_of (with_place ns c)) ns.first (items t) = linked_same (next_of ns) (next_of (with_place ns c)) ns.first (items t) (λ i s. place_same ns c i) linked in
+    let linked : IsLinked (next_of (with_place ns c)) ns.first (items t) = linked_same (next_of ns) (next_of (with_place ns c)) ns.first (items t) (λ i s. place_same ns c i) linked in
     linked_more (with_place ns c) (below key (items t)) (above key (items t)) key c (before_in key None t) (before_is key None t rising absent) (omega arith)
     (λ i s. (let lt : i < length cs = tree.within i (omega (arith, held_is i)) in omega arith))
     (λ i. omega (arith, held_is i, tree.once i))
     (held_is c ∙ free)
     (subst (λ (x : Option ℕ). IsLinked (next_of (with_place ns c)) x (below key (items t) ++ above key (items t))) {x = ns.first} {y = (with_place ns c).first} (sym (place_first ns c))
-    (subst (λ (l : List KeyEntry). IsLinked (next_of (with_place ns c)) ns.first l) {x = items t} {y = below key (items t) ++ above key (items t)} cut in_room))
+    (subst (λ (l : List KeyEntry). IsLinked (next_of (with_place ns c)) ns.first l) {x = items t} {y = below key (items t) ++ above key (items t)} cut linked))
 
 -- ---- the index
 

@@ -20,10 +20,10 @@ use Rattle.span_keytree.specs.Entries.{entries_under, KeyEntry}
 use Rattle.span_keytree.specs.Items.{entry, items, AreRising, below, from, past}
 use Rattle.span_keytree.specs.Nexts.{Nexts, head_cell, first_past}
 use Rattle.span_keytree.specs.Roots.{entries_at, IsIndex}
-use Rattle.span_keytree.proofs.Rising.{AllAbove, less_trans, all_weaker, IsAround, around, rising_back, below_all, cut_from}
+use Rattle.span_keytree.proofs.Rising.{AllAbove, less_trans, IsAround, around, rising_back, below_all, cut_from}
 use Rattle.span_keywalk.proofs.Walking.{IsWalked, part_walked}
 use Rattle.span_value.proofs.Comparisons.{same_number}
-use Rattle.span_value.proofs.Lists.{filter_all, filter_none}
+use Rattle.span_value.proofs.Lists.{filter_all, filter_none, all_weaker}
 use Rattle.span_keycode.proofs.Order.{front_not_after}
 
 abbrev begins : List ℕ → List ℕ → Bool

@@ -4,6 +4,7 @@ use Rattle.std.proofs.lemmas.Grind.{common_steps}
 use Rattle.std.proofs.lemmas.List.{take-append-drop}
 use Rattle.std.proofs.lemmas.Bool.{or_parts, le-ltb, cond-true, cond-false}
 use Rattle.std.proofs.Math.Seq.{take-append_seam, drop-append_seam}
+use Rattle.std.proofs.Math.Bool.{and-false}
 use Rattle.span_lexer.specs.declared.token.TokenKind.{TokenKind}
 use Rattle.span_lexer.specs.declared.token.TokenKind.TheVariants as kind
 use Rattle.span_lexer.specs.declared.token.Token.{Token}
@@ -100,11 +101,7 @@ read_word w rest h =
     ∙ ap (λ (k : ℕ). lex_result.Lexeme (word_or_name (reserved_word (take k (w ++ rest)))) k) n ∙ ap (λ (v : List ℕ). lex_result.Lexeme (word_or_name (reserved_word v)) (length w)) (take-append_seam w rest)
 
 unmarked : (b : ℕ) (w rest : List ℕ) → Each is_word w → NoMark (b ∷ w) rest → (is_mark b && begins is_quote (w ++ rest)) ≡ false
-unmarked b (c ∷ w) rest h n = ap (λ (v : Bool). is_mark b && v) (word_not_quote c h.0) ∙ and_false (is_mark b)
-  where
-    and_false : (v : Bool) → (v && false) ≡ false
-    and_false true = refl
-    and_false false = refl
+unmarked b (c ∷ w) rest h n = ap (λ (v : Bool). is_mark b && v) (word_not_quote c h.0) ∙ and-false (is_mark b)
 unmarked b [] rest h n =
     elim (is_mark b) as (λ v. is_mark b ≡ v → (v && begins is_quote rest) ≡ false) [
       | false ↦ λ e. refl
@@ -162,7 +159,7 @@ not_next p (b ∷ rest) h = h b rest refl
 
 pair_less : (c : ℕ) → is_pair 60 c ≡ false → ((c == 61) ≡ false) × ((c == 62) ≡ false)
 unfolding is_pair
-pair_less c e = or_parts (c == 61) (c == 62) ((or_parts ((c == 61) || (c == 62)) false ((or_parts (((c == 61) || (c == 62)) || false) false e).0)).0)
+pair_less c e = or_parts (c == 61) (c == 62) (or_parts ((c == 61) || (c == 62)) false (or_parts (((c == 61) || (c == 62)) || false) false e).0).0
 
 pair_greater : (c : ℕ) → is_pair 62 c ≡ false → (c == 61) ≡ false
 unfolding is_pair

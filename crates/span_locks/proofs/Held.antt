@@ -5,7 +5,7 @@ use Rattle.std.specs.List.{AllByRecursion}
 use Rattle.std.proofs.lemmas.List.{length-set}
 use Rattle.atomic_table.specs.Seated.{TableId}
 use Rattle.std.proofs.lemmas.Bool.{eqb-true, and_parts}
-use Rattle.std.proofs.lemmas.Option.{slice_get-map}
+use Rattle.std.proofs.lemmas.Option.{slice_get-map, same_Some}
 use Rattle.span_value.specs.declared.refusal.Refusal.{Refusal}
 use Rattle.span_value.proofs.Lists.{all_found_at}
 use Rattle.span_value.proofs.Results.{ok_same}
@@ -149,11 +149,11 @@ module _ (schema other : List Table) (table here : TableId) (views : List (List 
     pub keeper_cut : (there : TableId) (after : List (List Role)) (k : Journaled) (ws part : List KeyVersions) (n : ℕ) → there ≡ table
         → after ≡ (Keeper (restated (restated (known_at views) i ws) n part) ∷ []) ∷ [] → n ≡ length j.slots → n < length (restated (known_at views) i ws).slots
         → IsCutAt other i j k vs ws part → IsKeeper schema table there after k
-    keeper_cut there after k ws part n at cut_is last room cut =
+    keeper_cut there after k ws part n at cut_is last enough cut =
         let changed : Shards = slice_set keeper.used i ws in
         let front : slice_set (known_at views).slots i ws ≡ changed ++ keeper.spare = ap (λ (l : Shards). slice_set l i ws) keeper.slots ∙ set_front keeper.used keeper.spare i ws low in
         let number : n ≡ length changed = last ∙ sym keeper.whole.kept.count ∙ sym (length-set keeper.used i ws) in
-        let within_all : n < length (changed ++ keeper.spare) = subst (λ (l : Shards). n < length l) front room in
+        let within_all : n < length (changed ++ keeper.spare) = subst (λ (l : Shards). n < length l) front enough in
         subst (λ (v : List (List Role)). IsKeeper schema table there v k) (sym cut_is)
         (record {
           at = at;
@@ -292,15 +292,12 @@ pub commit_is : (j : Journaled) (owner number ts : ℕ) (k : Journaled) (ms : Li
     → k.log ≡ j.log ++ (record { timestamp = ts; number = number; owner = owner; mutations = ms }) ∷ []
 commit_is j owner number ts k ms begun done =
     let t = begun.0 in
-    let same : done.transaction ≡ t = some_same done.transaction t (sym done.found ∙ begun.1) in
+    let same : done.transaction ≡ t = same_Some done.transaction t (sym done.found ∙ begun.1) in
     let passes = found_passes (is_transaction owner number) (machine_of j).transactions t begun.1 in
-    let by : t.owner ≡ owner = eqb-true t.owner owner ((and_parts (t.owner == owner) (t.number == number) passes).0) in
-    let named : t.number ≡ number = eqb-true t.number number ((and_parts (t.owner == owner) (t.number == number) passes).1) in
+    let by : t.owner ≡ owner = eqb-true t.owner owner (and_parts (t.owner == owner) (t.number == number) passes).0 in
+    let named : t.number ≡ number = eqb-true t.number number (and_parts (t.owner == owner) (t.number == number) passes).1 in
     let is : commit_of ts t ≡ record { timestamp = ts; number = number; owner = owner; mutations = ms } = λ i. record { timestamp = ts; number = named i; owner = by i; mutations = begun.2 i } in
     done.log ∙ ap (λ (x : OpenTransaction). j.log ++ commit_of ts x ∷ []) same ∙ ap (λ (c : Commit). j.log ++ c ∷ []) is
-  where
-    some_same : (x y : OpenTransaction) → Some x ≡ Some y → x ≡ y
-    some_same x y e = cc
 
 -- the same of what a session keeps of it, which the commit takes over
 pub kept_commit_is : (j : Journaled) (owner ts : ℕ) (k : Journaled) (b r : Begun) (d : Commit) → b ≡ r

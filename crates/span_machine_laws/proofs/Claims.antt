@@ -153,19 +153,19 @@ unclaimed schema root is slot ms [] some e = refl
 unclaimed schema root is slot ms (t ∷ ts) some e =
     elim (claims schema root slot t) as (λ v. claims schema root slot t ≡ v → cond v (t ∷ filter (claims schema root slot) ts) (filter (claims schema root slot) ts) ≡ []) [
       | true ↦ λ yes.
-          let shared : have_common_root schema ms t.mutations ≡ true = common schema root is ms t.mutations some ((and_parts (is_prepared_at slot t) (is_some_of (filter (is_at schema root) t.mutations)) yes).1) in
+          let shared : have_common_root schema ms t.mutations ≡ true = common schema root is ms t.mutations some (and_parts (is_prepared_at slot t) (is_some_of (filter (is_at schema root) t.mutations)) yes).1 in
           let at : is_prepared_at slot t ≡ true = (and_parts (is_prepared_at slot t) (is_some_of (filter (is_at schema root) t.mutations)) yes).0 in
           let no : (is_prepared_at slot t && have_common_root schema ms t.mutations) ≡ false = (or_parts (is_prepared_at slot t && have_common_root schema ms t.mutations) _ e).0 in
           absurd (both_true (is_prepared_at slot t) (have_common_root schema ms t.mutations) at shared no)
-      | false ↦ λ no_claim. unclaimed schema root is slot ms ts some ((or_parts (is_prepared_at slot t && have_common_root schema ms t.mutations) _ e).1)
+      | false ↦ λ no_claim. unclaimed schema root is slot ms ts some (or_parts (is_prepared_at slot t && have_common_root schema ms t.mutations) _ e).1
     ] refl
 
 -- where nothing is prepared at the slot, nothing claims the directory there
 pub unclaimed_idle : (schema : List Table) (root : Root) (slot : ℕ) (ts : List OpenTransaction) → list_any (is_prepared_at slot) ts ≡ false → filter (claims schema root slot) ts ≡ []
 unclaimed_idle schema root slot [] e = refl
 unclaimed_idle schema root slot (t ∷ ts) e =
-    ap (λ b. cond (b && is_some_of (filter (is_at schema root) t.mutations)) (t ∷ filter (claims schema root slot) ts) (filter (claims schema root slot) ts)) ((or_parts (is_prepared_at slot t) (list_any (is_prepared_at slot) ts) e).0)
-    ∙ unclaimed_idle schema root slot ts ((or_parts (is_prepared_at slot t) (list_any (is_prepared_at slot) ts) e).1)
+    ap (λ b. cond (b && is_some_of (filter (is_at schema root) t.mutations)) (t ∷ filter (claims schema root slot) ts) (filter (claims schema root slot) ts)) (or_parts (is_prepared_at slot t) (list_any (is_prepared_at slot) ts) e).0
+    ∙ unclaimed_idle schema root slot ts (or_parts (is_prepared_at slot t) (list_any (is_prepared_at slot) ts) e).1
 
 -- the mutations in the range of a slot that holds the root have all of the directory's
 pub all_held : (schema : List Table) (root : Root) (is : IsRoot schema root) (slot_state : SlotState) (ms : List CheckedMutation) → holds schema slot_state root ≡ true → filter (is_at schema root) (mutations_in schema slot_state ms) ≡ filter (is_at schema root) ms
@@ -243,8 +243,8 @@ pub prepared_root : (schema : List Table) (root : Root) (is : IsRoot schema root
 prepared_root schema root is m slot t only [] = λ e all. absurd (cc)
 prepared_root schema root is m slot t only (mu ∷ ms) = elim (is_at schema root mu) as (λ v. is_at schema root mu ≡ v → is_some_of (cond v (mu ∷ filter (is_at schema root) ms) (filter (is_at schema root) ms)) ≡ true → (is_prepared_for schema m t mu && list_all (is_prepared_for schema m t) ms) ≡ true
     → (is_prepared_at slot t ≡ true) × ((b : SlotState) × (slice_get m.slots slot ≡ Some b))) [
-      | true ↦ λ at e all. prepared_slot schema m slot (root_at schema mu) (λ i b h k. only i b h (subst (λ (q : Root). holds schema b q ≡ true) (sym (own_root schema root mu is at)) k)) t.prepared ((and_parts _ _ all).0)
-      | false ↦ λ at e all. prepared_root schema root is m slot t only ms e ((and_parts _ _ all).1)
+      | true ↦ λ at e all. prepared_slot schema m slot (root_at schema mu) (λ i b h k. only i b h (subst (λ (q : Root). holds schema b q ≡ true) (sym (own_root schema root mu is at)) k)) t.prepared (and_parts _ _ all).0
+      | false ↦ λ at e all. prepared_root schema root is m slot t only ms e (and_parts _ _ all).1
     ] refl
 
 -- prepared at another slot, and prepared there no more

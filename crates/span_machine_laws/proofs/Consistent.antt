@@ -88,7 +88,7 @@ module _ (schema : List Table) (number ts : ℕ) (m : Machine) (past : IsPast nu
           (λ e. let low = past.below in absurd (omega arith));
       below = let low = past.below in omega arith;
     };
-    prepares = λ owner txn slot t slot_state found here accepted well room low. past_with _ (all_changed IsDecided (is_transaction owner txn) (add_prepared slot (prepare_timestamp slot_state)) (λ t is. is) m.transactions past.decided) refl refl;
+    prepares = λ owner txn slot t slot_state found here accepted well fits low. past_with _ (all_changed IsDecided (is_transaction owner txn) (add_prepared slot (prepare_timestamp slot_state)) (λ t is. is) m.transactions past.decided) refl refl;
     commits = λ owner txn interval t found accepted.
         past_committed owner txn (commit_timestamp m t interval) t found (may_commit (is_undecided t) (is_all_prepared schema m t) (nat_le timestamp_end (commit_timestamp m t interval)) accepted).0;
     aborts = λ owner txn interval t found still. past_with _ (either_past (length t.prepared == 0) (is_transaction owner txn) (with_decision decision.Aborted) (λ u is e. refl)) refl refl;
@@ -157,7 +157,7 @@ module _ (schema : List Table) (m : Machine) (has : HasDecisions m) where
       → IsPast txn interval.earliest m
   found_past owner txn interval t n found done early numbered =
       let is : is_transaction owner txn t ≡ true = found_passes (is_transaction owner txn) m.transactions t found in
-      let number : t.number ≡ txn = eqb-true t.number txn ((and_parts (t.owner == owner) (t.number == txn) is).1) in
+      let number : t.number ≡ txn = eqb-true t.number txn (and_parts (t.owner == owner) (t.number == txn) is).1 in
       let by : IsDecidedBy m.log t = all_found (IsDecidedBy m.log) (is_transaction owner txn) m.transactions t found has.decided in
       record {
         commits = all_weaker (λ (c : Commit). c.number ≡ t.number → t.decision ≡ Committed c.timestamp) (λ (c : Commit). c.number ≡ txn → c.timestamp < interval.earliest)
@@ -187,7 +187,7 @@ module _ (schema : List Table) (m : Machine) (has : HasDecisions m) where
     timely_ends u = record {
       refuses = λ step why may. refusal_timely step why m;
       begins = λ owner ms accepted. tt;
-      prepares = λ owner txn slot t slot_state found here accepted well room low. tt;
+      prepares = λ owner txn slot t slot_state found here accepted well fits low. tt;
       commits = λ owner txn interval t found accepted. after_latest interval.latest (greatest t.prepared) (if_some (slice_get m.slots (coordinator_slot t.prepared)) 0 (λ slot_state. slot_state.last) + 1);
       aborts = λ owner txn interval t found still. tt;
       applies = λ owner txn slot interval t slot_state found here accepted.

@@ -116,7 +116,7 @@ module _ (schema : List Table) (m : Machine) (numbered : IsNumbered m) (has : Ha
           (all_weaker (λ (c : Commit). c.number < m.next_transaction) (λ c. c.number ≡ m.next_transaction → decision.Undecided ≡ Committed c.timestamp) (λ c low e. absurd (omega arith)) m.log has.below);
       below = all_weaker (λ (c : Commit). c.number < m.next_transaction) (λ c. c.number < m.next_transaction + 1) (λ c low. omega arith) m.log has.below;
     };
-    prepares = λ owner txn slot t slot_state found here accepted well room low. decisions_changed _ (is_transaction owner txn) (add_prepared slot (prepare_timestamp slot_state)) (λ t is. is) refl refl refl;
+    prepares = λ owner txn slot t slot_state found here accepted well fits low. decisions_changed _ (is_transaction owner txn) (add_prepared slot (prepare_timestamp slot_state)) (λ t is. is) refl refl refl;
     commits = λ owner txn interval t found accepted.
         decisions_committed owner txn (commit_timestamp m t interval) t found (may_commit (is_undecided t) (is_all_prepared schema m t) (nat_le timestamp_end (commit_timestamp m t interval)) accepted).0;
     aborts = λ owner txn interval t found still. record {

@@ -1,5 +1,5 @@
 -- The rows of a table depend on the directories of its family alone, and pieces that tile the family's range have all their root rows.
-use Rattle.std.proofs.Common.{◌≡◌, ℕ, ◌+◌, ◌-◌, ◌<◌, Bool, true, false, cond, not, ◌&&◌, ◌==◌, nat_lt, List, [], ◌∷◌, length, refl, ap, sym, ◌∙◌, subst, inl, inr, arith}
+use Rattle.std.proofs.Common.{◌≡◌, ℕ, ◌+◌, ◌-◌, ◌<◌, Bool, true, false, cond, not, ◌&&◌, nat_lt, List, [], ◌∷◌, length, refl, ap, sym, ◌∙◌, subst, inl, inr, arith}
 use Rattle.std.specs.Prelude.{map, filter, slice_index}
 use Rattle.std.specs.List.{AllByRecursion}
 use Rattle.std.specs.Cmp.Lexicographic.{slice_cmp}
@@ -9,6 +9,7 @@ use Rattle.std.specs.declared.cmp.Ordering.TheVariants.{Less, Equal, Greater}
 use Rattle.std.proofs.lemmas.Bool.Decides.{nat_tests}
 use Rattle.std.proofs.lemmas.Bool.{or_cases}
 use Rattle.span_value.specs.declared.value.Value.{Value}
+use Rattle.span_value.proofs.Comparisons.{number_equal}
 use Rattle.span_schema.specs.declared.table.Table.{Table}
 use Rattle.span_schema.specs.Numbers.{root_of, path_of}
 use Rattle.span_schema.proofs.Numbered.{path_has}
@@ -28,12 +29,6 @@ root_first tables n vs = by_path (path_of tables n) refl
     by_path [] e = absurd (let bad : 0 < length (path_of tables n) = path_has tables (n - 1) in let none : length (path_of tables n) ≡ 0 = ap (λ (ns : List ℕ). length ns) e in omega arith)
     by_path (r ∷ ns) e = subst (λ (ms : List ℕ). (rest : List ℕ) × (code_of tables (map (level_of tables vs) ms) ≡ slice_index ms 0 ∷ rest)) (sym e) (_, refl)
 
-same_first : (t : ℕ) → nat_cmp t t ≡ Equal
-same_first t =
-    let a : nat_lt t t ≡ false = grind (arith, nat_tests) in
-    let b : (t == t) ≡ true = grind (arith, nat_tests) in
-    rw a (rw b refl)
-
 next_first : (t : ℕ) → nat_cmp t (t + 1) ≡ Less
 next_first t = let a : nat_lt t (t + 1) ≡ true = grind (arith, nat_tests) in rw a refl
 
@@ -46,8 +41,8 @@ first_within t rest = both (is_lt (ordering_then (nat_cmp t t) (slice_cmp nat_cm
     both true b e f = absurd (cc)
 
     low : (rest : List ℕ) → is_lt (ordering_then (nat_cmp t t) (slice_cmp nat_cmp rest [])) ≡ false
-    low [] = ap (λ (o : Ordering). is_lt (ordering_then o Equal)) (same_first t)
-    low (r ∷ rs) = ap (λ (o : Ordering). is_lt (ordering_then o Greater)) (same_first t)
+    low [] = ap (λ (o : Ordering). is_lt (ordering_then o Equal)) (number_equal t t refl)
+    low (r ∷ rs) = ap (λ (o : Ordering). is_lt (ordering_then o Greater)) (number_equal t t refl)
 
 -- what holds of a key that is within any of the pieces holds of a key of the range that they tile
 pub tiles_have : (Q : Type 0) (range : KeyRange) (cs : List KeyRange) (key : List ℕ) → tiles range cs ≡ true → is_within range key ≡ true → AllByRecursion (λ (c : KeyRange). is_within c key ≡ true → Q) cs → Q

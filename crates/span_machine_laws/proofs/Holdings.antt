@@ -1,4 +1,4 @@
-use Rattle.std.proofs.Common.{◌≡◌, ℕ, ◌<◌, ◌≤◌, max, suc, Bool, true, false, cond, not, ◌==◌, ◌||◌, List, [], ◌∷◌, ◌++◌, length, Some, None, refl, sym, subst, arith}
+use Rattle.std.proofs.Common.{◌≡◌, ℕ, ◌<◌, ◌≤◌, max, suc, Bool, true, false, cond, not, ◌==◌, List, [], ◌∷◌, ◌++◌, length, Some, None, refl, sym, subst, arith}
 use Rattle.std.specs.Prelude.{slice_get, slice_set, filter}
 use Rattle.std.specs.List.{AllByRecursion, list_any}
 use Rattle.std.proofs.lemmas.Bool.Decides.{nat_tests}
@@ -19,7 +19,7 @@ use Rattle.span_schema.specs.declared.table.Table.{Table}
 use Rattle.span_value.specs.declared.refusal.Refusal.{Refusal}
 use Rattle.span_query.specs.declared.query.Statement.{Statement}
 use Rattle.std.specs.Prelude.{Result}
-use Rattle.std.proofs.lemmas.Bool.{or_parts}
+use Rattle.std.proofs.lemmas.Bool.{or_parts, or_from}
 use Rattle.span_value.proofs.Lists.{all_filter, all_push, all_weaker}
 
 -- ---- how many slots there are
@@ -39,7 +39,7 @@ slots_ends : (schema : List Table) (m : Machine) (u : Result Statement Refusal) 
 slots_ends schema m u = record {
   refuses = λ step why may. omega arith;
   begins = λ owner ms accepted. omega arith;
-  prepares = λ owner txn slot t slot_state found here accepted well room low. as_many (length-set m.slots slot _);
+  prepares = λ owner txn slot t slot_state found here accepted well fits low. as_many (length-set m.slots slot _);
   commits = λ owner txn interval t found accepted. as_many (last_length m.slots (coordinator_slot t.prepared) (commit_timestamp m t interval));
   aborts = λ owner txn interval t found open_still. omega arith;
   applies = λ owner txn slot interval t slot_state found here accepted. as_many (slots_applied m t.decision owner txn slot t);
@@ -94,7 +94,7 @@ greatest_all (p ∷ ps) = (omega arith, all_weaker (λ q. q.timestamp ≤ greate
 -- not prepared at a slot
 pub none_prepared : (slot : ℕ) (ps : List Prepared) → list_any (λ p. p.slot == slot) ps ≡ false → AllByRecursion (λ p. (p.slot == slot) ≡ false) ps
 none_prepared slot [] e = tt
-none_prepared slot (p ∷ ps) e = ((or_parts (p.slot == slot) (list_any (λ p. p.slot == slot) ps) e).0, none_prepared slot ps ((or_parts (p.slot == slot) (list_any (λ p. p.slot == slot) ps) e).1))
+none_prepared slot (p ∷ ps) e = ((or_parts (p.slot == slot) (list_any (λ p. p.slot == slot) ps) e).0, none_prepared slot ps (or_parts (p.slot == slot) (list_any (λ p. p.slot == slot) ps) e).1)
 
 pub apart_push : (ps : List Prepared) (p : Prepared) → AreApart ps → AllByRecursion (λ q. (q.slot == p.slot) ≡ false) ps → AreApart (ps ++ p ∷ [])
 apart_push [] p apart off = (tt, tt)
@@ -123,15 +123,11 @@ holding_more n k low t h = record {
 -- nothing is prepared at a slot that there is not
 pub none_beyond : (n : ℕ) (ts : List OpenTransaction) → AllByRecursion (IsHolding n) ts → list_any (is_prepared_at n) ts ≡ false
 none_beyond n [] all = refl
-none_beyond n (t ∷ ts) all = none_of (is_prepared_at n t) (list_any (is_prepared_at n) ts) (not_there t.prepared all.0.within) (none_beyond n ts all.1)
+none_beyond n (t ∷ ts) all = or_from (is_prepared_at n t) (list_any (is_prepared_at n) ts) (not_there t.prepared all.0.within) (none_beyond n ts all.1)
   where
-    none_of : (a b : Bool) → a ≡ false → b ≡ false → (a || b) ≡ false
-    none_of false b e f = f
-    none_of true b e f = absurd (cc)
-
     not_there : (ps : List Prepared) → AllByRecursion (λ (p : Prepared). p.slot < n) ps → list_any (λ p. p.slot == n) ps ≡ false
     not_there [] low = refl
-    not_there (p ∷ ps) low = none_of (p.slot == n) (list_any (λ p. p.slot == n) ps) (other p.slot low.0) (not_there ps low.1)
+    not_there (p ∷ ps) low = or_from (p.slot == n) (list_any (λ p. p.slot == n) ps) (other p.slot low.0) (not_there ps low.1)
       where
         other : (k : ℕ) → k < n → (k == n) ≡ false
         other k less = grind (arith, nat_tests)
@@ -163,7 +159,7 @@ module _ (schema : List Table) (m : Machine) (holding : AreHolding m) where
   holding_ends u = record {
     refuses = λ step why may. holding;
     begins = λ owner ms accepted. all_push (IsHolding (length m.slots)) m.transactions (record { owner = owner; number = m.next_transaction; mutations = ms; decision = decision.Undecided; prepared = [] }) holding (record { timely = tt; apart = tt; within = tt });
-    prepares = λ owner txn slot t slot_state found here accepted well room low.
+    prepares = λ owner txn slot t slot_state found here accepted well fits low.
         let may = may_prepare (is_undecided t) (is_prepared_at slot t) (length (mutations_in schema slot_state t.mutations) == 0) (has_conflict schema m slot (mutations_in schema slot_state t.mutations)) accepted in
         let old = all_found (IsHolding (length m.slots)) (is_transaction owner txn) m.transactions t found holding in
         let p : Prepared = record { slot = slot; timestamp = prepare_timestamp slot_state } in

@@ -79,7 +79,7 @@ horizon_ends : (schema : List Table) (m : Machine) (u : Result Statement Refusal
 horizon_ends schema m u = record {
   refuses = λ step why may. horizons_same m;
   begins = λ owner ms accepted. horizons_same m;
-  prepares = λ owner txn slot t slot_state found here accepted well room low. horizons_set m slot slot_state _ here (λ key k. k) (inl refl);
+  prepares = λ owner txn slot t slot_state found here accepted well fits low. horizons_set m slot slot_state _ here (λ key k. k) (inl refl);
   commits = λ owner txn interval t found accepted. horizons_last m (coordinator_slot t.prepared) (commit_timestamp m t interval);
   aborts = λ owner txn interval t found open_still. horizons_same m;
   applies = λ owner txn slot interval t slot_state found here accepted. horizons_applied m t.decision owner txn slot t;

@@ -190,9 +190,9 @@ all_sealed : (schema : List Table) (m : Machine) (s : ℕ) (leaves : List ScanLe
 all_sealed schema m s [] seals covered = tt
 all_sealed schema m s (l ∷ ls) seals covered = (
   λ root is within.
-      tiles_have (IsSealed schema root s m) l.leaf.range l.covered (root_code schema root) ((and_parts (is_covered l) (list_all is_covered ls) covered).0) within
+      tiles_have (IsSealed schema root s m) l.leaf.range l.covered (root_code schema root) (and_parts (is_covered l) (list_all is_covered ls) covered).0 within
       (all_weaker (IsPartSealed schema m s) (λ (c : KeyRange). is_within c (root_code schema root) ≡ true → IsSealed schema root s m) (λ c seal. seal root is) l.covered seals.0),
-  all_sealed schema m s ls seals.1 ((and_parts (is_covered l) (list_all is_covered ls) covered).1),
+  all_sealed schema m s ls seals.1 (and_parts (is_covered l) (list_all is_covered ls) covered).1,
 )
 
 -- what is committed of a transaction that was begun
@@ -285,7 +285,7 @@ module _ (understands : Understanding) (schema : List Table) (begun : List Begun
           queries = known.queries;
           asked_below = known.asked_below;
         };
-        log = ap (λ cs. m.log ++ cs) (sym (commit_begun begun owner txn ts t (eqb-true t.owner owner ((and_parts (t.owner == owner) (t.number == txn) is).0)) (eqb-true t.number txn ((and_parts (t.owner == owner) (t.number == txn) is).1))
+        log = ap (λ cs. m.log ++ cs) (sym (commit_begun begun owner txn ts t (eqb-true t.owner owner (and_parts (t.owner == owner) (t.number == txn) is).0) (eqb-true t.number txn (and_parts (t.owner == owner) (t.number == txn) is).1)
             (all_found (IsBegun begun) (is_transaction owner txn) m.transactions t found known.transactions)));
         right = tt;
       }
@@ -327,7 +327,7 @@ module _ (understands : Understanding) (schema : List Table) (begun : List Begun
   tells_ends u = record {
     refuses = λ step why may understood. tells_same step (Refused why) (refusal_quiet begun step why) (refusal_right understands schema m asked step why may);
     begins = λ owner ms accepted understood. tells_begun owner ms;
-    prepares = λ owner txn slot t slot_state found here accepted well room low understood. tells_quiet _ _ _ (record { no_begun = refl; no_asked = refl; no_commit = refl })
+    prepares = λ owner txn slot t slot_state found here accepted well fits low understood. tells_quiet _ _ _ (record { no_begun = refl; no_asked = refl; no_commit = refl })
         (all_changed (IsBegun begun) (is_transaction owner txn) (add_prepared slot (prepare_timestamp slot_state)) (λ u is. is) m.transactions known.transactions) known.queries refl refl refl tt;
     commits = λ owner txn interval t found accepted understood. tells_committed owner txn (commit_timestamp m t interval) interval t found;
     aborts = λ owner txn interval t found open_still understood. tells_quiet _ _ _ (record { no_begun = refl; no_asked = refl; no_commit = refl })

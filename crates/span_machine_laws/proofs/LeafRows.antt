@@ -1,22 +1,17 @@
 -- The rows of a leaf's tables, and whether they are in a range that bounds of the first key column narrow.
-use Rattle.std.proofs.Common.{◌≡◌, ℕ, ◌<◌, ◌==◌, Bool, true, false, not, ◌&&◌, List, [], ◌∷◌, map, take, length, Option, Some, refl, ap, sym, subst, ◌∙◌, arith}
-use Rattle.std.specs.Prelude.{slice_get, if◌then◌else◌}
+use Rattle.std.proofs.Common.{◌≡◌, ℕ, Bool, true, false, not, ◌&&◌, List, [], ◌∷◌, Option, Some, refl, ap, sym, subst, ◌∙◌}
 use Rattle.std.specs.Cmp.{both_ways as same_tests}
-use Rattle.std.specs.List.{AllByRecursion, fold, list_all}
-use Rattle.std.specs.Option.{unwrap_or, option_or}
+use Rattle.std.specs.List.{fold, list_all}
 use Rattle.std.specs.Ordering.{is_lt}
 use Rattle.std.specs.declared.cmp.Ordering.{Ordering}
 use Rattle.std.specs.declared.cmp.Ordering.TheVariants.{Less, Equal, Greater}
 use Rattle.std.proofs.lemmas.Bool.{and_parts, and_from, false_from_ne_true}
-use Rattle.std.proofs.lemmas.List.{take-map}
-use Rattle.std.proofs.lemmas.List.FromFn.{length-map-range_with_len, get_or-map-range_with_len}
-use Rattle.std.proofs.lemmas.Option.{slice_get-get_or}
+use Rattle.std.proofs.Math.Bool.{and-true}
 use Rattle.span_value.specs.declared.value.Value.{Value}
-use Rattle.span_value.specs.declared.value.Value.TheVariants.{Null}
 use Rattle.span_schema.specs.declared.table.Table.{Table}
 use Rattle.span_schema.specs.declared.layout.KeyPart.{KeyPart}
 use Rattle.span_schema.specs.Lineages.{MeetsRules}
-use Rattle.span_schema.specs.Numbers.{root_of, columns_of, key_columns, key_places, other_places, own_key_columns}
+use Rattle.span_schema.specs.Numbers.{root_of, key_columns, own_key_columns}
 use Rattle.span_keycode.specs.declared.range.KeyRange.{KeyRange}
 use Rattle.span_keycode.specs.Coding.{AreFit, Fits}
 use Rattle.span_keycode.specs.Keys.{IsKey, key_code}
@@ -24,16 +19,14 @@ use Rattle.span_keycode.specs.Order.{byte_order}
 use Rattle.span_keycode.specs.Parts.{family, is_between, is_within, part_between}
 use Rattle.span_keycode.specs.Ranges.{compares, range_start, range_end}
 use Rattle.span_keycode.proofs.FamilyRanges.{range_of_comparison}
-use Rattle.span_keycode.proofs.LevelLaws.{fit_length}
 use Rattle.span_keycode.proofs.PartLaws.{part_within, within_part}
 use Rattle.span_mutate.specs.declared.row.TableRow.{TableRow}
 use Rattle.span_mutate.specs.Typed.{IsTyped}
-use Rattle.span_expr.specs.Operators.{column_of, or_null}
+use Rattle.span_expr.specs.Operators.{column_of}
 use Rattle.span_leaves.specs.Ranges.{KeyBound, is_of_type, bounded, range_by}
-use Rattle.span_leaves.specs.Leaves.{width_of, root_places}
 use Rattle.span_leaves.proofs.Bounding.{fits_type, is_in_bounds}
 use Rattle.span_leaves.proofs.Cutting.{columns}
-use Rattle.span_machine.specs.Meaning.{value_for, value_at, declared_row, row_within}
+use Rattle.span_machine.specs.Meaning.{declared_row, row_within}
 use Rattle.span_machine_laws.proofs.FamilyRows.{root_first, first_within}
 use Rattle.span_machine_laws.proofs.FirstColumns.{first_place, IsOfFamily}
 use Rattle.span_rowreader.proofs.DeclaredRows.{key_of_columns}
@@ -74,11 +67,7 @@ module _ (schema : List Table) (rules : MeetsRules schema) where
 
     within_bounds : (t : ℕ) (v : Value) (vs : List Value) → IsKey schema t (v ∷ vs) → root_of schema t ≡ root → (bs : List KeyBound) → list_all (λ (b : KeyBound). is_of_type part.kind b.1) bs ≡ true → (r : KeyRange)
         → is_within (fold (bounded root part) r bs) (key_code schema t (v ∷ vs)) ≡ (is_within r (key_code schema t (v ∷ vs)) && is_in_bounds bs v)
-    within_bounds t v vs key root_is [] typed r = sym (and_true (is_within r (key_code schema t (v ∷ vs))))
-      where
-        and_true : (b : Bool) → (b && true) ≡ b
-        and_true true = refl
-        and_true false = refl
+    within_bounds t v vs key root_is [] typed r = sym (and-true (is_within r (key_code schema t (v ∷ vs))))
     within_bounds t v vs key root_is (b ∷ bs) typed r =
         let both = and_parts (is_of_type part.kind b.1) (list_all (λ (b : KeyBound). is_of_type part.kind b.1) bs) typed in
         let code : List ℕ = key_code schema t (v ∷ vs) in

@@ -1,12 +1,12 @@
 -- What a leaf gives on a range is what it gives on pieces that tile the range, one after another.
-use Rattle.std.proofs.Common.{◌≡◌, ℕ, zero, suc, ◌+◌, ◌<◌, Bool, true, false, cond, ◌||◌, List, [], ◌∷◌, ◌++◌, map, take, length, Option, Some, None, refl, ap, sym, subst, ◌∙◌}
+use Rattle.std.proofs.Common.{◌≡◌, ℕ, ◌+◌, ◌<◌, Bool, true, false, cond, ◌||◌, List, [], ◌∷◌, ◌++◌, map, length, Some, refl, ap, sym, subst, ◌∙◌}
 use Rattle.std.specs.Prelude.{filter}
 use Rattle.std.specs.List.{AllByRecursion}
 use Rattle.std.specs.Ordering.{is_lt}
 use Rattle.std.proofs.lemmas.List.{map-append}
 use Rattle.std.proofs.lemmas.List.Elements.{filter_agree}
 use Rattle.span_value.specs.declared.value.Value.{Value}
-use Rattle.span_value.proofs.Lists.{all_map}
+use Rattle.span_value.proofs.Lists.{all_map, all_take}
 use Rattle.span_schema.specs.declared.table.Table.{Table}
 use Rattle.span_schema.specs.Lineages.{MeetsRules}
 use Rattle.span_schema.specs.Numbers.{root_of, key_columns, key_places}
@@ -20,9 +20,9 @@ use Rattle.span_mutate.specs.declared.row.TableRow.{TableRow}
 use Rattle.span_mutate.specs.Database.{rows_of}
 use Rattle.span_mutate.specs.Directories.{IsDatabase}
 use Rattle.span_mutate.specs.Typed.{IsTyped, AreTyped}
-use Rattle.span_expr.specs.declared.expr.Expr.{Expr}
 use Rattle.span_query.specs.Rows.{Row, Rows, ◌>>=◌, append_results, concat_map, filter_where}
 use Rattle.span_shard.specs.Rows.{code_of}
+use Rattle.span_query.proofs.Results.{filter_where-nil}
 use Rattle.span_columns.specs.declared.leaf.Leaf.{Leaf}
 use Rattle.span_columns.specs.declared.leaf.LeafJoin.{LeafJoin}
 use Rattle.span_leaves.specs.Leaves.{width_of, root_places}
@@ -52,11 +52,6 @@ none_kept : {A : Type 0} (p : A → Bool) → ((x : A) → p x ≡ false) → (x
 none_kept p none [] = refl
 none_kept {A = A} p none (x ∷ xs) = ap (λ (b : Bool). cond b (x ∷ filter p xs) (filter p xs)) (none x) ∙ none_kept p none xs
 
-all_taken : (P : ℕ → Type 0) (n : ℕ) (xs : List ℕ) → AllByRecursion P xs → AllByRecursion P (take n xs)
-all_taken P zero xs all = tt {0}
-all_taken P (suc n) [] all = tt {0}
-all_taken P (suc n) (x ∷ xs) all = (all.0, all_taken P n xs all.1)
-
 -- ---- a leaf whose tables have no rows
 
 no_joins : (joins : List LeafJoin) (tables : List (List Row)) → join_tables joins tables [] ≡ Some []
@@ -65,11 +60,7 @@ no_joins (j ∷ joins) [] = refl
 no_joins (j ∷ joins) (right ∷ tables) = no_joins joins tables
 
 nothing_where : (leaf : Leaf) → filter_where leaf.filter [] ≡ Some []
-nothing_where leaf = of_filter leaf.filter
-  where
-    of_filter : (f : Option Expr) → filter_where f [] ≡ Some []
-    of_filter None = refl
-    of_filter (Some e) = refl
+nothing_where leaf = filter_where-nil leaf.filter
 
 no_rows : (leaf : Leaf) (tables : List (List Row)) → leaf_rows leaf ([] ∷ tables) ≡ Some []
 no_rows leaf tables = ap (λ (o : Rows). o >>= filter_where leaf.filter) (no_joins leaf.joins tables) ∙ nothing_where leaf
@@ -159,7 +150,7 @@ module _ (schema : List Table) (rules : MeetsRules schema) (db : List TableRow) 
         ap (λ (ts : List ℕ). leaf_rows leaf (tables_within schema db ts range)) is.tables
         ∙ ap (leaf_rows leaf) (whole_cuts tables)
         ∙ leaf-cut (is_before (root_of schema is.first)) (root_places schema is.first) (width_of schema is.first)
-        (all_taken (λ (p : ℕ). p < width_of schema is.first) (length (key_columns schema (root_of schema is.first))) (key_places schema is.first) (keyed schema is.first))
+        (all_take (λ (p : ℕ). p < width_of schema is.first) (length (key_columns schema (root_of schema is.first))) (key_places schema is.first) (keyed schema is.first))
         leaf (cut_of is.first) (map cut_of is.rest) (first_side is.first) (second_side is.first) (tables_cut is.first (width_of schema is.first) leaf.joins is.rest is.rooted)
         ∙ ap (λ (l : List (List Row)). append_results (leaf_rows leaf l) (leaf_rows leaf (map second_rows (map cut_of tables)))) (first_cuts tables)
         ∙ ap (λ (l : List (List Row)). append_results (leaf_rows leaf (tables_within schema db tables piece)) (leaf_rows leaf l)) (second_cuts tables)

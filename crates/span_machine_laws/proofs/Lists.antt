@@ -97,7 +97,7 @@ module _ {A : Type 0} (P : A → Type 0) where
 
   pub all_true : (p : A → Bool) → ((x : A) → p x ≡ true → P x) → (xs : List A) → list_all p xs ≡ true → AllByRecursion P xs
   all_true p means [] e = tt
-  all_true p means (x ∷ xs) e = (means x ((and_parts (p x) (list_all p xs) e).0), all_true p means xs ((and_parts (p x) (list_all p xs) e).1))
+  all_true p means (x ∷ xs) e = (means x (and_parts (p x) (list_all p xs) e).0, all_true p means xs (and_parts (p x) (list_all p xs) e).1)
 
   -- the first that passes is changed, and no other
   pub all_changed_found : (test : A → Bool) (change : A → A) (xs : List A) (x : A) → find test xs ≡ Some x → P (change x) → AllByRecursion P xs → AllByRecursion P (changed_first test change xs)

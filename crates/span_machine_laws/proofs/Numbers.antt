@@ -115,7 +115,7 @@ module _ (schema : List Table) (m : Machine) (numbered : IsNumbered m) where
       below = all_push (λ t. t.number < m.next_transaction + 1) m.transactions (record { owner = owner; number = m.next_transaction; mutations = ms; decision = decision.Undecided; prepared = [] })
           (all_weaker (λ t. t.number < m.next_transaction) (λ t. t.number < m.next_transaction + 1) (λ t low. omega arith) m.transactions numbered.below) (omega arith);
     };
-    prepares = λ owner txn slot t slot_state found here accepted well room low. numbered_changed _ (is_transaction owner txn) (add_prepared slot (prepare_timestamp slot_state)) (λ _. refl) refl refl;
+    prepares = λ owner txn slot t slot_state found here accepted well fits low. numbered_changed _ (is_transaction owner txn) (add_prepared slot (prepare_timestamp slot_state)) (λ _. refl) refl refl;
     commits = λ owner txn interval t found accepted. numbered_changed _ (is_transaction owner txn) (with_decision (decision.Committed (commit_timestamp m t interval))) (λ _. refl) refl refl;
     aborts = λ owner txn interval t found open_still. numbered_either (length t.prepared == 0) _ (is_transaction owner txn) (with_decision decision.Aborted) (λ _. refl) refl refl;
     applies = λ owner txn slot interval t slot_state found here accepted. numbered_applied t.decision owner txn slot t;

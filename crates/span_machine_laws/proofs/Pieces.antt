@@ -1,8 +1,9 @@
 -- The pieces that cover the leaves of open queries: each leaf's are apart, and end where directories do.
-use Rattle.std.proofs.Common.{◌≡◌, ℕ, zero, suc, ◌+◌, Bool, true, false, cond, List, [], ◌∷◌, ◌++◌, Option, Some, None, Result, refl, ap, sym, ◌∙◌, subst, inl, inr, ◌⊎◌}
-use Rattle.std.specs.Prelude.{◌&&◌, slice_get, slice_set, map, flat_map, insert, take, drop}
+use Rattle.std.proofs.Common.{◌≡◌, ℕ, zero, suc, ◌+◌, true, false, cond, List, [], ◌∷◌, ◌++◌, Option, Some, None, Result, refl, ap, sym, ◌∙◌, subst, inl, inr, ◌⊎◌}
+use Rattle.std.specs.Prelude.{slice_get, slice_set, map, flat_map, insert, take, drop}
 use Rattle.std.specs.List.{AllByRecursion, fold, list_all}
 use Rattle.std.specs.Ordering.{is_lt}
+use Rattle.std.proofs.lemmas.Bool.{and_parts}
 use Rattle.span_value.specs.declared.refusal.Refusal.{Refusal}
 use Rattle.span_schema.specs.declared.table.Table.{Table}
 use Rattle.span_schema.specs.declared.layout.KeyPart.{KeyPart}
@@ -32,7 +33,7 @@ use Rattle.span_machine.specs.declared.transaction.Decision.TheVariants as decis
 use Rattle.span_machine.specs.declared.transaction.OpenTransaction.{OpenTransaction}
 use Rattle.span_machine.specs.Machine.{Machine, answer, if_some, is_query, gap_in, add_piece, with_piece, cover, uncovered, statement_plan, as_opened, applied_at}
 use Rattle.span_machine.specs.Slots.{IsCut}
-use Rattle.span_machine_laws.proofs.Lists.{all_without, all_found, all_changed_found}
+use Rattle.span_machine_laws.proofs.Lists.{all_without, all_found, all_changed_found, one_or_other}
 use Rattle.span_machine_laws.proofs.Ranges.{HasRanges, cut_at}
 use Rattle.span_machine_laws.proofs.Walks.{Ends, answer_by}
 
@@ -101,10 +102,6 @@ module _ (P : List ℕ → Type 0) where
   abbrev Both : KeyRange → Type 0
   Both range = P range.low × P range.high
 
-  one_of : (b : Bool) (x y : List ℕ) → P x → P y → P (cond b x y)
-  one_of true x y p q = p
-  one_of false x y p q = q
-
   -- the ends of a gap are ends of the range or of pieces
   gap_ends : (range : KeyRange) (cs : List KeyRange) (g : KeyRange) → Both range → AllByRecursion Both cs → lowest_gap range cs ≡ Some g → Both g
   gap_ends range [] g ends all = elim (is_nonempty range) as (λ b. cond b (Some range) None ≡ Some g → Both g) [
@@ -112,18 +109,18 @@ module _ (P : List ℕ → Type 0) where
     | false ↦ λ e. absurd (cc)
   ]
   gap_ends range (c ∷ cs) g ends all = elim (is_nonempty (part_before c range)) as (λ b. cond b (Some (part_before c range)) (lowest_gap (part_after c range) cs) ≡ Some g → Both g) [
-    | true ↦ λ e. let same : part_before c range ≡ g = cc in subst Both same (ends.0, one_of (is_lt (byte_order range.high c.low)) range.high c.low ends.1 all.0.0)
-    | false ↦ λ e. gap_ends (part_after c range) cs g (one_of (is_lt (byte_order c.high range.low)) range.low c.high ends.0 all.0.1, ends.1) all.1 e
+    | true ↦ λ e. let same : part_before c range ≡ g = cc in subst Both same (ends.0, one_or_other P (is_lt (byte_order range.high c.low)) range.high c.low ends.1 all.0.0)
+    | false ↦ λ e. gap_ends (part_after c range) cs g (one_or_other P (is_lt (byte_order c.high range.low)) range.low c.high ends.0 all.0.1, ends.1) all.1 e
   ]
 
 module _ (schema : List Table) where
   later_end : (lo : Option (List ℕ)) (key : List ℕ) → IsCut schema lo → IsEnd schema key → IsEnd schema (later_of lo key)
   later_end None key cut is = is
-  later_end (Some l) key cut is = one_of (IsEnd schema) (is_lt (byte_order l key)) key l is (inl cut)
+  later_end (Some l) key cut is = one_or_other (IsEnd schema) (is_lt (byte_order l key)) key l is (inl cut)
 
   earlier_end : (hi : Option (List ℕ)) (key : List ℕ) → IsCut schema hi → IsEnd schema key → IsEnd schema (earlier_of hi key)
   earlier_end None key cut is = is
-  earlier_end (Some h) key cut is = one_of (IsEnd schema) (is_lt (byte_order key h)) key h is (inl cut)
+  earlier_end (Some h) key cut is = one_or_other (IsEnd schema) (is_lt (byte_order key h)) key h is (inl cut)
 
 -- ---- the ranges of leaves
 
@@ -136,16 +133,13 @@ module _ (schema : List Table) where
     bounded_ends : (bs : List KeyBound) → list_all (λ (b : KeyBound). is_of_type part.kind b.1) bs ≡ true → (r : KeyRange) → AreEnds schema r → AreEnds schema (fold (bounded (root_of schema table) part) r bs)
     bounded_ends [] typed r ends = ends
     bounded_ends (b ∷ bs) typed r ends =
-        let parts_of = both (is_of_type part.kind b.1) (list_all (λ (x : KeyBound). is_of_type part.kind x.1) bs) typed in
+        let parts_of = and_parts (is_of_type part.kind b.1) (list_all (λ (x : KeyBound). is_of_type part.kind x.1) bs) typed in
         let low : List ℕ = range_start (root_of schema table) part b.0 b.1 in
         let high : List ℕ = range_end (root_of schema table) part b.0 b.1 in
         bounded_ends bs parts_of.1 (bounded (root_of schema table) part r b) (
-          one_of (IsEnd schema) (is_lt (byte_order low r.low)) r.low low ends.0 (inr (inr (record { table = table; part = part; parts = parts; columns = columns; comparison = b.0; value = b.1; typed = parts_of.0; is = inl refl }))),
-          one_of (IsEnd schema) (is_lt (byte_order r.high high)) r.high high ends.1 (inr (inr (record { table = table; part = part; parts = parts; columns = columns; comparison = b.0; value = b.1; typed = parts_of.0; is = inr refl }))),
-        ) where
-          both : (a c : Bool) → (a && c) ≡ true → (a ≡ true) × (c ≡ true)
-          both true c is = (refl, is)
-          both false c is = cc
+          one_or_other (IsEnd schema) (is_lt (byte_order low r.low)) r.low low ends.0 (inr (inr (record { table = table; part = part; parts = parts; columns = columns; comparison = b.0; value = b.1; typed = parts_of.0; is = inl refl }))),
+          one_or_other (IsEnd schema) (is_lt (byte_order r.high high)) r.high high ends.1 (inr (inr (record { table = table; part = part; parts = parts; columns = columns; comparison = b.0; value = b.1; typed = parts_of.0; is = inr refl }))),
+        )
 
   narrowed_ends : (table at : ℕ) (es : List Expr) (columns : List KeyPart) (places : List ℕ) → key_columns schema table ≡ columns → AreEnds schema (narrowed (root_of schema table) columns places at es)
   narrowed_ends table at es [] places is = family_ends (root_of schema table)
@@ -232,7 +226,7 @@ piece_ends : (schema : List Table) (m : Machine) (u : Result Statement Refusal) 
 piece_ends schema m u ranges are = record {
   refuses = λ step why may. are;
   begins = λ owner ms accepted. are;
-  prepares = λ owner txn slot t slot_state found here accepted well room low. are;
+  prepares = λ owner txn slot t slot_state found here accepted well fits low. are;
   commits = λ owner txn interval t found accepted. are;
   aborts = λ owner txn interval t found open_still. are;
   applies = λ owner txn slot interval t slot_state found here accepted. queries_applied schema m are t.decision owner txn slot t;

@@ -71,10 +71,10 @@ module _ (schema : List Table) (rules : MeetsRules schema) (root : Root) (is : I
       let same : a ≡ slot_state = cc in
       claim_first schema root slot a.last b.last (commits_at schema root m.log) (commits_at schema root m.log) (is_transaction owner txn) (add_prepared slot (prepare_timestamp slot_state)) m.transactions t found (λ rest empty. record {
         neither = λ x y. (low, refl);
-        both = λ x y. absurd (both_ways (is_prepared_at slot t) may.1 ((and_parts (is_prepared_at slot t) (is_some_of (filter (is_at schema root) t.mutations)) x).0));
-        leaves = λ x y. absurd (both_ways (is_prepared_at slot t) may.1 ((and_parts (is_prepared_at slot t) (is_some_of (filter (is_at schema root) t.mutations)) x).0));
+        both = λ x y. absurd (both_ways (is_prepared_at slot t) may.1 (and_parts (is_prepared_at slot t) (is_some_of (filter (is_at schema root) t.mutations)) x).0);
+        leaves = λ x y. absurd (both_ways (is_prepared_at slot t) may.1 (and_parts (is_prepared_at slot t) (is_some_of (filter (is_at schema root) t.mutations)) x).0);
         comes = λ x y. (
-          empty x ∙ unclaimed schema root is slot (mutations_in schema slot_state t.mutations) m.transactions (subst (λ l. is_some_of l ≡ true) (sym whole) ((and_parts (is_prepared_at slot (add_prepared slot (prepare_timestamp slot_state) t)) (is_some_of (filter (is_at schema root) t.mutations)) y).1)) may.2,
+          empty x ∙ unclaimed schema root is slot (mutations_in schema slot_state t.mutations) m.transactions (subst (λ l. is_some_of l ≡ true) (sym whole) (and_parts (is_prepared_at slot (add_prepared slot (prepare_timestamp slot_state) t)) (is_some_of (filter (is_at schema root) t.mutations)) y).1) may.2,
           λ below. subst (IsClaimed schema root b.last (commits_at schema root m.log) (add_prepared slot (prepare_timestamp slot_state) t)) (sym (undecided_is t.decision may.0)) (record {
             below = below_up a.last b.last (commits_at schema root m.log) low below;
             under = all_under a.last (greatest (t.prepared ++ (record { slot = slot; timestamp = prepare_timestamp slot_state }) ∷ [])) (commits_at schema root m.log) (prepared_last a slot_state t.prepared slot same) below;
@@ -138,7 +138,7 @@ module _ (schema : List Table) (rules : MeetsRules schema) (root : Root) (is : I
               claim = λ b h. let old = lifts.from slot b h in
                   claim_first schema root slot old.0.last b.last (commits_at schema root m.log) (commits_at schema root (m.log ++ commit_of ts t ∷ [])) (is_transaction owner txn) (with_decision (decision.Committed ts)) m.transactions t found (λ rest empty. record {
                     neither = λ x y. (old.2, sym same);
-                    both = λ x y. absurd (both_ways (is_some_of (filter (is_at schema root) t.mutations)) e ((and_parts (is_prepared_at slot t) (is_some_of (filter (is_at schema root) t.mutations)) x).1));
+                    both = λ x y. absurd (both_ways (is_some_of (filter (is_at schema root) t.mutations)) e (and_parts (is_prepared_at slot t) (is_some_of (filter (is_at schema root) t.mutations)) x).1);
                     leaves = λ x y. absurd (both_ways (claims schema root slot t) y x);
                     comes = λ x y. absurd (both_ways (claims schema root slot t) x y);
                   }) (o.claim old.0 old.1);
@@ -194,9 +194,9 @@ module _ (schema : List Table) (rules : MeetsRules schema) (root : Root) (is : I
         | true ↦ claim_without schema root slot n k (commits_at schema root m.log) (is_transaction owner txn) m.transactions t found low (λ x g. drop g) h
         | false ↦ claim_first schema root slot n k (commits_at schema root m.log) (commits_at schema root m.log) (is_transaction owner txn) (without_prepared slot) m.transactions t found (λ rest empty. record {
           neither = λ x y. (low, refl);
-          both = λ x y. absurd (both_ways (is_prepared_at slot (without_prepared slot t)) gone ((and_parts (is_prepared_at slot (without_prepared slot t)) (is_some_of (filter (is_at schema root) t.mutations)) y).0));
+          both = λ x y. absurd (both_ways (is_prepared_at slot (without_prepared slot t)) gone (and_parts (is_prepared_at slot (without_prepared slot t)) (is_some_of (filter (is_at schema root) t.mutations)) y).0);
           leaves = λ x y g. drop g;
-          comes = λ x y. absurd (both_ways (is_prepared_at slot (without_prepared slot t)) gone ((and_parts (is_prepared_at slot (without_prepared slot t)) (is_some_of (filter (is_at schema root) t.mutations)) y).0));
+          comes = λ x y. absurd (both_ways (is_prepared_at slot (without_prepared slot t)) gone (and_parts (is_prepared_at slot (without_prepared slot t)) (is_some_of (filter (is_at schema root) t.mutations)) y).0);
         }) h
       ]
 
@@ -208,7 +208,7 @@ module _ (schema : List Table) (rules : MeetsRules schema) (root : Root) (is : I
       let alike : claims schema root slot (without_prepared i t) ≡ claims schema root slot t = ap (λ b. b && is_some_of (filter (is_at schema root) t.mutations)) still in
       elim (length (without_prepared i t).prepared == 0) as (λ v. (length (without_prepared i t).prepared == 0) ≡ v → IsClaim schema root k (commits_at schema root m.log) (filter (claims schema root slot) (cond v (without_first (is_transaction owner txn) m.transactions) (changed_first (is_transaction owner txn) (without_prepared i) m.transactions)))) [
         | true ↦ λ e. claim_without schema root slot n k (commits_at schema root m.log) (is_transaction owner txn) m.transactions t found low
-            (λ x g. absurd (both_ways (is_prepared_at slot t) (sym still ∙ none_left slot (without_prepared i t).prepared e) ((and_parts (is_prepared_at slot t) (is_some_of (filter (is_at schema root) t.mutations)) x).0))) h
+            (λ x g. absurd (both_ways (is_prepared_at slot t) (sym still ∙ none_left slot (without_prepared i t).prepared e) (and_parts (is_prepared_at slot t) (is_some_of (filter (is_at schema root) t.mutations)) x).0)) h
         | false ↦ λ e. claim_first schema root slot n k (commits_at schema root m.log) (commits_at schema root m.log) (is_transaction owner txn) (without_prepared i) m.transactions t found (λ rest empty. record {
           neither = λ x y. (low, refl);
           both = λ x y g. keep g;
@@ -294,7 +294,7 @@ module _ (schema : List Table) (rules : MeetsRules schema) (root : Root) (is : I
   placed_ends u = record {
     refuses = λ step why may. (slot, o);
     begins = λ owner ms accepted. (slot, begin_placed owner ms);
-    prepares = λ owner txn i t slot_state found here accepted well room low. (slot, prepare_there owner txn i t slot_state found here accepted well);
+    prepares = λ owner txn i t slot_state found here accepted well fits low. (slot, prepare_there owner txn i t slot_state found here accepted well);
     commits = λ owner txn interval t found accepted.
         let may = may_commit (is_undecided t) (is_all_prepared schema m t) (nat_le timestamp_end (commit_timestamp m t interval)) accepted in
         (slot, commit_here owner txn (commit_timestamp m t interval) t found may.0 may.1 (omega arith) (leb-false timestamp_end (commit_timestamp m t interval) may.2));

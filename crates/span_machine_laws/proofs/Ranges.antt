@@ -230,7 +230,7 @@ ranges_ends : (schema : List Table) (m : Machine) (u : Result Statement Refusal)
 ranges_ends schema m u = record {
   refuses = λ step why may. inl refl;
   begins = λ owner ms accepted. inl refl;
-  prepares = λ owner txn slot t slot_state found here accepted well room low. inl (ranges_set m.slots slot slot_state _ here refl);
+  prepares = λ owner txn slot t slot_state found here accepted well fits low. inl (ranges_set m.slots slot slot_state _ here refl);
   commits = λ owner txn interval t found accepted. inl (ranges_last m.slots (coordinator_slot t.prepared) (commit_timestamp m t interval));
   aborts = λ owner txn interval t found open_still. inl refl;
   applies = λ owner txn slot interval t slot_state found here accepted. inl (ranges_applied m t.decision owner txn slot t);

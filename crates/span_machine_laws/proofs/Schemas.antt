@@ -87,7 +87,7 @@ module _ (schema : List Table) (m : Machine) (by : IsBySchema schema m) where
       transactions = all_push (IsBegunBy schema) m.transactions (record { owner = owner; number = m.next_transaction; mutations = ms; decision = decision.Undecided; prepared = [] }) by.transactions of;
       log = by.log;
     };
-    prepares = λ owner txn slot t slot_state found here accepted well room low of. either_by false _ (is_transaction owner txn) (add_prepared slot (prepare_timestamp slot_state)) (λ t k. k) refl refl;
+    prepares = λ owner txn slot t slot_state found here accepted well fits low of. either_by false _ (is_transaction owner txn) (add_prepared slot (prepare_timestamp slot_state)) (λ t k. k) refl refl;
     commits = λ owner txn interval t found accepted of. record {
       transactions = all_changed (IsBegunBy schema) (is_transaction owner txn) (with_decision (decision.Committed (commit_timestamp m t interval))) (λ t k. k) m.transactions by.transactions;
       log = all_push (IsCommitBy schema) m.log (commit_of (commit_timestamp m t interval) t) by.log (all_found (IsBegunBy schema) (is_transaction owner txn) m.transactions t found by.transactions);

@@ -191,8 +191,8 @@ module _ (schema : List Table) (root : Root) (is : IsRoot schema root) (s : ℕ)
   some_prepared t [] = λ e all above. cc
   some_prepared t (mu ∷ ms) = elim (is_at schema root mu) as (λ v. is_at schema root mu ≡ v → is_some_of (cond v (mu ∷ filter (is_at schema root) ms) (filter (is_at schema root) ms)) ≡ true → (is_prepared_for schema m t mu && list_all (is_prepared_for schema m t) ms) ≡ true
       → ((i : ℕ) (b : SlotState) → slice_get m.slots i ≡ Some b → holds schema b root ≡ true → IsAbove s i t) → s < greatest t.prepared) [
-        | true ↦ λ at e all above. prepared_above (root_at schema mu) t.prepared ((and_parts _ _ all).0) (λ i b h k. above i b h (subst (λ (q : Root). holds schema b q ≡ true) (sym (own_root schema root mu is at)) k))
-        | false ↦ λ at e all above. some_prepared t ms e ((and_parts _ _ all).1) above
+        | true ↦ λ at e all above. prepared_above (root_at schema mu) t.prepared (and_parts _ _ all).0 (λ i b h k. above i b h (subst (λ (q : Root). holds schema b q ≡ true) (sym (own_root schema root mu is at)) k))
+        | false ↦ λ at e all above. some_prepared t ms e (and_parts _ _ all).1 above
       ] refl
 
   -- a commit that touches the directory is above s
@@ -202,7 +202,7 @@ module _ (schema : List Table) (root : Root) (is : IsRoot schema root) (s : ℕ)
     | false ↦ λ e. inl refl
     | true ↦ λ e.
         let ready : is_all_prepared schema m t ≡ true = (may_commit (is_undecided t) (is_all_prepared schema m t) (nat_le timestamp_end (commit_timestamp m t interval)) accepted).1 in
-        let above : s < greatest t.prepared = some_prepared t t.mutations e ((and_parts (not (length t.prepared == 0)) (list_all (is_prepared_for schema m t) t.mutations) ready).1) (λ i b h k. all_found (IsAbove s i) (is_transaction owner txn) m.transactions t found (sealed.prepared i b h k)) in
+        let above : s < greatest t.prepared = some_prepared t t.mutations e (and_parts (not (length t.prepared == 0)) (list_all (is_prepared_for schema m t) t.mutations) ready).1 (λ i b h k. all_found (IsAbove s i) (is_transaction owner txn) m.transactions t found (sealed.prepared i b h k)) in
         inr (omega arith)
   ] refl
 
@@ -226,7 +226,7 @@ module _ (schema : List Table) (root : Root) (is : IsRoot schema root) (s : ℕ)
     refuses = λ step why may. kept_as_is (refused m why) refl;
     begins = λ owner ms accepted. kept_by (begun m owner ms) (rises_same m.slots)
         (λ i b h k all. all_push (IsAbove s i) m.transactions (record { owner = owner; number = m.next_transaction; mutations = ms; decision = decision.Undecided; prepared = [] }) all tt) refl;
-    prepares = λ owner txn slot t slot_state found here accepted well room low. kept_by (prepared m owner txn slot slot_state) (rises_set m.slots slot slot_state (record slot_state { last = prepare_timestamp slot_state }) here (omega arith) (λ _ k. k))
+    prepares = λ owner txn slot t slot_state found here accepted well fits low. kept_by (prepared m owner txn slot slot_state) (rises_set m.slots slot slot_state (record slot_state { last = prepare_timestamp slot_state }) here (omega arith) (λ _ k. k))
         (λ i b h k all. all_changed (IsAbove s i) (is_transaction owner txn) (add_prepared slot (prepare_timestamp slot_state))
         (λ u above. all_push (λ p. p.slot ≡ i → s < p.timestamp) u.prepared (record { slot = slot; timestamp = prepare_timestamp slot_state }) above (new_above slot i slot_state b here h k)) m.transactions all)
         refl;

@@ -67,7 +67,7 @@ module _ (schema : List Table) (m : Machine) (sound : IsSound schema m) where
         grind (arith, nat_tests),
         all_true (IsAbove s slot) (λ t. list_all (λ p. not (p.slot == slot) || nat_lt s p.timestamp) t.prepared)
             (λ t e. all_true (λ p. p.slot ≡ slot → s < p.timestamp) (λ p. not (p.slot == slot) || nat_lt s p.timestamp) (λ p e same. above_by p.slot slot s p.timestamp e same) t.prepared e)
-            m.transactions ((and_parts (nat_le s slot_state.floor) _ safe).1),
+            m.transactions (and_parts (nat_le s slot_state.floor) _ safe).1,
       )
 
   -- the directories of a slot that is safe are sealed
@@ -111,7 +111,7 @@ module _ (schema : List Table) (m : Machine) (sound : IsSound schema m) where
   sound_ends ranges u = record {
     refuses = λ step why may. goes_same m refl;
     begins = λ owner ms accepted. goes_same _ refl;
-    prepares = λ owner txn slot t slot_state found here accepted well room low. goes_same _ refl;
+    prepares = λ owner txn slot t slot_state found here accepted well fits low. goes_same _ refl;
     commits = λ owner txn interval t found accepted. goes_same _ refl;
     aborts = λ owner txn interval t found open_still. goes_same _ refl;
     applies = λ owner txn slot interval t slot_state found here accepted. goes_applied t.decision owner txn slot t;

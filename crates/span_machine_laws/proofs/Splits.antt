@@ -5,6 +5,7 @@ use Rattle.std.specs.Ordering.{is_lt}
 use Rattle.std.proofs.lemmas.Bool.{not-true, not_from_false, and_from, and_parts}
 use Rattle.std.proofs.lemmas.Option.{get_or_from_slice_get}
 use Rattle.std.proofs.lemmas.List.Quantifiers.{position-Some}
+use Rattle.std.proofs.Math.Nat.{suc_inj}
 use Rattle.span_value.specs.Results.{first_cause}
 use Rattle.span_value.specs.declared.refusal.Refusal.TheVariants as refusal
 use Rattle.span_keycode.specs.Order.{byte_order}
@@ -43,7 +44,7 @@ below_parts code slot_state key inside e =
 pub from_parts : (code : List ℕ) (slot_state : SlotState) (key : List ℕ) → has_key slot_state code ≡ true → has_key (part_from code slot_state) key ≡ true → (has_key slot_state key ≡ true) × IsUpto code key
 unfolding is_between
 from_parts code slot_state key inside e =
-    let after : IsUpto code key = not-true (is_lt (byte_order key code)) ((and_parts (not (is_lt (byte_order key code))) (is_upto slot_state.hi key) e).0) in
+    let after : IsUpto code key = not-true (is_lt (byte_order key code)) (and_parts (not (is_lt (byte_order key code))) (is_upto slot_state.hi key) e).0 in
     let high : is_upto slot_state.hi key ≡ true = (and_parts (not (is_lt (byte_order key code))) (is_upto slot_state.hi key) e).1 in
     let low : is_from slot_state.lo code ≡ true = (and_parts (is_from slot_state.lo code) (is_upto slot_state.hi code) inside).0 in
     (and_from (is_from slot_state.lo key) (is_upto slot_state.hi key) (from_above slot_state.lo code key low after) high, after)
@@ -52,12 +53,12 @@ from_parts code slot_state key inside e =
 pub below_has : (code : List ℕ) (slot_state : SlotState) (key : List ℕ) → has_key slot_state key ≡ true → IsBefore key code → has_key (part_below code slot_state) key ≡ true
 unfolding is_between
 below_has code slot_state key has before =
-    and_from (is_from slot_state.lo key) (is_lt (byte_order key code)) ((and_parts (is_from slot_state.lo key) (is_upto slot_state.hi key) has).0) before
+    and_from (is_from slot_state.lo key) (is_lt (byte_order key code)) (and_parts (is_from slot_state.lo key) (is_upto slot_state.hi key) has).0 before
 
 pub from_has : (code : List ℕ) (slot_state : SlotState) (key : List ℕ) → has_key slot_state key ≡ true → IsUpto code key → has_key (part_from code slot_state) key ≡ true
 unfolding is_between
 from_has code slot_state key has after =
-    and_from (not (is_lt (byte_order key code))) (is_upto slot_state.hi key) (not_from_false (is_lt (byte_order key code)) after) ((and_parts (is_from slot_state.lo key) (is_upto slot_state.hi key) has).1)
+    and_from (not (is_lt (byte_order key code))) (is_upto slot_state.hi key) (not_from_false (is_lt (byte_order key code)) after) (and_parts (is_from slot_state.lo key) (is_upto slot_state.hi key) has).1
 
 -- the slot that a key is found in has it
 pub found_has : (slots : List SlotState) (key : List ℕ) (slot : ℕ) (slot_state : SlotState) → slot_of slots key ≡ Some slot → slice_get slots slot ≡ Some slot_state → has_key slot_state key ≡ true
@@ -90,12 +91,9 @@ split_place (c ∷ cs) (suc slot) lower upper b (suc i) h = elim (split_place cs
   | inl e ↦ inl (ap suc e.0, e.1)
   | inr rest ↦ (elim rest [
     | inl e ↦ inr (inl (ap suc e.0, e.1))
-    | inr e ↦ inr (inr (e.0, λ same. e.1 (next_same i slot same)))
+    | inr e ↦ inr (inr (e.0, λ same. e.1 (suc_inj same)))
   ])
 ]
-  where
-    next_same : (j k : ℕ) → suc j ≡ suc k → j ≡ k
-    next_same j k e = cc
 
 -- the lower part is at its place, the new slot at the end, and every other as it was
 pub split_here : (slots : List SlotState) (slot : ℕ) (a lower upper : SlotState) → slice_get slots slot ≡ Some a → slice_get (slice_set slots slot lower ++ upper ∷ []) slot ≡ Some lower

@@ -96,9 +96,9 @@ module _ (schema : List Table) (m : Machine) (u : Result Statement Refusal) (P :
       by_slot (Prepare owner txn slot) tt slot (prepare_transaction schema m owner txn slot t) (λ slot_state here.
       by_refusal (Prepare owner txn slot) (λ why. tt) (prepare_refusal schema m slot t slot_state) (faulted owner txn slot t slot_state) (λ accepted.
       by_refusal (Prepare owner txn slot) (λ why. tt) (mutations_refusal schema m (mutations_in schema slot_state t.mutations)) (crowded owner txn slot t slot_state) (λ well.
-      by_refusal (Prepare owner txn slot) (λ why. tt) (capacity_refusal schema m slot slot_state (mutations_in schema slot_state t.mutations)) (stamped owner txn slot slot_state) (λ room.
+      by_refusal (Prepare owner txn slot) (λ why. tt) (capacity_refusal schema m slot slot_state (mutations_in schema slot_state t.mutations)) (stamped owner txn slot slot_state) (λ fits.
       by_refusal (Prepare owner txn slot) (λ why. tt) (first_cause ((nat_le timestamp_end (prepare_timestamp slot_state), refusal.TimestampRange) ∷ [])) (prepared m owner txn slot slot_state) (λ low.
-      ends.prepares owner txn slot t slot_state found here accepted well room low))))))
+      ends.prepares owner txn slot t slot_state found here accepted well fits low))))))
 
   decide_by : (owner txn : ℕ) (v : Verdict) (interval : Interval) → P (Decide owner txn v interval) (decide schema m owner txn v interval)
   decide_by owner txn verdict.Commit interval = by_transaction (Decide owner txn verdict.Commit interval) tt owner txn (decide_transaction schema m owner txn verdict.Commit interval) (λ t found.

@@ -15,6 +15,7 @@ use Rattle.std.proofs.lemmas.Map.Entries.{lookup_at_gap, lookup_from_place}
 use Rattle.std.proofs.lemmas.Map.Keys.{IsDistinct-from_sorted}
 use Rattle.std.proofs.lemmas.Map.Views.{All-keys-insert_entry, All-map-remove_entry}
 use Rattle.std.proofs.lemmas.Option.{slice_get_within, get_or_from_slice_get}
+use Rattle.std.proofs.lemmas.Bool.{or_left, or_right}
 use Rattle.span_value.proofs.Lists.{all_append, all_weaker, filter_all, filter_none}
 use Rattle.span_value.proofs.Comparisons.{is_less}
 use Rattle.span_keycode.specs.Order.{byte_order, is_same}
@@ -384,14 +385,6 @@ added_both ps qs front old middle new order g h = record {
     Is : Made → List ℕ → Type 0
     Is made k = (begins_with k front ≡ true) × ((row : List ℕ) × (made_at made k ≡ Some row))
 
-    or_first : (a b : Bool) → a ≡ true → (a || b) ≡ true
-    or_first true b e = refl
-    or_first false b e = absurd (let f : false ≡ true = e in cc)
-
-    or_second : (a b : Bool) → b ≡ true → (a || b) ≡ true
-    or_second true b e = refl
-    or_second false b e = e
-
     of_first : (k row : List ℕ) → begins_with k front ≡ true → made_at (ps ++ qs) k ≡ Some row → (o : Option (List ℕ)) → made_at ps k ≡ o → (list_any (is_same k) g.added || list_any (is_same k) h.added) ≡ true
-    of_first k row b e (Some r) f = or_first (list_any (is_same k) g.added) (list_any (is_same k) h.added) (g.are.complete k r b f)
-    of_first k row b e None f = or_second (list_any (is_same k) g.added) (list_any (is_same k) h.added) (h.are.complete k row b (sym (not_in_first ps qs k f) ∙ e))
+    of_first k row b e (Some r) f = or_left (list_any (is_same k) g.added) (list_any (is_same k) h.added) (g.are.complete k r b f)
+    of_first k row b e None f = or_right (list_any (is_same k) g.added) (list_any (is_same k) h.added) (h.are.complete k row b (sym (not_in_first ps qs k f) ∙ e))

@@ -1,5 +1,5 @@
 -- Keys at which rows were made, from one on, as they are added one after another.
-use Rattle.std.proofs.Common.{◌≡◌, ◌⊎◌, inl, inr, ℕ, Bool, true, false, not, ◌||◌, ◌&&◌, cond, List, [], ◌∷◌, ◌++◌, Some, None, drop, length, refl, sym, ap, subst, ◌∙◌, append_assoc}
+use Rattle.std.proofs.Common.{◌≡◌, ◌⊎◌, inl, inr, ℕ, Bool, true, false, not, ◌&&◌, cond, List, [], ◌∷◌, ◌++◌, Some, None, drop, length, refl, sym, ap, subst, ◌∙◌, append_assoc}
 use Rattle.std.specs.List.{filter, list_any, AllByRecursion}
 use Rattle.std.specs.List.Sorted.{IsStrictlySortedBy}
 use Rattle.std.specs.Ordering.{is_lt, is_le, ordering_reverse}
@@ -8,7 +8,7 @@ use Rattle.std.specs.declared.cmp.Ordering.TheVariants.{Less, Equal, Greater}
 use Rattle.std.specs.BTreeMap.{is_at}
 use Rattle.std.specs.Map.{keys_of}
 use Rattle.std.specs.Cmp.{tied_itself}
-use Rattle.std.proofs.lemmas.Bool.{not-true}
+use Rattle.std.proofs.lemmas.Bool.{not-true, or_left, or_right}
 use Rattle.std.proofs.lemmas.List.{append-nil}
 use Rattle.std.proofs.lemmas.List.Folds.{list_any-append}
 use Rattle.std.proofs.lemmas.List.Kept.{IsStrictlySortedBy-filter}
@@ -111,7 +111,7 @@ pushing_next es front old new next key row before rest is more begun h = moved (
       whole = more ∙ ap (λ (l : List (List ℕ)). l ++ key ∷ []) g.whole ∙ append_assoc old g.added (key ∷ []);
       sound = all_append _ g.added (key ∷ []) g.sound ((begun, (row, g.own key row (here_at key row rest))), tt);
       left = λ k r b e. elim (g.left k r b e) [
-        | inl f ↦ inl (list_any-append (is_same k) g.added (key ∷ []) ∙ or_first (list_any (is_same k) g.added) (list_any (is_same k) (key ∷ [])) f)
+        | inl f ↦ inl (list_any-append (is_same k) g.added (key ∷ []) ∙ or_left (list_any (is_same k) g.added) (list_any (is_same k) (key ∷ [])) f)
         | inr f ↦ by_key k r f (is_same k key) refl
       ];
       own = λ k o e. g.own k o (tail_own key row rest g.sorted k o e);
@@ -119,16 +119,8 @@ pushing_next es front old new next key row before rest is more begun h = moved (
       from = g.from.1;
     }
       where
-        or_first : (a b : Bool) → a ≡ true → (a || b) ≡ true
-        or_first true b e = refl
-        or_first false b e = absurd (let f : false ≡ true = e in cc)
-
-        or_second : (a b : Bool) → b ≡ true → (a || b) ≡ true
-        or_second true b e = refl
-        or_second false b e = e
-
         by_key : (k r : List ℕ) → made_at ((key, row) ∷ rest) k ≡ Some r → (b : Bool) → is_same k key ≡ b → (list_any (is_same k) (g.added ++ key ∷ []) ≡ true) ⊎ (made_at rest k ≡ Some r)
-        by_key k r f true e = inl (list_any-append (is_same k) g.added (key ∷ []) ∙ or_second (list_any (is_same k) g.added) (list_any (is_same k) (key ∷ [])) (or_first (is_same k key) false e))
+        by_key k r f true e = inl (list_any-append (is_same k) g.added (key ∷ []) ∙ or_right (list_any (is_same k) g.added) (list_any (is_same k) (key ∷ [])) (or_left (is_same k key) false e))
         by_key k r f false e = inr (sym (ap (λ (b : Bool). cond b (Some row) (made_at rest k)) e) ∙ f)
 
 -- where the next key doesn't begin with the front, no later one does

@@ -24,7 +24,7 @@ use Rattle.span_mutate.specs.Rows.{begins, is_same_key, is_at, row_at, with_row}
 use Rattle.span_mutate.specs.Database.{is_at_or_below, all_tables, tables_under, is_under, is_delete_blocked, lacks_parent, is_insert, is_update, cells_after, causes, row_after, without_rows, changed, apply_one, apply}
 use Rattle.span_mutate.specs.Directories.{key_len, IsKeyed, rows_cmp, IsDatabase, HasParents, ParentsStay}
 use Rattle.span_mutate.proofs.Begins.{same_key, front_on, taken_begins}
-use Rattle.std.proofs.lemmas.Bool.{and_from, not-true, and_parts, eqb-true}
+use Rattle.std.proofs.lemmas.Bool.{and_from, not-true, and_parts, eqb-true, not-false}
 use Rattle.std.proofs.Math.Bool.{or-true}
 use Rattle.span_value.proofs.Lists.{all_weaker}
 use Rattle.span_mutate.proofs.Families.{number_here}
@@ -171,12 +171,8 @@ parent_placed : (tables : List Table) (o : Option ℕ) (key : List Value) (r : T
 parent_placed tables None key r db h = refl
 parent_placed tables (Some q) key r db h =
     let p : TableRow → Bool = is_at q (take (key_len tables q) key) in
-    let was : list_any p db ≡ true = not_false (list_any p db) (sym (some_found p db) ∙ h) in
+    let was : list_any p db ≡ true = not-false (list_any p db) (sym (some_found p db) ∙ h) in
     some_found p (put (rows_cmp tables) r db) ∙ ap not (still_there tables q (take (key_len tables q) key) r db was)
-  where
-    not_false : (b : Bool) → not b ≡ false → b ≡ true
-    not_false true e = refl
-    not_false false e = absurd cc
 
 third : (a b c : Bool) (u v w : Refusal) (rest : List (Bool × Refusal)) → first_cause ((a, u) ∷ (b, v) ∷ (c, w) ∷ rest) ≡ None → c ≡ false
 third true b c u v w rest e = absurd cc

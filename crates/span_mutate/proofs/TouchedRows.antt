@@ -15,7 +15,7 @@ use Rattle.span_mutate.specs.Rows.{begins, row_at, with_row}
 use Rattle.span_mutate.specs.Database.{is_at_or_below, tables_under, all_tables, is_under, causes, row_after, without_rows, changed, apply_one, apply}
 use Rattle.span_mutate.specs.Directories.{Root, is_in_directory, directory, IsKeyed, AreKeyed, root_row, rows_cmp, IsInOrder, IsDatabase}
 use Rattle.span_mutate.specs.Touched.{is_touched, IsSameOutcome, TouchedAlone}
-use Rattle.std.proofs.lemmas.Bool.{and_parts, not_from_true}
+use Rattle.std.proofs.lemmas.Bool.{and_parts, not_from_true, or_right}
 use Rattle.span_value.proofs.Lists.{filter_swap}
 use Rattle.span_mutate.proofs.Families.{below_root}
 use Rattle.span_mutate.proofs.Filters.{filter_within, found_passes}
@@ -165,11 +165,7 @@ same_run tables rules q (m ∷ ms) keyed covers a b is_a is_b e =
 
 -- the touched keys have the directory of each mutation
 more_touched : (tables : List Table) (ms : List CheckedMutation) (m : CheckedMutation) (n : ℕ) (key : List Value) → is_touched tables ms n key ≡ true → is_touched tables (m ∷ ms) n key ≡ true
-more_touched tables ms m n key e = or_true (is_in_directory tables (root_row tables m.table m.key) n key) (is_touched tables ms n key) e
-  where
-    or_true : (a b : Bool) → b ≡ true → (a || b) ≡ true
-    or_true true b e = refl
-    or_true false b e = e
+more_touched tables ms m n key e = or_right (is_in_directory tables (root_row tables m.table m.key) n key) (is_touched tables ms n key) e
 
 widened : (tables : List Table) (p q : ℕ → List Value → Bool) → ((n : ℕ) (key : List Value) → p n key ≡ true → q n key ≡ true) → (ms : List CheckedMutation) → AllByRecursion (Covers tables p) ms → AllByRecursion (Covers tables q) ms
 widened tables p q wider [] h = tt

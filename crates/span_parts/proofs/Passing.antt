@@ -64,7 +64,7 @@ module _ (asks : Asks) where
     passing_ends u = record {
       refuses = λ s why may quiet. same m refl refl;
       begins = λ owner ms accepted quiet. same _ refl refl;
-      prepares = λ owner txn slot t slot_state found here accepted well room low quiet. same _ refl refl;
+      prepares = λ owner txn slot t slot_state found here accepted well fits low quiet. same _ refl refl;
       commits = λ owner txn interval t found accepted quiet. absurd quiet;
       aborts = λ owner txn interval t found is quiet. same _ refl refl;
       applies = λ owner txn slot interval t slot_state found here accepted. applies owner txn slot interval t t.decision;

@@ -106,8 +106,8 @@ module _ (schema : List Table) (j : Journaled) (shards : Shards) (w : IsWhole sc
     are_in : Changes its ws
     are_in = subst (λ (l : List CheckedMutation). Changes l ws) may.mutations are
 
-    to_room : prepare schema m owner txn slot ≡ tail
-    to_room = prepare_is ∙ ap (λ (o : Option Refusal). unless_refused m o tail) (prepare_well schema w.rules m w.reached cs here_kept owner txn may.transaction may.slot_state may.found may.here may.accepted ws are_in)
+    to_capacity : prepare schema m owner txn slot ≡ tail
+    to_capacity = prepare_is ∙ ap (λ (o : Option Refusal). unless_refused m o tail) (prepare_well schema w.rules m w.reached cs here_kept owner txn may.transaction may.slot_state may.found may.here may.accepted ws are_in)
 
     -- with the writes there are as many versions as the machine counts
     number : live (with_writes txn ws cs) ≡ live_with schema m.log m.transactions slot may.slot_state its
@@ -117,7 +117,7 @@ module _ (schema : List Table) (j : Journaled) (shards : Shards) (w : IsWhole sc
   full_answer : (why : Refusal) → IsFull schema ms txn cs why → Answers m (prepare schema m owner txn slot) (reply.Refused why) m
   full_answer why full =
       let many = above (live (with_writes txn full.writes cs)) _ (number full.writes full.of.changes) full.over in
-      let e = to_room full.writes full.of.changes ∙ ap (λ (b : Bool). unless_refused m (first_cause ((b, refusal.ShardFull) ∷ [])) stamped) many in
+      let e = to_capacity full.writes full.of.changes ∙ ap (λ (b : Bool). unless_refused m (first_cause ((b, refusal.ShardFull) ∷ [])) stamped) many in
       subst (λ (r : Refusal). Answers m (prepare schema m owner txn slot) (reply.Refused r) m) (sym full.full) (inl (answer_is (refused m refusal.ShardFull) e))
 
   -- why the shard refuses is the reply
@@ -127,7 +127,7 @@ module _ (schema : List Table) (j : Journaled) (shards : Shards) (w : IsWhole sc
 
   module _ (ws : List Write) (are : Changes ms ws) (few : live (with_writes txn ws cs) ≤ most_versions) where
     judged : prepare schema m owner txn slot ≡ stamped
-    judged = to_room ws are ∙ ap (λ (b : Bool). unless_refused m (first_cause ((b, refusal.ShardFull) ∷ [])) stamped) (not_above (live (with_writes txn ws cs)) _ (number ws are) few)
+    judged = to_capacity ws are ∙ ap (λ (b : Bool). unless_refused m (first_cause ((b, refusal.ShardFull) ∷ [])) stamped) (not_above (live (with_writes txn ws cs)) _ (number ws are) few)
 
     -- a transaction that is noted is prepared
     prepared_is : (ts : ℕ) (n : Machine) → (d : IsNoted m owner txn slot ts n) → prepare schema m owner txn slot ≡ prepared m owner txn slot d.slot_state

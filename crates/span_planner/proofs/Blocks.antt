@@ -29,6 +29,7 @@ use Rattle.span_leaves.proofs.Pushing.{is_kept, AreOfWidth, filter_where-all_tru
 use Rattle.span_leaves.proofs.Narrowing.{own, are_on, all_total, refused_by, narrowing, Further, narrow_item, narrow, joined_of, IsWide, AreWide, wide_join, wide_filter, narrowed_below}
 use Rattle.std.proofs.lemmas.List.{map-append, take-map, drop-map, take-append-drop}
 use Rattle.std.proofs.lemmas.Simd.{map-map}
+use Rattle.std.proofs.Math.Seq.{drop-length}
 use Rattle.span_value.proofs.Lists.{all_weaker, all_drop}
 use Rattle.span_leaves.proofs.Narrowed.{bind-same}
 
@@ -272,10 +273,7 @@ module _ (schema : List Table) (tables : List ℕ) (w : ℕ → List Row) (f0 f 
   -- ---- the block
 
   drop_length : {A : Type 0} (n : ℕ) (xs : List A) → (n == length xs) ≡ true → drop n xs ≡ []
-  drop_length n xs is = let e : n ≡ length xs = grind (arith, nat_tests) in ap (λ (k : ℕ). drop k xs) e ∙ of_list xs where
-    of_list : {A : Type 0} (xs : List A) → drop (length xs) xs ≡ []
-    of_list [] = refl
-    of_list (x ∷ xs) = of_list xs
+  drop_length n xs is = let e : n ≡ length xs = grind (arith, nat_tests) in ap (λ (k : ℕ). drop k xs) e ∙ drop-length xs
 
   -- FROM and WHERE above the leaves, as joins after the first item
   from-above : (first : Item Rows) (joins : List (Join BoundQuery)) (filter : Option Expr)

@@ -3,6 +3,7 @@ use Rattle.std.proofs.Common.{◌≡◌, ◌∙◌, ℕ, zero, suc, ◌+◌, Boo
 use Rattle.std.specs.Prelude.{slice_get, ◌<◌}
 use Rattle.std.specs.List.{AllByRecursion}
 use Rattle.std.specs.Option.{unwrap_or}
+use Rattle.std.proofs.lemmas.List.{take-append-drop}
 use Rattle.span_schema.specs.declared.table.Table.{Table}
 use Rattle.span_schema.specs.Numbers.{key_places}
 use Rattle.span_expr.specs.declared.expr.Expr.{Expr}
@@ -133,8 +134,4 @@ rest_len (suc n) (x ∷ xs) m len = rest_len n xs m (omega arith)
 pub masks_joined : (joins : List LeafJoin) (ms : List Bool) → length ms ≡ leaf_widths joins → ms ≡ joined_masks joins (join_masks joins ms)
 masks_joined [] [] len = refl
 masks_joined [] (m ∷ ms) len = absurd (omega arith)
-masks_joined (j ∷ joins) ms len = sym (split j.width ms) ∙ ap (λ (l : List Bool). take j.width ms ++ l) (masks_joined joins (drop j.width ms) (rest_len j.width ms (leaf_widths joins) len)) where
-  split : (n : ℕ) (xs : List Bool) → take n xs ++ drop n xs ≡ xs
-  split zero xs = refl
-  split (suc n) [] = refl
-  split (suc n) (x ∷ xs) = ap (λ (l : List Bool). x ∷ l) (split n xs)
+masks_joined (j ∷ joins) ms len = sym (take-append-drop j.width ms) ∙ ap (λ (l : List Bool). take j.width ms ++ l) (masks_joined joins (drop j.width ms) (rest_len j.width ms (leaf_widths joins) len))

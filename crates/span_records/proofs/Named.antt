@@ -1,7 +1,7 @@
 -- The places of columns, found one name after another.
 use Rattle.std.proofs.Common.{◌≡◌, ◌∙◌, ◌==◌, inl, inr, ℕ, List, [], ◌∷◌, ◌++◌, Bool, true, false, Option, Some, refl, sym, ap, map, append_assoc}
 use Rattle.std.specs.List.{list_any}
-use Rattle.std.proofs.lemmas.List.{map-append}
+use Rattle.std.proofs.lemmas.List.{map-append, append-nil}
 use Rattle.std.proofs.lemmas.Bool.{or_parts}
 use Rattle.span_schema.specs.declared.table.Column.{Column}
 use Rattle.span_schema.specs.Tables.{column_place}
@@ -53,11 +53,7 @@ pub the_last : (columns : List Column) (names places rest : List ℕ) (place : �
     → AreNamed columns (pieces names) (places ++ place ∷ [])
 the_last columns names places rest place h cut is new =
     let all = push columns names places rest place [] (ap (λ (w : List (List ℕ)). map Some places ++ map (column_place columns) w) (sym cut) ∙ h.0) is in
-    (sym all ∙ append_nil_of (map Some (places ++ place ∷ [])), none_twice_push places place h.1 new)
-  where
-    append_nil_of : (w : List (Option ℕ)) → w ++ [] ≡ w
-    append_nil_of [] = refl
-    append_nil_of (x ∷ w) = ap (λ (v : List (Option ℕ)). x ∷ v) (append_nil_of w)
+    (sym all ∙ append-nil (map Some (places ++ place ∷ [])), none_twice_push places place h.1 new)
 
 -- ---- where a name has no place
 

@@ -4,6 +4,7 @@ use Rattle.std.proofs.lemmas.Bool.{eqb-true, eqb-false, eq-eqb, ne_eqb}
 use Rattle.std.proofs.lemmas.List.{drop_more, drop-drop, drop_all}
 use Rattle.std.proofs.lemmas.Option.{same_Some}
 use Rattle.span_value.specs.declared.value.Value.{Value}
+use Rattle.span_value.proofs.Lists.{cons_inj}
 use Rattle.span_schema.specs.declared.table.Table.{Table}
 use Rattle.span_schema.specs.declared.layout.KeyPart.{KeyPart}
 use Rattle.span_schema.specs.Lineages.{path_at, MeetsRules}
@@ -20,7 +21,6 @@ use Rattle.span_shard.specs.Rows as shard
 use Rattle.span_rowreader.specs.declared.steps.KeyStep.{KeyStep}
 use Rattle.span_rowreader.specs.declared.steps.KeyStep.TheVariants as step
 use Rattle.span_rowreader.specs.Entries.{IsWhetherOf}
-use Rattle.span_rowreader.proofs.Placing.{heads}
 use Rattle.span_rowreader.specs.Steps.{column_steps, level_steps, path_steps, key_steps, IsNumberTaken, IsOffNumber, IsTaken, IsOff}
 
 -- ---- the steps, level by level
@@ -124,7 +124,7 @@ module _ (schema : List Table) (n m t : ℕ) (later : List KeyStep) (rest : List
       by_levels : (ls : List Level) → AreLevels schema ls → rest ≡ code_of schema ls → last_or level_here.above (tables_of ls) ≡ Some m → (m ≡ n → tables_of ls ≡ t ∷ level_here.path) → StepsLeft schema n m later (drop 1 rest)
       by_levels [] fit code last same = absurd (let f : t ∷ drop 1 rest ≡ [] = sym first ∙ code in cc)
       by_levels (l ∷ ls) fit code last same =
-          let both = heads t l.table (drop 1 rest) (tuple_code (own_key_columns schema l.table) l.values ++ code_of schema ls) (sym first ∙ code) in
+          let both = cons_inj t l.table (drop 1 rest) (tuple_code (own_key_columns schema l.table) l.values ++ code_of schema ls) (sym first ∙ code) in
           let P : ℕ → Type 0 = λ j. AreFit (own_key_columns schema j) l.values in
           let Q : ℕ → Type 0 = λ j. drop 1 rest ≡ tuple_code (own_key_columns schema j) l.values ++ code_of schema ls in
           let R : ℕ → Type 0 = λ j. last_or (Some j) (tables_of ls) ≡ Some m in
@@ -140,7 +140,7 @@ module _ (schema : List Table) (n m t : ℕ) (later : List KeyStep) (rest : List
             code = subst Q (sym both.0) both.1;
             own = level_here.own;
             last = subst R (sym both.0) last;
-            same = λ own. (heads l.table t (tables_of ls) level_here.path (same own)).1;
+            same = λ own. (cons_inj l.table t (tables_of ls) level_here.path (same own)).1;
           }
 
   -- a key that does not begin with the number is of another table
@@ -151,7 +151,7 @@ module _ (schema : List Table) (n m t : ℕ) (later : List KeyStep) (rest : List
       by_levels [] code same = let f : [] ≡ t ∷ level_here.path = same in cc
       by_levels (l ∷ ls) code same =
           let more : List ℕ = tuple_code (own_key_columns schema l.table) l.values ++ code_of schema ls in
-          off more (code ∙ ap (λ (j : ℕ). j ∷ more) (heads l.table t (tables_of ls) level_here.path same).0)
+          off more (code ∙ ap (λ (j : ℕ). j ∷ more) (cons_inj l.table t (tables_of ls) level_here.path same).0)
 
 -- past a column
 pub column_passed : (schema : List Table) (n m : ℕ) (c : KeyPart) (later : List KeyStep) (rest : List ℕ) (w : ℕ) → StepsLeft schema n m (step.Column c ∷ later) rest → IsSkip c rest w → StepsLeft schema n m later (drop w rest)
@@ -214,7 +214,7 @@ pub nothing_off : (table : ℕ) (bytes : List ℕ) → length bytes ≡ 0 → Is
 nothing_off table bytes none = record { none = λ more e. let l : length bytes ≡ suc (length more) = ap length e in omega (arith, none) }
 
 pub other_off : (table : ℕ) (bytes : List ℕ) → 0 < length bytes → (get_or bytes 0 0 ≡ table → ⊥) → IsOffNumber table bytes
-other_off table bytes some other = record { none = λ more e. other (heads (get_or bytes 0 0) table (drop 1 bytes) more (sym (drop_more bytes 0 0 some) ∙ e)).0 }
+other_off table bytes some other = record { none = λ more e. other (cons_inj (get_or bytes 0 0) table (drop 1 bytes) more (sym (drop_more bytes 0 0 some) ∙ e)).0 }
 
 pub number_taken : (table : ℕ) (bytes : List ℕ) → 0 < length bytes → get_or bytes 0 0 ≡ table → IsNumberTaken table bytes 1
 number_taken table bytes some is = record { one = refl; first = drop_more bytes 0 0 some ∙ ap (λ (b : ℕ). b ∷ drop 1 bytes) is }

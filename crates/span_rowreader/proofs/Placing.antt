@@ -63,9 +63,6 @@ none_put ms (p ∷ ps) (v ∷ vs) row none =
     let parts = and_parts (not (is_wanted ms p)) (wants_none ms ps) none in
     none_put ms ps vs row parts.1 ∙ ap (placed ms ps vs) (put_not ms p v row (not-true (is_wanted ms p) parts.0))
 
-pub heads : (a b : ℕ) (xs ys : List ℕ) → a ∷ xs ≡ b ∷ ys → (a ≡ b) × (xs ≡ ys)
-heads a b xs ys e = (cc, cc)
-
 -- ---- cells one after another
 
 -- the cells that are left of a row, and what is put of all

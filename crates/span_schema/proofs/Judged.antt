@@ -1,9 +1,10 @@
 -- What a table that breaks no rule is known to be.
-use Rattle.std.proofs.Common.{◌≡◌, ℕ, zero, suc, ◌<◌, ◌≤◌, ◌||◌, arith, inl, inr, List, Option, Some, None, refl, sym, ◌∙◌, ap, Bool, true, false, cond, length, take}
+use Rattle.std.proofs.Common.{◌≡◌, ℕ, zero, suc, ◌<◌, ◌≤◌, arith, inl, inr, List, Option, Some, None, refl, sym, ◌∙◌, ap, Bool, true, false, cond, length, take}
 use Rattle.std.specs.Prelude.{is_some, nat_lt, nat_le, slice_get}
 use Rattle.std.proofs.lemmas.Bool.Decides.{nat_tests}
 use Rattle.std.proofs.lemmas.List.{length-take-le}
 use Rattle.std.proofs.lemmas.Option.{slice_get_within, slice_get_cases}
+use Rattle.std.proofs.lemmas.Bool.{or_parts}
 use Rattle.span_value.specs.declared.refusal.Refusal.{Refusal}
 use Rattle.span_value.specs.declared.refusal.Refusal.TheVariants.{TooMany, DuplicateTable, BadColumn, NoParent, KeyNotPrefixed, HierarchyTooDeep}
 use Rattle.span_schema.specs.Limits.{most_levels, most_tables}
@@ -48,12 +49,8 @@ few_tables tables rules = by_last (length tables) refl
     by_last zero e = omega arith
     by_last (suc n) e = elim (slice_get_cases tables n).1 [
       | inl here ↦ (let few = (passes_at tables rules n here.0 here.2).few in
-          let both = or_both (nat_le most_tables (length (take n tables))) _ few in
+          let both = or_parts (nat_le most_tables (length (take n tables))) _ few in
           let len : length (take n tables) ≡ n = length-take-le n tables (omega arith) in
           let less : n < most_tables = grind (arith, nat_tests, both.0, len) in omega arith)
       | inr gone ↦ absurd (omega arith)
     ]
-      where
-        or_both : (a b : Bool) → (a || b) ≡ false → (a ≡ false) × (b ≡ false)
-        or_both true b h = absurd (let f : true ≡ false = h in cc)
-        or_both false b h = (refl, h)

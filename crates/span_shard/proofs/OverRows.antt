@@ -26,7 +26,7 @@ use Rattle.span_mutate.specs.Database.{is_at_or_below, is_in, is_under, blocks_d
 use Rattle.span_mutate.specs.Directories.{IsInOrder, rows_cmp}
 use Rattle.span_mutate.specs.Typed.{IsTyped, AreTyped}
 use Rattle.span_mutate.proofs.Begins.{same_key}
-use Rattle.std.proofs.lemmas.Bool.{and_from, and_parts, eqb-true, eq-eqb}
+use Rattle.std.proofs.lemmas.Bool.{and_from, and_parts, eqb-true, eq-eqb, or_right}
 use Rattle.span_value.proofs.Lists.{all_weaker, all_both}
 use Rattle.span_keycode.proofs.Order.{same_bytes, bytes_same}
 use Rattle.span_mutate.proofs.Families.{number_here, parent_family}
@@ -183,10 +183,6 @@ passes_any {X} p (x ∷ xs) = (
   λ e. ap (λ (b : Bool). b || list_any p xs) e,
   all_weaker (λ y. p y ≡ true → list_any p xs ≡ true) (λ y. p y ≡ true → list_any p (x ∷ xs) ≡ true) (λ y h e. or_right (p x) (list_any p xs) (h e)) xs (passes_any p xs),
 )
-  where
-    or_right : (a b : Bool) → b ≡ true → (a || b) ≡ true
-    or_right true b e = refl
-    or_right false b e = e
 
 -- a row of a blocking table at a coded key below holds the row
 pub held_by : (tables : List Table) → MeetsRules tables → (n : ℕ) (key : List Value) → IsKey tables n key → (db : List TableRow) → AreTyped tables db → (k row : List ℕ) → begins_with k (key_code tables n key) ≡ true

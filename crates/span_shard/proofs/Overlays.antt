@@ -1,12 +1,12 @@
 -- Rows that mutations make and remove; the keys below one, of those at which they made a row and of the others.
-use Rattle.std.proofs.Common.{◌≡◌, ℕ, Bool, true, false, ◌||◌, ◌&&◌, cond, List, [], ◌∷◌, Option, Some, None, is_some, is_none, map, length, refl, sym, ap, subst, ◌∙◌, arith}
+use Rattle.std.proofs.Common.{◌≡◌, ℕ, Bool, true, false, ◌||◌, cond, List, [], ◌∷◌, Option, Some, None, is_some, is_none, map, length, refl, sym, ap, subst, ◌∙◌, arith}
 use Rattle.std.specs.List.{filter, find, list_any, AllByRecursion}
 use Rattle.std.specs.Option.{unwrap_or}
 use Rattle.std.specs.Ordering.{is_eq, ordering_reverse}
 use Rattle.std.specs.declared.cmp.Ordering.TheVariants.{Less}
 use Rattle.std.proofs.lemmas.List.Folds.{list_any-append}
 use Rattle.std.specs.Cmp.{tied_itself}
-use Rattle.std.proofs.lemmas.Bool.{and_parts}
+use Rattle.std.proofs.lemmas.Bool.{and_parts, or_left, or_right, and_from}
 use Rattle.span_value.proofs.Lists.{all_append, all_weaker, all_filter, all_map, all_whole, all_both}
 use Rattle.span_keycode.specs.Order.{is_same}
 use Rattle.span_keycode.proofs.Order.{same_bytes}
@@ -133,16 +133,8 @@ kept_any : (p : KeyVersions → Bool) (k : List ℕ) (xs : List KeyVersions) →
 kept_any p k [] x e f = absurd (let g : None ≡ Some x = e in cc)
 kept_any p k (y ∷ ys) x e f = cases (is_key k y) (p y) refl refl e (λ i. kept_any p k ys x i f)
   where
-    or_first : (a b : Bool) → a ≡ true → (a || b) ≡ true
-    or_first true b g = refl
-    or_first false b g = absurd (let h : false ≡ true = g in cc)
-
-    or_second : (a b : Bool) → b ≡ true → (a || b) ≡ true
-    or_second true b g = refl
-    or_second false b g = g
-
     here : p y ≡ true → is_key k y ≡ true → list_any (is_same k) (map (λ c. c.key) (filter p (y ∷ ys))) ≡ true
-    here g h = ap (λ (l : List KeyVersions). list_any (is_same k) (map (λ c. c.key) l)) (filter_yes p y ys g) ∙ or_first (is_same k y.key) (list_any (is_same k) (map (λ c. c.key) (filter p ys))) h
+    here g h = ap (λ (l : List KeyVersions). list_any (is_same k) (map (λ c. c.key) l)) (filter_yes p y ys g) ∙ or_left (is_same k y.key) (list_any (is_same k) (map (λ c. c.key) (filter p ys))) h
 
     cases : (a b : Bool) → is_key k y ≡ a → p y ≡ b → cond (is_key k y) (Some y) (find (is_key k) ys) ≡ Some x → (find (is_key k) ys ≡ Some x → list_any (is_same k) (map (λ c. c.key) (filter p ys)) ≡ true)
         → list_any (is_same k) (map (λ c. c.key) (filter p (y ∷ ys))) ≡ true
@@ -151,7 +143,7 @@ kept_any p k (y ∷ ys) x e f = cases (is_key k y) (p y) refl refl e (λ i. kept
         here (ap p same ∙ f) h
     cases false true h g i more =
         let again = more (sym (ap (λ (c : Bool). cond c (Some y) (find (is_key k) ys)) h) ∙ i) in
-        ap (λ (l : List KeyVersions). list_any (is_same k) (map (λ c. c.key) l)) (filter_yes p y ys g) ∙ or_second (is_same k y.key) (list_any (is_same k) (map (λ c. c.key) (filter p ys))) again
+        ap (λ (l : List KeyVersions). list_any (is_same k) (map (λ c. c.key) l)) (filter_yes p y ys g) ∙ or_right (is_same k y.key) (list_any (is_same k) (map (λ c. c.key) (filter p ys))) again
     cases false false h g i more =
         ap (λ (l : List KeyVersions). list_any (is_same k) (map (λ c. c.key) l)) (filter_no p y ys g) ∙ more (sym (ap (λ (c : Bool). cond c (Some y) (find (is_key k) ys)) h) ∙ i)
 
@@ -180,11 +172,7 @@ unchanged_complete cs es front k b none some = of_found (find (is_key k) cs) ref
         let now : is_some (row_of c) ≡ true = sym (ap (λ (o : Option KeyVersions). is_some (row_at (versions_of o) end_of_time)) e) ∙ some in
         kept_any (is_unchanged es) k (map versions_alone (filter (λ (d : KeyVersions). begins_with d.key front) cs)) (versions_alone c)
         (find_mapped k (filter (λ (d : KeyVersions). begins_with d.key front) cs) c within)
-        (both (is_none (changed_at es c.key)) (is_some (row_of c)) (ap (λ (l : List ℕ). is_none (changed_at es l)) (sym key) ∙ ap (λ (o : Option (Option (List ℕ))). is_none o) none) now)
-      where
-        both : (x y : Bool) → x ≡ true → y ≡ true → (x && y) ≡ true
-        both true y f g = g
-        both false y f g = absurd (let h : false ≡ true = f in cc)
+        (and_from (is_none (changed_at es c.key)) (is_some (row_of c)) (ap (λ (l : List ℕ). is_none (changed_at es l)) (sym key) ∙ ap (λ (o : Option (Option (List ℕ))). is_none o) none) now)
 
 -- the store was looked at
 pub unchanged_found : (cs : List KeyVersions) → AreInOrder cs → (es : Changes) (front : List ℕ) → AreUnchangedUnder cs es front (unchanged_under es front cs)
@@ -198,14 +186,6 @@ all_under cs es front old ks unchanged h = subst (AreUnder cs es front) (sym h.w
   complete = λ k b some. list_any-append (is_same k) old h.added ∙ of_change k b some (made_at es.made k) (list_any (is_same k) es.removed) refl refl;
 })
   where
-    or_first : (a b : Bool) → a ≡ true → (a || b) ≡ true
-    or_first true b g = refl
-    or_first false b g = absurd (let i : false ≡ true = g in cc)
-
-    or_second : (a b : Bool) → b ≡ true → (a || b) ≡ true
-    or_second true b g = refl
-    or_second false b g = g
-
     -- what is left at the key
     left : (k : List ℕ) (o : Option (List ℕ)) (c : Bool) → made_at es.made k ≡ o → list_any (is_same k) es.removed ≡ c → changed_at es k ≡ change_of o c
     left k o c e f = ap (λ (p : Option (List ℕ)). change_of p (list_any (is_same k) es.removed)) e ∙ ap (change_of o) f
@@ -215,10 +195,10 @@ all_under cs es front old ks unchanged h = subst (AreUnder cs es front) (sym h.w
 
     of_change : (k : List ℕ) → begins_with k front ≡ true → is_some (row_over cs es k) ≡ true → (o : Option (List ℕ)) (c : Bool) → made_at es.made k ≡ o → list_any (is_same k) es.removed ≡ c
         → (list_any (is_same k) old || list_any (is_same k) h.added) ≡ true
-    of_change k b some (Some row) c e f = or_second (list_any (is_same k) old) (list_any (is_same k) h.added) (h.are.complete k row b e)
+    of_change k b some (Some row) c e f = or_right (list_any (is_same k) old) (list_any (is_same k) h.added) (h.are.complete k row b e)
     of_change k b some None true e f = absurd (let g : false ≡ true = sym (over k (Some None) (left k None true e f)) ∙ some in cc)
     of_change k b some None false e f =
-        or_first (list_any (is_same k) old) (list_any (is_same k) h.added)
+        or_left (list_any (is_same k) old) (list_any (is_same k) h.added)
         (unchanged.complete k b (left k None false e f) (sym (over k None (left k None false e f)) ∙ some))
 
 -- ---- keys from which on down all rows were removed

@@ -4,7 +4,7 @@ use Rattle.std.specs.List.{find, list_any}
 use Rattle.std.specs.Option.{unwrap_or}
 use Rattle.std.specs.Str.{bytes_eq}
 use Rattle.std.proofs.lemmas.Slice.Eq.{bytes_eq-Decides}
-use Rattle.std.proofs.lemmas.Bool.{not-false, and_parts}
+use Rattle.std.proofs.lemmas.Bool.{not-false, and_parts, or_left, or_right, not-true}
 use Rattle.span_value.specs.declared.value.Value.{Value}
 use Rattle.span_value.specs.declared.refusal.Refusal.{Refusal}
 use Rattle.span_value.specs.declared.refusal.Refusal.TheVariants.{OutOfMemory, BadKey, BadRow}
@@ -159,16 +159,8 @@ pub record HaveRun (tables : List Table) (ms : List CheckedMutation) (cs : List 
 
 pub any_at : {X : Type 0} (p : X → Bool) (xs : List X) (i : ℕ) (x : X) → i < length xs → x ≡ get_or xs i x → p x ≡ true → list_any p xs ≡ true
 any_at p [] i x h e f = absurd (omega arith)
-any_at p (y ∷ ys) zero x h e f = or_first (p y) (list_any p ys) (ap p (sym e) ∙ f)
-  where
-    or_first : (a b : Bool) → a ≡ true → (a || b) ≡ true
-    or_first true b g = refl
-    or_first false b g = absurd (let j : false ≡ true = g in cc)
-any_at p (y ∷ ys) (suc i) x h e f = or_second (p y) (list_any p ys) (any_at p ys i x (omega arith) e f)
-  where
-    or_second : (a b : Bool) → b ≡ true → (a || b) ≡ true
-    or_second true b g = refl
-    or_second false b g = g
+any_at p (y ∷ ys) zero x h e f = or_left (p y) (list_any p ys) (ap p (sym e) ∙ f)
+any_at p (y ∷ ys) (suc i) x h e f = or_right (p y) (list_any p ys) (any_at p ys i x (omega arith) e f)
 
 -- a mutation's directory is among the touched ones
 pub has_own : (tables : List Table) (ms : List CheckedMutation) (i : ℕ) (m : CheckedMutation) → i < length ms → m ≡ get_or ms i m → HasDirectory tables (is_touched tables ms) m
@@ -278,11 +270,7 @@ written_more cs es left rest ws w so_far out new = record {
     here = fresh cs es left ws w.key w.row out.0 (so_far.at w.key)
 
     differs : is_same_row (row_now cs w.key) w.row ≡ false
-    differs = no (is_same_row (row_now cs w.key) w.row) new
-      where
-        no : (b : Bool) → not b ≡ true → b ≡ false
-        no true e = absurd (let f : false ≡ true = e in cc)
-        no false e = refl
+    differs = not-true (is_same_row (row_now cs w.key) w.row) new
 
     by_key : (k : List ℕ) (b : Bool) → is_same w.key k ≡ b → IsWrittenAt cs es rest (ws ++ w ∷ []) k
     by_key k true e =
@@ -299,11 +287,11 @@ written_more cs es left rest ws w so_far out new = record {
     ]
       where
         other : (k : List ℕ) → is_same w.key k ≡ false → is_of k w ≡ false
-        other k f = no (is_of k w) refl
+        other k f = not-true (is_of k w) refl
           where
-            no : (b : Bool) → is_of k w ≡ b → is_of k w ≡ false
-            no true g = absurd (let i : true ≡ false = sym (bytes_same w.key k (sym (same_bytes k w.key g))) ∙ f in cc)
-            no false g = g
+            not-true : (b : Bool) → is_of k w ≡ b → is_of k w ≡ false
+            not-true true g = absurd (let i : true ≡ false = sym (bytes_same w.key k (sym (same_bytes k w.key g))) ∙ f in cc)
+            not-true false g = g
 
 pub written_same : (cs : List KeyVersions) (es left rest : Changes) (ws : List Write) (key : List ℕ) (row : Option (List ℕ)) → AreWrittenFrom cs es left ws → TakesOut key row left rest → not (is_same_row (row_now cs key) row) ≡ false → AreWrittenFrom cs es rest ws
 written_same cs es left rest ws key row so_far out old = record { changed = so_far.changed; at = λ k. by_key k (is_same key k) refl }
@@ -312,11 +300,7 @@ written_same cs es left rest ws key row so_far out old = record { changed = so_f
     here = fresh cs es left ws key row out.0 (so_far.at key)
 
     same : is_same_row (row_now cs key) row ≡ true
-    same = yes (is_same_row (row_now cs key) row) old
-      where
-        yes : (b : Bool) → not b ≡ false → b ≡ true
-        yes true e = refl
-        yes false e = absurd (let f : true ≡ false = e in cc)
+    same = not-false (is_same_row (row_now cs key) row) old
 
     by_key : (k : List ℕ) (b : Bool) → is_same key k ≡ b → IsWrittenAt cs es rest ws k
     by_key k true e =

@@ -2,6 +2,7 @@
 use Rattle.std.proofs.Common.{◌≡◌, inl, inr, ℕ, Bool, true, false, not, ◌||◌, ◌&&◌, cond, List, [], ◌∷◌, Option, Some, None, is_some, Ok, Err, refl, sym, ap, subst, ◌∙◌}
 use Rattle.std.specs.List.{filter, list_any, AllByRecursion}
 use Rattle.std.specs.Option.{unwrap_or}
+use Rattle.std.proofs.lemmas.Bool.{or_right, or_left}
 use Rattle.span_value.specs.declared.refusal.Refusal.{Refusal}
 use Rattle.span_value.specs.declared.refusal.Refusal.TheVariants.{Exists, Missing, ParentMissing, HasChildren, RowTooLong}
 use Rattle.span_value.specs.Results.{first_cause}
@@ -126,14 +127,6 @@ delete_run tables rules cs es fs m ks typed kind made deleted removed = record {
     here : (k : List ℕ) → is_some (changed_at fs k) ≡ true → (is_some (changed_at es k) || begins_with k (root_code tables m)) ≡ true
     here k e = by_key (list_any (is_same k) ks) refl
       where
-        or_right : (a b : Bool) → b ≡ true → (a || b) ≡ true
-        or_right true b f = refl
-        or_right false b f = f
-
-        or_left : (a b : Bool) → a ≡ true → (a || b) ≡ true
-        or_left true b f = refl
-        or_left false b f = absurd (let g : false ≡ true = f in cc)
-
         by_key : (b : Bool) → list_any (is_same k) ks ≡ b → (is_some (changed_at es k) || begins_with k (root_code tables m)) ≡ true
         by_key true f = or_right (is_some (changed_at es k)) (begins_with k (root_code tables m)) (below_in tables rules m typed k (removed_below k f))
         by_key false f =

@@ -33,7 +33,7 @@ use Rattle.span_store.specs.KeyLists.{row_now}
 use Rattle.span_keycode.specs.Order.{is_same}
 use Rattle.span_shard.specs.Overlay.{Changes, changed_at, row_over, own_code, row_before, lacks_parent_over, put_cause, cause_over, AreCellsOf, IsUnpacked, IsPutRow, IsPutFault, IsNoPut, IsOver, HasDirectory, IsTableRow, AreTableRows, IsRunOf}
 use Rattle.span_mutate.proofs.Begins.{front_of_taken, taken_begins}
-use Rattle.std.proofs.lemmas.Bool.{and_from, eq-eqb, ltb-false, le-ltb, lt-ltb}
+use Rattle.std.proofs.lemmas.Bool.{and_from, eq-eqb, ltb-false, le-ltb, lt-ltb, or_right, or_left}
 use Rattle.span_keycode.proofs.Order.{same_bytes, bytes_same}
 use Rattle.span_mutate.proofs.ByRoots.{in_own}
 use Rattle.span_mutate.proofs.Families.{parent_family, root_short}
@@ -222,14 +222,6 @@ put_run tables rules cs es fs m row typed kind made p has_put = record { rows = 
     here : (k : List ℕ) → is_some (changed_at fs k) ≡ true → (is_some (changed_at es k) || begins_with k (root_code tables m)) ≡ true
     here k e = by_code (is_same code k) refl
       where
-        or_right : (a b : Bool) → b ≡ true → (a || b) ≡ true
-        or_right true b f = refl
-        or_right false b f = f
-
-        or_left : (a b : Bool) → a ≡ true → (a || b) ≡ true
-        or_left true b f = refl
-        or_left false b f = absurd (let g : false ≡ true = f in cc)
-
         by_code : (b : Bool) → is_same code k ≡ b → (is_some (changed_at es k) || begins_with k (root_code tables m)) ≡ true
         by_code true f = or_right (is_some (changed_at es k)) (begins_with k (root_code tables m)) (ap (λ (l : List ℕ). begins_with l (root_code tables m)) (sym (same_bytes code k f)) ∙ own_begins tables rules m typed.0.0)
         by_code false f =

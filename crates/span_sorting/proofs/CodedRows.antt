@@ -24,7 +24,7 @@ use Rattle.span_sorting.specs.Codes.{code_of, is_exact, IsInRange, value_at, key
 use Rattle.span_sorting.proofs.Codes.{code_agrees, exact_order, exact_same, code_end}
 use Rattle.span_sorting.proofs.Sorting.{all_in_order, from_sorted, is_the_order}
 use Rattle.span_sorting.proofs.RowOrder.{rows_total, same_next}
-use Rattle.span_value.proofs.Comparisons.{number_less, number_greater, number_equal}
+use Rattle.span_value.proofs.Comparisons.{number_less, number_greater, number_equal, same_number}
 
 -- ---- the rows so far
 
@@ -87,9 +87,6 @@ module _ (key : SortKey) (r s : Row) (f : IsInRange (value_at key r)) (g : IsInR
       unturned true Equal e = refl
       unturned true Less e = cc
       unturned true Greater e = cc
-
-      same_number : (a b : ℕ) → nat_cmp a b ≡ Equal → a ≡ b
-      same_number a b e = grind (arith, nat_tests, e)
 
 -- ---- the order by codes
 

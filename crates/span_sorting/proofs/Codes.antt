@@ -8,6 +8,7 @@ use Rattle.std.specs.declared.cmp.Ordering.{Ordering}
 use Rattle.std.specs.declared.cmp.Ordering.TheVariants.{Less, Equal, Greater}
 use Rattle.std.proofs.lemmas.Bool.Decides.{nat_tests}
 use Rattle.std.proofs.lemmas.Int.{ints}
+use Rattle.std.proofs.lemmas.Bool.{eq-eqb}
 use Rattle.span_value.specs.declared.value.Value.{Value}
 use Rattle.span_value.specs.declared.value.Value.TheVariants.{Null, Int, Str, Bytes, Bool as Flag}
 use Rattle.span_value.specs.Orders.{value_order, kind_rank}
@@ -149,10 +150,7 @@ rank_order m n c d f g apart = by_rank (nat_cmp m n) refl
 
 apart_order : (v w : Value) → IsInRange v → IsInRange w → nat_eq (kind_rank v) (kind_rank w) ≡ false → nat_cmp (code_of v) (code_of w) ≡ nat_cmp (kind_rank v) (kind_rank w)
 apart_order v w f g e =
-    rank_order (kind_rank v) (kind_rank w) (code_of v) (code_of w) (within v f) (within w g) (λ same. absurd (true≢false (sym (nat_eq_same (kind_rank v) (kind_rank w) same) ∙ e)))
-  where
-    nat_eq_same : (m n : ℕ) → m ≡ n → nat_eq m n ≡ true
-    nat_eq_same m n same = grind (arith, nat_tests)
+    rank_order (kind_rank v) (kind_rank w) (code_of v) (code_of w) (within v f) (within w g) (λ same. absurd (true≢false (sym (eq-eqb (kind_rank v) (kind_rank w) same) ∙ e)))
 
 twice : (o : Ordering) → or_next o o ≡ o
 twice Less = refl

@@ -52,7 +52,7 @@ all_outside low high (e ∷ es) h = outside_more low high e es (is_lt (byte_orde
 no_row : (a : Content) (ps : List PreparedNode) (es : List KeyEntry) (low : List ℕ) (high : Option (List ℕ)) → AllByRecursion (λ (e : KeyEntry). is_before_end high e.key ≡ false) (entries_from low es) → HasNoRowFrom (all_kept a ps es) low high
 no_row a ps es low high h = λ k here.
     ap (λ (o : Option KeyVersions). row_at (versions_of o) end_of_time)
-    (none_found a ps k es (all_weaker (λ (e : Entry). is_from_to low high e.key ≡ false) (λ (e : Entry). is_eq (byte_order k e.key) ≡ false) (λ e out. apart (is_from_to low high) k e.key here out) es (all_outside low high es h)))
+    (none_found a ps k es (all_weaker (λ (e : KeyEntry). is_from_to low high e.key ≡ false) (λ (e : KeyEntry). is_eq (byte_order k e.key) ≡ false) (λ e out. apart (is_from_to low high) k e.key here out) es (all_outside low high es h)))
 
 -- where there is no key from one on
 pub no_row_after : (a : Content) (ps : List PreparedNode) (es left : List KeyEntry) (low : List ℕ) → left ≡ entries_from low es → left ≡ [] → HasNoRowFrom (all_kept a ps es) low None
@@ -70,7 +70,7 @@ pub no_row_before : (a : Content) (ps : List PreparedNode) (es left rest : List 
 no_row_before a ps es left rest low first rising is some =
     let Rises : KeyEntry → KeyEntry → Type 0 = λ e f. byte_order e.key f.key ≡ Less in
     let same : entries_from low es ≡ first ∷ rest = sym is ∙ some in
-    let pairs : AllPairs Rises (first ∷ rest) = subst (λ (l : List Entry). AllPairs Rises l) same (AllPairs-filter Rises (λ (e : Entry). not (is_lt (byte_order e.key low))) es rising) in
-    let later : AllByRecursion (λ (f : Entry). Rises first f) rest = each_after (λ (f : Entry). Rises first f) rest (λ j d lt. pairs zero (suc j) d (omega arith) (omega arith)) in
-    let none : AllByRecursion (λ (e : Entry). is_before_end (Some first.key) e.key ≡ false) (first ∷ rest) = (ap is_lt (tied_itself bytes_total first.key), all_weaker (λ (f : Entry). Rises first f) (λ (f : Entry). is_before_end (Some first.key) f.key ≡ false) (λ f less. not_before first.key f.key less) rest later) in
-    no_row a ps es low (Some first.key) (subst (λ (l : List Entry). AllByRecursion (λ (e : Entry). is_before_end (Some first.key) e.key ≡ false) l) (sym same) none)
+    let pairs : AllPairs Rises (first ∷ rest) = subst (λ (l : List KeyEntry). AllPairs Rises l) same (AllPairs-filter Rises (λ (e : KeyEntry). not (is_lt (byte_order e.key low))) es rising) in
+    let later : AllByRecursion (λ (f : KeyEntry). Rises first f) rest = each_after (λ (f : KeyEntry). Rises first f) rest (λ j d lt. pairs zero (suc j) d (omega arith) (omega arith)) in
+    let none : AllByRecursion (λ (e : KeyEntry). is_before_end (Some first.key) e.key ≡ false) (first ∷ rest) = (ap is_lt (tied_itself bytes_total first.key), all_weaker (λ (f : KeyEntry). Rises first f) (λ (f : KeyEntry). is_before_end (Some first.key) f.key ≡ false) (λ f less. not_before first.key f.key less) rest later) in
+    no_row a ps es low (Some first.key) (subst (λ (l : List KeyEntry). AllByRecursion (λ (e : KeyEntry). is_before_end (Some first.key) e.key ≡ false) l) (sym same) none)

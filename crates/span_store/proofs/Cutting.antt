@@ -88,7 +88,7 @@ trim_start h es a = record { done = []; whole = refl; each = tt; so_far = record
 pub trim_step : (h : ℕ) (es left rest : List KeyEntry) (e : KeyEntry) (a b d : Content) → AreTrimmed h es left a b → left ≡ e ∷ rest → IsChain b e.chain.number → d ≡ trimmed b e.chain.number h → AreTrimmed h es rest a d
 trim_step h es left rest e a b d old is chain now_is = record {
   done = old.done ++ e ∷ [];
-  whole = append_assoc old.done (e ∷ []) rest ∙ ap (λ (l : List Entry). old.done ++ l) (sym is) ∙ old.whole;
+  whole = append_assoc old.done (e ∷ []) rest ∙ ap (λ (l : List KeyEntry). old.done ++ l) (sym is) ∙ old.whole;
   each = all_append (IsTrimmed h a d) old.done (e ∷ []) (all_weaker (IsTrimmed h a b) (IsTrimmed h a d) (λ x was. still h a b d e.chain.number old.so_far chain now_is x was) old.done old.each) (now h a b d e.chain.number old.so_far chain now_is e refl, tt);
   so_far = trimmed_now h a b d e.chain.number old.so_far chain now_is;
 }

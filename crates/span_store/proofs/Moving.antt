@@ -3,7 +3,7 @@ use Rattle.std.proofs.Common.{◌≡◌, ◌≢◌, ℕ, suc, ◌+◌, ◌-◌, 
 use Rattle.std.specs.Prelude.{All}
 use Rattle.std.specs.List.{AllByRecursion}
 use Rattle.std.proofs.lemmas.Bool.{cases_eq}
-use Rattle.std.proofs.lemmas.List.{get_or-set_same, get_or-set_other}
+use Rattle.std.proofs.lemmas.List.{get_or-set_same, get_or-set_other, nil_from_length}
 use Rattle.span_value.proofs.Lists.{all_append, all_weaker}
 use Rattle.span_arena.specs.declared.token.Chain.{Chain}
 use Rattle.span_arena.specs.Content.{Content, versions, versions_in, prepared_for, one_for, IsChain, cleared, with_kept, with_free_node, with_versions}
@@ -19,23 +19,23 @@ use Rattle.span_store.specs.Stored.{versions_count, AreReserved, HaveVersions, H
 use Rattle.span_store.proofs.Seeing.{chains_left, first_chain}
 use Rattle.span_store.proofs.Cutting.{IsNextKey, next_key}
 
--- ---- room
+-- ---- versions reserved
 
-pub no_room : (a : Content) → AreReserved 0 a a
-no_room a = record { chains = refl; cells = refl; most = refl; free = omega arith; prepared = λ c. refl }
+pub none_reserved : (a : Content) → AreReserved 0 a a
+none_reserved a = record { chains = refl; cells = refl; most = refl; free = omega arith; prepared = λ c. refl }
 
-pub room_node : (n : ℕ) (a b d : Content) → AreReserved n a b → d ≡ with_free_node b → AreReserved (n + 1) a d
-room_node n a b d room is = record {
-  chains = ap (λ (x : Content). x.chains) is ∙ room.chains;
-  cells = ap (λ (x : Content). x.cells) is ∙ room.cells;
-  most = ap (λ (x : Content). x.most) is ∙ room.most;
-  free = (let f : d.free ≡ b.free + 1 = ap (λ (x : Content). x.free) is in omega (arith, room.free));
+pub one_reserved : (n : ℕ) (a b d : Content) → AreReserved n a b → d ≡ with_free_node b → AreReserved (n + 1) a d
+one_reserved n a b d reserved is = record {
+  chains = ap (λ (x : Content). x.chains) is ∙ reserved.chains;
+  cells = ap (λ (x : Content). x.cells) is ∙ reserved.cells;
+  most = ap (λ (x : Content). x.most) is ∙ reserved.most;
+  free = (let f : d.free ≡ b.free + 1 = ap (λ (x : Content). x.free) is in omega (arith, reserved.free));
   prepared = λ c. (let p : prepared_for c d.prepared ≡ prepared_for c b.prepared + 0 = ap (λ (x : Content). prepared_for c x.prepared) is ∙ sum-push (one_for c) b.prepared None in
-      omega (arith, room.prepared c));
+      omega (arith, reserved.prepared c));
 }
 
-pub room_more : (n m k : ℕ) (a b d : Content) → AreReserved n a b → AreReserved m b d → n + m ≡ k → AreReserved k a d
-room_more n m k a b d first next sum = record {
+pub more_reserved : (n m k : ℕ) (a b d : Content) → AreReserved n a b → AreReserved m b d → n + m ≡ k → AreReserved k a d
+more_reserved n m k a b d first next sum = record {
   chains = next.chains ∙ first.chains;
   cells = next.cells ∙ first.cells;
   most = next.most ∙ first.most;
@@ -48,44 +48,44 @@ count_append a [] ys = omega arith
 count_append a (x ∷ xs) ys = omega (arith, count_append a xs ys)
 
 -- there is capacity for the versions of the first keys, and these chains are left
-pub record IsRoomSoFar (es : List KeyEntry) (chains : List Chain) (a : Content) (old new : Content) : Type 0 where
+pub record IsReservedSoFar (es : List KeyEntry) (chains : List Chain) (a : Content) (old new : Content) : Type 0 where
   pub done : List KeyEntry
   pub left : List KeyEntry
   pub whole : es ≡ done ++ left
   pub is : chains ≡ map (λ (e : KeyEntry). e.chain) left
   pub are_chains : All (λ (e : KeyEntry). IsChain a e.chain.number) left
-  pub room : AreReserved (versions_count a done) old new
+  pub reserved : AreReserved (versions_count a done) old new
 
-pub room_starts : (es : List KeyEntry) (chains : List Chain) (a old : Content) → All (λ (e : KeyEntry). IsChain a e.chain.number) es → chains ≡ map (λ (e : KeyEntry). e.chain) es → IsRoomSoFar es chains a old old
-room_starts es chains a old all is = record { done = []; left = es; whole = refl; is = is; are_chains = all; room = no_room old }
+pub reserving_starts : (es : List KeyEntry) (chains : List Chain) (a old : Content) → All (λ (e : KeyEntry). IsChain a e.chain.number) es → chains ≡ map (λ (e : KeyEntry). e.chain) es → IsReservedSoFar es chains a old old
+reserving_starts es chains a old all is = record { done = []; left = es; whole = refl; is = is; are_chains = all; reserved = none_reserved old }
 
-module _ (es : List KeyEntry) (chains rest : List Chain) (chain : Chain) (a old b : Content) (so_far : IsRoomSoFar es chains a old b) (first : chains ≡ chain ∷ rest) where
-  next_room : IsNextKey so_far.left chain rest
-  next_room = next_key so_far.left chain chains rest so_far.is first
+module _ (es : List KeyEntry) (chains rest : List Chain) (chain : Chain) (a old b : Content) (so_far : IsReservedSoFar es chains a old b) (first : chains ≡ chain ∷ rest) where
+  next_reserved : IsNextKey so_far.left chain rest
+  next_reserved = next_key so_far.left chain chains rest so_far.is first
 
-  pub room_chain : IsChain a chain.number
-  room_chain = subst (λ (c : Chain). IsChain a c.number) {x = next_room.first.chain} {y = chain} next_room.chain_is (first_chain a so_far.left next_room.others next_room.first next_room.is so_far.are_chains)
+  pub reserved_chain : IsChain a chain.number
+  reserved_chain = subst (λ (c : Chain). IsChain a c.number) {x = next_reserved.first.chain} {y = chain} next_reserved.chain_is (first_chain a so_far.left next_reserved.others next_reserved.first next_reserved.is so_far.are_chains)
 
-  pub room_step : (n : ℕ) (d : Content) → n ≡ length (versions a chain.number) → AreReserved n b d → IsRoomSoFar es rest a old d
-  room_step n d count more = record {
-    done = so_far.done ++ next_room.first ∷ [];
-    left = next_room.others;
-    whole = so_far.whole ∙ ap (λ (l : List KeyEntry). so_far.done ++ l) next_room.is ∙ sym (append_assoc so_far.done (next_room.first ∷ []) next_room.others);
-    is = next_room.rest_is;
-    are_chains = chains_left a so_far.left next_room.others next_room.first next_room.is so_far.are_chains;
-    room = room_more (versions_count a so_far.done) n (versions_count a (so_far.done ++ next_room.first ∷ [])) old b d so_far.room more
-        (let e : n ≡ length (versions a next_room.first.chain.number) = count ∙ ap (λ (c : Chain). length (versions a c.number)) (sym next_room.chain_is) in
-        omega (arith, count_append a so_far.done (next_room.first ∷ [])));
+  pub reserving_step : (n : ℕ) (d : Content) → n ≡ length (versions a chain.number) → AreReserved n b d → IsReservedSoFar es rest a old d
+  reserving_step n d count more = record {
+    done = so_far.done ++ next_reserved.first ∷ [];
+    left = next_reserved.others;
+    whole = so_far.whole ∙ ap (λ (l : List KeyEntry). so_far.done ++ l) next_reserved.is ∙ sym (append_assoc so_far.done (next_reserved.first ∷ []) next_reserved.others);
+    is = next_reserved.rest_is;
+    are_chains = chains_left a so_far.left next_reserved.others next_reserved.first next_reserved.is so_far.are_chains;
+    reserved = more_reserved (versions_count a so_far.done) n (versions_count a (so_far.done ++ next_reserved.first ∷ [])) old b d so_far.reserved more
+        (let e : n ≡ length (versions a next_reserved.first.chain.number) = count ∙ ap (λ (c : Chain). length (versions a c.number)) (sym next_reserved.chain_is) in
+        omega (arith, count_append a so_far.done (next_reserved.first ∷ [])));
   }
 
 none_left : (l : List KeyEntry) → map (λ (e : KeyEntry). e.chain) l ≡ [] → l ≡ []
 none_left [] h = refl
 none_left (e ∷ l) h = absurd cc
 
-pub room_ends : (es : List KeyEntry) (chains : List Chain) (a old b : Content) → IsRoomSoFar es chains a old b → chains ≡ [] → AreReserved (versions_count a es) old b
-room_ends es chains a old b so_far none =
+pub reserving_ends : (es : List KeyEntry) (chains : List Chain) (a old b : Content) → IsReservedSoFar es chains a old b → chains ≡ [] → AreReserved (versions_count a es) old b
+reserving_ends es chains a old b so_far none =
     let whole : es ≡ so_far.done = so_far.whole ∙ ap (λ (l : List KeyEntry). so_far.done ++ l) (none_left so_far.left (sym so_far.is ∙ none)) ∙ append-nil so_far.done in
-    subst (λ (l : List KeyEntry). AreReserved (versions_count a l) old b) (sym whole) so_far.room
+    subst (λ (l : List KeyEntry). AreReserved (versions_count a l) old b) (sym whole) so_far.reserved
 
 -- ---- the move
 
@@ -108,7 +108,7 @@ pub record IsMoving (es fs : List KeyEntry) (sources chains : List Chain) (a b c
   pub to : HasSameKeys c d
   pub there : HaveVersions a d done filled
   pub none : (x : ℕ) → holders x filled ≡ 0 → versions d x ≡ []
-  pub room : versions_count a left ≤ d.free
+  pub enough : versions_count a left ≤ d.free
 
 length_keys : (es fs : List KeyEntry) → keys_of es ≡ keys_of fs → length fs ≡ length es
 length_keys [] [] same = refl
@@ -124,7 +124,7 @@ same_keys a = record { same = λ c. refl; cells = refl; most = refl; prepared = 
 
 pub moving_starts : (es fs : List KeyEntry) (sources chains : List Chain) (a c : Content) → sources ≡ map (λ (e : KeyEntry). e.chain) es → chains ≡ map (λ (e : KeyEntry). e.chain) fs → keys_of fs ≡ keys_of es
     → All (λ (e : KeyEntry). IsChain a e.chain.number) es → All (λ (e : KeyEntry). IsChain c e.chain.number) fs → ((x : ℕ) → versions c x ≡ []) → versions_count a es ≤ c.free → IsMoving es fs sources chains a a c c
-moving_starts es fs sources chains a c sources_are chains_are keys all_sources all_chains none room = record {
+moving_starts es fs sources chains a c sources_are chains_are keys all_sources all_chains none enough = record {
   done = [];
   left = es;
   filled = [];
@@ -142,7 +142,7 @@ moving_starts es fs sources chains a c sources_are chains_are keys all_sources a
   to = same_keys c;
   there = tt;
   none = λ x _. none x;
-  room = room;
+  enough = enough;
 }
 
 -- another chain of the new arena leaves what is there
@@ -215,8 +215,8 @@ module _ (es fs : List KeyEntry) (sources left_sources chains left_chains : List
   count_is : versions_count a moving.left ≡ length (versions a source.number) + versions_count a from_next.others
   count_is = ap (versions_count a) from_next.is ∙ ap (λ (x : ℕ). length (versions a x) + versions_count a from_next.others) source_number
 
-  pub to_room : length (versions b source.number) ≤ d.free
-  to_room = (let e : length (versions b source.number) ≡ length (versions a source.number) = ap length source_same in omega (arith, count_is, moving.room))
+  pub enough_free : length (versions b source.number) ≤ d.free
+  enough_free = (let e : length (versions b source.number) ≡ length (versions a source.number) = ap length source_same in omega (arith, count_is, moving.enough))
 
   module _ (g h : Content) (here : h ≡ with_versions d chain.number (versions b source.number)) (there : g ≡ cleared b source.number) where
     from_here : versions g source.number ≡ []
@@ -263,8 +263,8 @@ module _ (es fs : List KeyEntry) (sources left_sources chains left_chains : List
         most = ap (λ (x : Content). x.most) there;
         prepared = ap (λ (x : Content). x.prepared) there;
       });
-      gone = all_append (λ (e : Entry). versions g e.chain.number ≡ []) moving.done (from_next.first ∷ [])
-          (all_weaker (λ (e : Entry). versions b e.chain.number ≡ []) (λ (e : Entry). versions g e.chain.number ≡ []) still_gone moving.done moving.gone) (ap (versions g) source_number ∙ from_here, tt);
+      gone = all_append (λ (e : KeyEntry). versions g e.chain.number ≡ []) moving.done (from_next.first ∷ [])
+          (all_weaker (λ (e : KeyEntry). versions b e.chain.number ≡ []) (λ (e : KeyEntry). versions g e.chain.number ≡ []) still_gone moving.done moving.gone) (ap (versions g) source_number ∙ from_here, tt);
       stay = λ x other. (
           let split : holders x (moving.done ++ from_next.first ∷ []) ≡ holders x moving.done + holders x (from_next.first ∷ []) = held_append x moving.done (from_next.first ∷ []) in
           let differs : x ≢ source.number = λ same. (let one = one_same x from_next.first.chain.number (same ∙ sym source_number) in absurd (omega (arith, split, one))) in
@@ -281,14 +281,14 @@ module _ (es fs : List KeyEntry) (sources left_sources chains left_chains : List
           let split : holders x (moving.filled ++ to_next.first ∷ []) ≡ holders x moving.filled + holders x (to_next.first ∷ []) = held_append x moving.filled (to_next.first ∷ []) in
           let differs : x ≢ chain.number = λ same. (let one = one_same x to_next.first.chain.number (same ∙ sym chain_number) in absurd (omega (arith, split, one))) in
           to_elsewhere x differs ∙ moving.none x (omega (arith, split)));
-      room = (let f : h.free ≡ d.free - length (versions b source.number) = ap (λ (x : Content). x.free) here in
-          let e : length (versions b source.number) ≡ length (versions a source.number) = ap length source_same in omega (arith, count_is, moving.room));
+      enough = (let f : h.free ≡ d.free - length (versions b source.number) = ap (λ (x : Content). x.free) here in
+          let e : length (versions b source.number) ≡ length (versions a source.number) = ap length source_same in omega (arith, count_is, moving.enough));
     }
 
 pub moving_ends : (es fs : List KeyEntry) (sources chains : List Chain) (a b c d : Content) → IsMoving es fs sources chains a b c d → sources ≡ [] → AreMoved es fs a b c d
 moving_ends es fs sources chains a b c d moving none =
     let nothing : moving.left ≡ [] = none_left moving.left (sym moving.sources_are ∙ none) in
-    let open_none : moving.open_ones ≡ [] = empty moving.open_ones (let z : length moving.left ≡ 0 = ap length nothing in omega (arith, moving.equal)) in
+    let open_none : moving.open_ones ≡ [] = nil_from_length moving.open_ones (let z : length moving.left ≡ 0 = ap length nothing in omega (arith, moving.equal)) in
     let whole : moving.done ≡ es = sym (moving.whole ∙ ap (λ (l : List KeyEntry). moving.done ++ l) nothing ∙ append-nil moving.done) in
     let parts : moving.filled ≡ fs = sym (moving.parts ∙ ap (λ (l : List KeyEntry). moving.filled ++ l) open_none ∙ append-nil moving.filled) in
     record {
@@ -298,7 +298,3 @@ moving_ends es fs sources chains a b c d moving none =
       to = moving.to;
       there = subst (λ (l : List KeyEntry). HaveVersions a d l fs) whole (subst (λ (l : List KeyEntry). HaveVersions a d moving.done l) parts moving.there);
     }
-  where
-    empty : (l : List KeyEntry) → length l ≡ 0 → l ≡ []
-    empty [] h = refl
-    empty (e ∷ l) h = absurd (let z : suc (length l) ≡ 0 = h in omega arith)

@@ -9,6 +9,7 @@ use Rattle.span_value.proofs.Lists.{all_append, all_weaker, all_both}
 use Rattle.span_arena.specs.Content.{Content, Prepared, prepared_at, prepared_for, one_for}
 use Rattle.span_arena.proofs.Counts.{sum-set}
 use Rattle.span_keytree.specs.Arenas.{HasSameChains}
+use Rattle.span_keytree.proofs.Rising.{all_front}
 use Rattle.span_keyindex.specs.Indexes.{entries_of}
 use Rattle.span_keyindex.specs.declared.index.KeyIndex.{KeyIndex}
 use Rattle.span_keyindex.proofs.Keeping.{chain_same}
@@ -17,10 +18,6 @@ use Rattle.span_store.specs.declared.chain.PreparedWrite.{PreparedWrite}
 use Rattle.span_store.specs.declared.node.PreparedNode.{PreparedNode}
 use Rattle.span_store.specs.KeyVersions.{KeyVersions}
 use Rattle.span_store.specs.Stored.{is_for, image_of, write_of, write_for, count_for, IsNodeOf, AreOwned, IsStored, IsKept}
-
-pub all_front_of : {X : Type 0} (P : X → Type 0) (xs ys : List X) → AllByRecursion P (xs ++ ys) → AllByRecursion P xs
-all_front_of P [] ys h = tt
-all_front_of P (x ∷ xs) ys h = (h.0, all_front_of P xs ys h.1)
 
 pub all_back_of : {X : Type 0} (P : X → Type 0) (xs ys : List X) → AllByRecursion P (xs ++ ys) → AllByRecursion P ys
 all_back_of P [] ys h = h
@@ -114,7 +111,7 @@ module _ (a b : Content) (xs ys : List PreparedNode) (p : PreparedNode) (owned :
       let one : one_of p.chain.number p ≡ 1 = ap (λ b. cond b 1 0) t in
       let none : count_for p.chain.number (xs ++ ys) ≡ 0 = omega (arith, count-middle p.chain.number xs ys p, owned.once p.chain.number) in
       all_both (IsNodeOf a) (λ (q : PreparedNode). is_for p.chain.number q ≡ false) (xs ++ ys)
-      (all_append (IsNodeOf a) xs ys (all_front_of (IsNodeOf a) xs (p ∷ ys) owned.nodes) (all_back_of (IsNodeOf a) xs (p ∷ ys) owned.nodes).1)
+      (all_append (IsNodeOf a) xs ys (all_front (IsNodeOf a) xs (p ∷ ys) owned.nodes) (all_back_of (IsNodeOf a) xs (p ∷ ys) owned.nodes).1)
       (none_for p.chain.number (xs ++ ys) none)
 
   pub others_stay : AllByRecursion (λ (q : PreparedNode). prepared_at b q.node.number ≡ prepared_at a q.node.number) (xs ++ ys)

@@ -71,7 +71,7 @@ moved_keys a d ps (e ∷ es) (f ∷ fs) keys there idle =
 pub part_keys : (key : List ℕ) (a b c d : Content) (ps : List PreparedNode) (es fs : List KeyEntry) → keys_of fs ≡ keys_of (entries_from key es) → AreMoved (entries_from key es) fs a b c d → IsIdle (all_kept a ps es)
     → all_kept d [] fs ≡ keys_from key (all_kept a ps es)
 part_keys key a b c d ps es fs keys moved idle =
-    moved_keys a d ps (entries_from key es) fs keys moved.there (all_filter (λ (e : Entry). write_for a ps e.chain.number ≡ None) (λ (e : Entry). not (is_lt (byte_order e.key key))) es (idle_entries a ps es idle))
+    moved_keys a d ps (entries_from key es) fs keys moved.there (all_filter (λ (e : KeyEntry). write_for a ps e.chain.number ≡ None) (λ (e : KeyEntry). not (is_lt (byte_order e.key key))) es (idle_entries a ps es idle))
     ∙ sym (filter-map (λ (k : KeyVersions). not (is_lt (byte_order k.key key))) (kept_entry a ps) es)
 
 pub none_still : (a b : Content) → b.chains ≡ a.chains → ((x : ℕ) → versions a x ≡ []) → (x : ℕ) → versions b x ≡ []
@@ -79,16 +79,16 @@ none_still a b same none x = ap (λ (cs : List (Option (List ArenaVersion))). ve
 
 pub part_kept : (key : List ℕ) (es : List KeyEntry) (fs : List KeyEntry) (n : ℕ) (part : KeyIndex) (a b before c d : Content) → IsPartFrom key es a.most part before → AreReserved n before c → AreMoved (entries_from key es) fs a b c d → a.most ≡ most_nodes
     → IsKept part d []
-part_kept key es fs n part a b before c d is room moved most =
-    let own : IsIndexOf part c = index_stays part before c is.own room.cells (same-equal before c room.chains) in
+part_kept key es fs n part a b before c d is reserved moved most =
+    let own : IsIndexOf part c = index_stays part before c is.own reserved.cells (same-equal before c reserved.chains) in
     record {
       index = index_stays part c d own moved.to.cells moved.to.same;
       owned = record {
         nodes = tt;
-        counted = λ x. ap (prepared_for x) moved.to.prepared ∙ room.prepared x ∙ ap (prepared_for x) is.prepared;
+        counted = λ x. ap (prepared_for x) moved.to.prepared ∙ reserved.prepared x ∙ ap (prepared_for x) is.prepared;
         once = λ x. omega arith;
       };
-      most = moved.to.most ∙ room.most ∙ is.most ∙ most;
+      most = moved.to.most ∙ reserved.most ∙ is.most ∙ most;
     }
 
 -- ---- the old part
@@ -98,7 +98,7 @@ record IsParted (key : List ℕ) (a b : Content) (e : KeyEntry) : Type 0 where
   pub below : is_lt (byte_order e.key key) ≡ true → versions b e.chain.number ≡ versions a e.chain.number
   pub gone : is_lt (byte_order e.key key) ≡ false → versions b e.chain.number ≡ []
 
-kept_below : (key : List ℕ) (a b : Content) (xs ys : List Entry) → ((x : ℕ) → holders x (xs ++ ys) ≤ 1) → ((x : ℕ) → holders x ys ≡ 0 → versions b x ≡ versions a x) → AllByRecursion (λ (e : Entry). is_lt (byte_order e.key key) ≡ true) xs
+kept_below : (key : List ℕ) (a b : Content) (xs ys : List KeyEntry) → ((x : ℕ) → holders x (xs ++ ys) ≤ 1) → ((x : ℕ) → holders x ys ≡ 0 → versions b x ≡ versions a x) → AllByRecursion (λ (e : KeyEntry). is_lt (byte_order e.key key) ≡ true) xs
     → AllByRecursion (IsParted key a b) xs
 kept_below key a b [] ys once stay h = tt
 kept_below key a b (x ∷ xs) ys once stay h = (
@@ -164,8 +164,8 @@ module _ (a b : Content) (same : HasSameKeys a b) where
 pub held_once : (es : List KeyEntry) (a : Content) → IsArenaOf es a → (x : ℕ) → holders x es ≤ 1
 held_once es a own x = omega (arith, own.each x, at_most_one (get_or a.chains x None))
 
-pub part_once : (key : List ℕ) (es : List Entry) (a : Content) → IsArenaOf es a → (x : ℕ) → holders x (entries_from key es) ≤ 1
-part_once key es a own x = omega (arith, held_once es a own x, held_filter (λ (e : Entry). not (is_lt (byte_order e.key key))) x es)
+pub part_once : (key : List ℕ) (es : List KeyEntry) (a : Content) → IsArenaOf es a → (x : ℕ) → holders x (entries_from key es) ≤ 1
+part_once key es a own x = omega (arith, held_once es a own x, held_filter (λ (e : KeyEntry). not (is_lt (byte_order e.key key))) x es)
 
 pub old_keys : (key : List ℕ) (a b c d : Content) (ps : List PreparedNode) (es fs : List KeyEntry) → AreRising es → IsArenaOf es a → AreMoved (entries_from key es) fs a b c d → IsIdle (all_kept a ps es) → AllByRecursion IsInUse (all_kept a ps es)
     → filter is_used (all_kept b ps es) ≡ keys_before key (all_kept a ps es)

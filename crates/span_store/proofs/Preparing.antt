@@ -10,11 +10,12 @@ use Rattle.span_value.proofs.Lists.{all_append, all_weaker, drop_read}
 use Rattle.span_arena.specs.Content.{Content, Prepared, prepared_at, prepared_for, one_for, sum_for, with_at, IsChain, IsInOrder, IsReserved, IsRefusedNode, given_back}
 use Rattle.span_arena.proofs.Counts.{sum-set, sum-push}
 use Rattle.span_arena.proofs.Keeping.{with_at-other, chain_stays, prepared_now}
+use Rattle.span_keytree.proofs.Rising.{all_front}
 use Rattle.span_keyindex.proofs.Keeping.{same-equal, chain_same}
 use Rattle.span_store.specs.declared.chain.PreparedWrite.{PreparedWrite}
 use Rattle.span_store.specs.declared.node.PreparedNode.{PreparedNode}
 use Rattle.span_store.specs.Stored.{is_for, image_of, write_for, count_for, IsNodeOf, AreOwned, HasPrepared, IsPlaceFor}
-use Rattle.span_store.proofs.Owned.{all_front_of, all_back_of, count-append, one_of, count-middle, in_range-some, write-skip, write-here, write-same, owned_without, write_elsewhere}
+use Rattle.span_store.proofs.Owned.{all_back_of, count-append, one_of, count-middle, in_range-some, write-skip, write-here, write-same, owned_without, write_elsewhere}
 
 -- a sum with a node where nothing was prepared
 sum-with_at : (c : ℕ) (ps : List (Option Prepared)) (i : ℕ) (p : Option Prepared) → i ≤ length ps → get_or ps i None ≡ None → sum_for (one_for c) (with_at ps i p) ≡ sum_for (one_for c) ps + one_for c p
@@ -50,7 +51,7 @@ module _ (a b : Content) (xs ys : List PreparedNode) (p : PreparedNode) (image :
   owned_with = record {
     nodes =
         let all = all_weaker (IsNodeOf a) (IsNodeOf b) node_stays (xs ++ ys) owned.nodes in
-        all_append (IsNodeOf b) xs (p ∷ ys) (all_front_of (IsNodeOf b) xs ys all) (new_node, all_back_of (IsNodeOf b) xs ys all);
+        all_append (IsNodeOf b) xs (p ∷ ys) (all_front (IsNodeOf b) xs ys all) (new_node, all_back_of (IsNodeOf b) xs ys all);
     counted = λ c. (
         let s : prepared_for c (with_at a.prepared p.node.number (Some (record { chain = p.chain.number; image = image }))) ≡ prepared_for c a.prepared + one_of c p = sum-with_at c a.prepared p.node.number _ reserved.number reserved.was_none in
         let now : prepared_for c b.prepared ≡ prepared_for c (with_at a.prepared p.node.number (Some (record { chain = p.chain.number; image = image }))) = ap (λ (x : Content). prepared_for c x.prepared) reserved.now in
@@ -100,8 +101,8 @@ set_in_parts (x ∷ xs) (suc i) p lt =
     ap (λ (l : List PreparedNode). x ∷ l) (set_in_parts xs i p (omega arith)) ∙ ap (λ k. x ∷ (take i xs ++ p ∷ drop k (x ∷ xs))) (sym n)
 
 -- after a node was given back one is free
-pub has_room : (a : Content) (n : ℕ) (b : Content) (P : Type 0) (why : Refusal) → b ≡ given_back a n → IsInOrder b → IsRefusedNode b why → P
-has_room a n b P why is order refused =
+pub never_refused : (a : Content) (n : ℕ) (b : Content) (P : Type 0) (why : Refusal) → b ≡ given_back a n → IsInOrder b → IsRefusedNode b why → P
+never_refused a n b P why is order refused =
     let free : b.free ≡ a.free + 1 = ap (λ (x : Content). x.free) is in
     elim refused [
       | inl full ↦ absurd (omega (arith, free, order.placed, order.bounded, full.1))

@@ -15,6 +15,7 @@ use Rattle.span_store.specs.Stored.{version_of, chain_versions, is_for, write_of
 use Rattle.span_store.proofs.Owned.{write-same, kept_equal}
 use Rattle.std.proofs.Math.Bool.{and-false}
 use Rattle.std.proofs.lemmas.List.Elements.{filter_agree}
+use Rattle.std.proofs.lemmas.Bool.{not-true}
 use Rattle.span_value.proofs.Lists.{all_weaker, filter-map, all_whole}
 
 -- lists with equal results of a function
@@ -76,14 +77,10 @@ module _ (es : List KeyEntry) (a b : Content) (ps : List PreparedNode) (owned : 
 
   key_is : (e : KeyEntry) → not (is_unused a e.chain.number) ≡ true → kept_entry b ps e ≡ kept_entry a ps e
   key_is e used =
-      let f : is_unused a e.chain.number ≡ false = not_true (is_unused a e.chain.number) used in
+      let f : is_unused a e.chain.number ≡ false = not-true (is_unused a e.chain.number) used in
       kept_equal e.key (chain_versions b e.chain.number) (chain_versions a e.chain.number) (write_for b ps e.chain.number) (write_for a ps e.chain.number)
       (ap (λ (o : Option (List ArenaVersion)). map version_of (versions_in o)) (chain_is e.chain.number f))
       (write-same a b e.chain.number ps stay)
-    where
-      not_true : (t : Bool) → not t ≡ true → t ≡ false
-      not_true true g = absurd cc
-      not_true false g = refl
 
   pub keys_used : all_kept b ps (in_use a es) ≡ filter is_used (all_kept a ps es)
   keys_used =

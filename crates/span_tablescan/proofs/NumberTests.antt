@@ -10,6 +10,7 @@ use Rattle.std.proofs.lemmas.Bool.{and_parts, not-true}
 use Rattle.std.proofs.Math.Seq.{take-suc}
 use Rattle.std.proofs.lemmas.List.{drop_more, drop-drop, map-append}
 use Rattle.std.proofs.lemmas.List.Sums.{fold-append}
+use Rattle.std.proofs.Math.Bool.{and-true}
 use Rattle.span_value.specs.declared.value.Value.{Value}
 use Rattle.span_value.specs.declared.value.Value.TheVariants.{Null, Int, Str, Bytes, Bool as Flag}
 use Rattle.span_value.specs.declared.value.Kind.{Kind}
@@ -318,16 +319,12 @@ both_again condition.Faulted condition.Faulted condition.Faulted = refl
 -- ---- the tests of one condition more
 
 all_and : {X : Type 0} (f : X → Bool) (xs : List X) (y : X) → list_all f (xs ++ y ∷ []) ≡ (list_all f xs && f y)
-all_and f [] y = by_test (f y)
+all_and f [] y = and-true (f y)
+all_and f (x ∷ xs) y = and-true (f x) (all_and f xs y)
   where
-    by_test : (b : Bool) → (b && true) ≡ b
-    by_test true = refl
-    by_test false = refl
-all_and f (x ∷ xs) y = by_test (f x) (all_and f xs y)
-  where
-    by_test : (b : Bool) → list_all f (xs ++ y ∷ []) ≡ (list_all f xs && f y) → (b && list_all f (xs ++ y ∷ [])) ≡ ((b && list_all f xs) && f y)
-    by_test true so = so
-    by_test false so = refl
+    and-true : (b : Bool) → list_all f (xs ++ y ∷ []) ≡ (list_all f xs && f y) → (b && list_all f (xs ++ y ∷ [])) ≡ ((b && list_all f xs) && f y)
+    and-true true so = so
+    and-true false so = refl
 
 pub one_test_added : (schema : List Table) (n : ℕ) (of : TableRow → Condition) (test : NumberTest) (old new : List NumberTest) → new ≡ old ++ test ∷ [] → IsTestOf schema n of test → AddsTests schema n of old new
 one_test_added schema n of test old new added one = subst (AddsTests schema n of old) (sym added) (record {

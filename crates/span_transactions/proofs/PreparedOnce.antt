@@ -21,8 +21,8 @@ all_more P (q ∷ qs) p all last = (all.0, all_more P qs p all.1 last)
 distinct_more : (ps : List Prepared) (p : Prepared) → AreDifferent (slots_of ps) → list_any (λ q. q.slot == p.slot) ps ≡ false → AreDifferent (slots_of (ps ++ p ∷ []))
 distinct_more [] p once none = (tt, tt)
 distinct_more (q ∷ qs) p once none = (
-  all_more (λ n. nat_eq q.slot n ≡ false) qs p once.0 ((or_parts (q.slot == p.slot) (list_any (λ r. r.slot == p.slot) qs) none).0),
-  distinct_more qs p once.1 ((or_parts (q.slot == p.slot) (list_any (λ r. r.slot == p.slot) qs) none).1),
+  all_more (λ n. nat_eq q.slot n ≡ false) qs p once.0 (or_parts (q.slot == p.slot) (list_any (λ r. r.slot == p.slot) qs) none).0,
+  distinct_more qs p once.1 (or_parts (q.slot == p.slot) (list_any (λ r. r.slot == p.slot) qs) none).1,
 )
 
 -- with one more slot, where the transaction is not prepared
@@ -75,8 +75,8 @@ once_few ps are =
     (length-le_from_distinct_below (slots_of ps) most_slots (to_distinct (slots_of ps) are.once) (λ n inside. low_member (slots_of ps) n are.low inside))
 
 -- so one more is within the limit
-pub room_for_one : (ps : List Prepared) (p : Prepared) → AreOfSlots ps → list_any (λ q. q.slot == p.slot) ps ≡ false → p.slot < most_slots → length ps < most_slots
-room_for_one ps p are none low =
+pub one_more_fits : (ps : List Prepared) (p : Prepared) → AreOfSlots ps → list_any (λ q. q.slot == p.slot) ps ≡ false → p.slot < most_slots → length ps < most_slots
+one_more_fits ps p are none low =
     let few : length (ps ++ p ∷ []) ≤ most_slots = once_few (ps ++ p ∷ []) (once_more ps p are none low) in
     grind (arith, few, one_longer ps p)
   where

@@ -4,6 +4,7 @@ use Rattle.std.specs.Prelude.{slice_get, slice_set}
 use Rattle.std.specs.List.{list_any}
 use Rattle.std.proofs.lemmas.List.{length-set}
 use Rattle.std.proofs.lemmas.Option.{same_Some}
+use Rattle.std.proofs.Math.Nat.{suc_inj}
 use Rattle.span_value.specs.declared.refusal.Refusal.{Refusal}
 use Rattle.span_schema.specs.declared.table.Table.{Table}
 use Rattle.span_schema.specs.Lineages.{MeetsRules}
@@ -82,11 +83,8 @@ set_place (y ∷ ys) zero (suc j) v x h = inr (h, λ e. cc)
 set_place (y ∷ ys) (suc i) zero v x h = inr (h, λ e. cc)
 set_place (y ∷ ys) (suc i) (suc j) v x h = elim (set_place ys i j v x h) [
   | inl e ↦ inl (ap suc e.0, e.1)
-  | inr e ↦ inr (e.0, λ same. e.1 (next_same j i same))
+  | inr e ↦ inr (e.0, λ same. e.1 (suc_inj same))
 ]
-  where
-    next_same : (j k : ℕ) → suc j ≡ suc k → j ≡ k
-    next_same j k e = cc
 
 pub all_kept_set : (schema : List Table) (m n : Machine) (shards : List (List KeyVersions)) (i : ℕ) (ds : List KeyVersions) → length n.slots ≡ length m.slots → AreKept schema n i ds
     → ((slot : ℕ) (cs : List KeyVersions) → slot ≢ i → AreKept schema m slot cs → AreKept schema n slot cs) → AreAllKept schema m shards → AreAllKept schema n (slice_set shards i ds)
@@ -119,12 +117,9 @@ cut_place (y ∷ ys) (suc i) (suc j) v w x h = elim (cut_place ys i j v w x h) [
   | inl e ↦ inl (ap suc e.0, e.1)
   | inr other ↦ (elim other [
     | inl e ↦ inr (inl (ap suc e.0, e.1))
-    | inr e ↦ inr (inr (e.0, λ same. e.1 (next_same j i same)))
+    | inr e ↦ inr (inr (e.0, λ same. e.1 (suc_inj same)))
   ])
 ]
-  where
-    next_same : (j k : ℕ) → suc j ≡ suc k → j ≡ k
-    next_same j k e = cc
 
 cut_length : {A : Type 0} (xs : List A) (i : ℕ) (v w : A) → length (slice_set xs i v ++ w ∷ []) ≡ suc (length xs)
 cut_length [] i v w = refl

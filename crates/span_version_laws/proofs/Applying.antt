@@ -113,7 +113,7 @@ keys_applied P txn committed (c ∷ cs) all =
 
 module _ (schema : List Table) (m : Machine) (reached : IsReached schema m) {slot : ℕ} (cs : List KeyVersions) (kept : AreKept schema m slot cs) (owner txn : ℕ) (t : OpenTransaction) (found : find (is_transaction owner txn) m.transactions ≡ Some t) where
   txn_is : t.number ≡ txn
-  txn_is = eqb-true t.number txn ((and_parts (t.owner == owner) (t.number == txn) (found_passes (is_transaction owner txn) m.transactions t found)).1)
+  txn_is = eqb-true t.number txn (and_parts (t.owner == owner) (t.number == txn) (found_passes (is_transaction owner txn) m.transactions t found)).1
 
   off_after : (root : Root) → claims schema root slot (without_prepared slot t) ≡ false
   off_after root = and_left (is_prepared_at slot (without_prepared slot t)) (is_some_of (filter (is_at schema root) t.mutations)) (left_slot slot t.prepared)
@@ -169,7 +169,7 @@ module _ (schema : List Table) (m : Machine) (reached : IsReached schema m) {slo
         | false ↦ λ off. kept_of_others root is_root held k under (Some ts) off
         | true ↦ λ is.
             let place = placed_in schema m reached root (coded_root schema root is_root) slot (home schema m cs kept root held) in
-            let high : kept.slot_state.horizon < ts = above_horizon schema m reached root (coded_root schema root is_root) slot (home schema m cs kept root held) t ts (found_in (is_transaction owner txn) m.transactions t found) ((and_parts (is_prepared_at slot t) (is_some_of (filter (is_at schema root) t.mutations)) is).0) e in
+            let high : kept.slot_state.horizon < ts = above_horizon schema m reached root (coded_root schema root is_root) slot (home schema m cs kept root held) t ts (found_in (is_transaction owner txn) m.transactions t found) (and_parts (is_prepared_at slot t) (is_some_of (filter (is_at schema root) t.mutations)) is).0 e in
             subst (IsKeptBy schema root k kept.slot_state.horizon (commits_at schema root m.log) (applied_versions t.number (Some ts) (prepared_at cs k) (versions_at cs k)) (applied_prepared t.number (prepared_at cs k))) (sym (left root is_root held is))
             (applied_pending schema root k kept.slot_state.horizon (commits_at schema root m.log) (versions_at cs k) (prepared_at cs k) t ts place.rising high
             (kept_under schema m reached cs kept root is_root held k under (is_transaction owner txn) t (decision.Committed ts) found is e))

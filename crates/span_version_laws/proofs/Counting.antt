@@ -76,7 +76,7 @@ kept_at_key h k cs =
   where
     of_key : (c d : Change) → is_at_key k c ≡ true → hides h c d ≡ true → is_at_key k d ≡ true
     of_key c d at e =
-        let one : bytes_eq c.key d.key ≡ true = (and_parts (bytes_eq c.key d.key) (nat_lt c.timestamp d.timestamp) ((and_parts (bytes_eq c.key d.key && nat_lt c.timestamp d.timestamp) (nat_le d.timestamp h) e).0)).0 in
+        let one : bytes_eq c.key d.key ≡ true = (and_parts (bytes_eq c.key d.key) (nat_lt c.timestamp d.timestamp) (and_parts (bytes_eq c.key d.key && nat_lt c.timestamp d.timestamp) (nat_le d.timestamp h) e).0).0 in
         bytes_same k d.key (same_bytes k c.key at ∙ (bytes_eq-Decides c.key d.key).0 one)
 
     same : (c : Change) → is_at_key k c ≡ true → is_kept h cs c ≡ is_kept h (filter (is_at_key k) cs) c

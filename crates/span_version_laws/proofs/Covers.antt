@@ -170,9 +170,9 @@ module _ (schema : List Table) (rules : MeetsRules schema) (log : List Commit) (
   all_read (l ∷ ls) (p ∷ ps) covered are planned all =
       let own : joined_pieces p ≡ leaf_within schema db l.leaf l.leaf.range =
       pieces_joined l.leaf l.covered p all.0
-      ∙ sym (leaf_tiled schema rules db is_db typed l.leaf planned.0 l.leaf.range l.covered ((and_parts (is_covered l) (list_all is_covered ls) covered).0) are.0.ends are.0.range) in
+      ∙ sym (leaf_tiled schema rules db is_db typed l.leaf planned.0 l.leaf.range l.covered (and_parts (is_covered l) (list_all is_covered ls) covered).0 are.0.ends are.0.range) in
       ap (λ (r : Rows). r ∷ map joined_pieces ps) own
-      ∙ ap (λ (rs : List Rows). leaf_within schema db l.leaf l.leaf.range ∷ rs) (all_read ls ps ((and_parts (is_covered l) (list_all is_covered ls) covered).1) are.1 planned.1 all.1)
+      ∙ ap (λ (rs : List Rows). leaf_within schema db l.leaf l.leaf.range ∷ rs) (all_read ls ps (and_parts (is_covered l) (list_all is_covered ls) covered).1 are.1 planned.1 all.1)
 
 -- ---- the pieces of an empty journal, and those that come, are changed and go
 

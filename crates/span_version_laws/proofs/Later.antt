@@ -85,7 +85,7 @@ of_others txn ts vs (Some w) off = λ e. absurd (off e)
 
 module _ (schema : List Table) (rules : MeetsRules schema) (m : Machine) (reached : IsReached schema m) {slot : ℕ} (cs : List KeyVersions) (kept : AreKept schema m slot cs) (owner txn : ℕ) (t : OpenTransaction) (found : find (is_transaction owner txn) m.transactions ≡ Some t) where
   txn_is : t.number ≡ txn
-  txn_is = eqb-true t.number txn ((and_parts (t.owner == owner) (t.number == txn) (found_passes (is_transaction owner txn) m.transactions t found)).1)
+  txn_is = eqb-true t.number txn (and_parts (t.owner == owner) (t.number == txn) (found_passes (is_transaction owner txn) m.transactions t found)).1
 
   later_at : (ts : ℕ) → t.decision ≡ decision.Committed ts → (root : Root) (is_root : IsCodedRoot schema root) (held : holds schema kept.slot_state root ≡ true) (k : List ℕ) (under : is_under schema root k ≡ true) → IsLaterWrite t.number ts (versions_at cs k) (prepared_at cs k)
   later_at ts e root is_root held k under = elim (claims schema root slot t) as (λ v. claims schema root slot t ≡ v → IsLaterWrite t.number ts (versions_at cs k) (prepared_at cs k)) [

@@ -154,7 +154,7 @@ module _ (schema : List Table) (rules : MeetsRules schema) (m : Machine) (reache
   may = may_prepare (is_undecided t) (is_prepared_at slot t) (length (mutations_in schema slot_state t.mutations) == 0) (has_conflict schema m slot (mutations_in schema slot_state t.mutations)) accepted
 
   txn_is : t.number ≡ txn
-  txn_is = eqb-true t.number txn ((and_parts (t.owner == owner) (t.number == txn) (found_passes (is_transaction owner txn) m.transactions t found)).1)
+  txn_is = eqb-true t.number txn (and_parts (t.owner == owner) (t.number == txn) (found_passes (is_transaction owner txn) m.transactions t found)).1
 
   pub its_typed : AreTypedMutations schema (mutations_in schema slot_state t.mutations)
   its_typed = typed_in schema slot_state t.mutations (all_found (IsBegunBy schema) (is_transaction owner txn) m.transactions t found reached.by_schema.transactions)

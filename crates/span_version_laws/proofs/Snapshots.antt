@@ -121,7 +121,7 @@ module _ (schema : List Table) (rules : MeetsRules schema) (m : Machine) {slot :
   row_under root is_root k under u decision.Aborted e at is h = row_seen root is_root k under (commits_at schema root m.log) h.1 refl
   row_under root is_root k under u (decision.Committed ts) e at is h =
       let upto_ts : AllByRecursion (λ (p : Prepared). p.timestamp ≤ ts) u.prepared = subst (λ o. IsUpto o u.prepared) e (all_in (IsHolding _) m.transactions u at reached.holding).timely in
-      let later : s < ts = late slot s ts u.prepared ((and_parts (is_prepared_at slot u) (is_some_of _) is).0) (all_in (IsAbove s slot) m.transactions u at above) upto_ts in
+      let later : s < ts = late slot s ts u.prepared (and_parts (is_prepared_at slot u) (is_some_of _) is).0 (all_in (IsAbove s slot) m.transactions u at above) upto_ts in
       row_seen root is_root k under h.front h.rows
       (ap (filter (λ d. nat_le d.timestamp s)) h.whole ∙ filter-append (λ d. nat_le d.timestamp s) h.front (commit_of ts u ∷ [])
       ∙ ap (λ b. filter (λ d. nat_le d.timestamp s) h.front ++ cond b (commit_of ts u ∷ []) []) (lt-leb ts s later) ∙ append-nil _)
@@ -308,7 +308,7 @@ snapshot_when_safe schema rules m slot slot_state risen cs s reached kept here s
     let above : AllByRecursion (IsAbove s slot) m.transactions =
     all_true (IsAbove s slot) (λ t. list_all (λ p. not (p.slot == slot) || nat_lt s p.timestamp) t.prepared)
     (λ t e. all_true (λ (p : Prepared). p.slot ≡ slot → s < p.timestamp) (λ p. not (p.slot == slot) || nat_lt s p.timestamp) (λ p e same. above_by p.slot slot s p.timestamp e same) t.prepared e)
-    m.transactions ((and_parts (nat_le s risen.floor) _ safe).1) in
+    m.transactions (and_parts (nat_le s risen.floor) _ safe).1 in
     let is_db : IsDatabase schema db = apply-database schema rules (mutations_of (upto m.log s)) [] db (empty_database schema) (keyed_upto schema m.log s reached.by_schema.log) made in
     let typed : AreTyped schema db = typed_stay schema [] (mutations_of (upto m.log s)) db tt (typed_upto schema m.log s reached.by_schema.log) made in
     subst (λ (b : SlotState). HasRowsOf schema b range db (snapshot range s cs)) same

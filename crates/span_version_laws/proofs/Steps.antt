@@ -256,7 +256,7 @@ module _ (schema : List Table) (m : Machine) (reached : IsReached schema m) {slo
   kept_ends u = record {
     refuses = kept_refused;
     begins = λ owner ms accepted. kept_begun owner ms;
-    prepares = λ owner txn i t slot_state found here accepted well room low off. kept_prepared_away owner txn i t slot_state off found here;
+    prepares = λ owner txn i t slot_state found here accepted well fits low off. kept_prepared_away owner txn i t slot_state off found here;
     commits = λ owner txn interval t found accepted.
         let may = may_commit (is_undecided t) (is_all_prepared schema m t) (nat_le timestamp_end (commit_timestamp m t interval)) accepted in
         kept_decided owner txn (commit_timestamp m t interval) t found may.0 may.1;

@@ -39,7 +39,7 @@ loop-row-preserved c =
           ∙ front_more tables front (row_mutation heading c.in-Some.row) rest c.in_ok-check_row.field-0 c.in_ok-check_row.ensures.checked
           ∙ ap (λ (l : List BatchRow). with_front front (checked_all tables (row_mutations heading l))) (sym next.0) ∙ c.loop-row.invariant.so_far;
       typed = subst (AreTypedMutations tables) (sym c.push_reserved.ensures.items) (all_push (IsTypedMutation tables) front c.in_ok-check_row.field-0 c.loop-row.invariant.typed c.in_ok-check_row.ensures.typed);
-      room = omega (arith, next.1, c.push_reserved.ensures.len, c.push_reserved.ensures.capacity, c.loop-row.invariant.room);
+      capacity = omega (arith, next.1, c.push_reserved.ensures.len, c.push_reserved.ensures.capacity, c.loop-row.invariant.capacity);
       count = omega (arith, ap length next.0, next.1, c.loop-row.invariant.count);
     }
 

@@ -11,6 +11,6 @@ abbrev pub invariant-loop-row : goal.invariant-loop-row
 invariant-loop-row l = record {
   so_far : with_front l.done.items (checked_all l.schema (row_mutations l.heading (into_iter_items l.row-iterator))) ≡ with_front l.fn.done.items (checked_all l.schema (row_mutations l.heading l.fn.rows.items));
   typed : AreTypedMutations l.schema l.done.items;
-  room : vec_len l.done + into_iter_len l.row-iterator ≤ vec_capacity l.done;
+  capacity : vec_len l.done + into_iter_len l.row-iterator ≤ vec_capacity l.done;
   count : into_iter_len l.row-iterator ≡ length (into_iter_items l.row-iterator);
 }

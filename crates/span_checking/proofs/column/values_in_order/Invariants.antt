@@ -8,6 +8,6 @@ use Rattle.span_checking.proofs.column.values_in_order.Given as goal
 abbrev pub invariant-loop-cell : goal.invariant-loop-cell
 invariant-loop-cell l = record {
   so_far : l.values.items ++ map (λ (x : NamedValue). Some x.value) (into_iter_items l.cell-iterator) ≡ map (λ (x : NamedValue). Some x.value) l.fn.cells.items;
-  room : vec_len l.values + into_iter_len l.cell-iterator ≤ vec_capacity l.values;
+  capacity : vec_len l.values + into_iter_len l.cell-iterator ≤ vec_capacity l.values;
   count : into_iter_len l.cell-iterator ≡ length (into_iter_items l.cell-iterator);
 }

@@ -38,7 +38,7 @@ loop-mutation-preserved c =
           let Q : List CheckedMutation → Type 0 = All P in
           subst Q (sym c.push_reserved.ensures.items) (All-push P front c.in_ok-check.field-0 c.loop-mutation.invariant.tables c.in_ok-check.ensures.table);
       typed = subst (AreTypedMutations c.args.schema.now) (sym c.push_reserved.ensures.items) (all_push (IsTypedMutation c.args.schema.now) front c.in_ok-check.field-0 c.loop-mutation.invariant.typed c.in_ok-check.ensures.typed);
-      room = omega (arith, next.1, c.push_reserved.ensures.len, c.push_reserved.ensures.capacity, c.loop-mutation.invariant.room);
+      capacity = omega (arith, next.1, c.push_reserved.ensures.len, c.push_reserved.ensures.capacity, c.loop-mutation.invariant.capacity);
       count = omega (arith, ap length next.0, next.1, c.loop-mutation.invariant.count);
     }
 

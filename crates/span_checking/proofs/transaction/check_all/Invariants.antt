@@ -14,6 +14,6 @@ invariant-loop-mutation l = record {
   so_far : with_front l.checked.items (checked_all l.schema (into_iter_items l.mutation-iterator)) ≡ checked_all l.schema l.fn.mutations.items;
   tables : All (λ (m : CheckedMutation). IsTable l.schema m.table) l.checked.items;
   typed : AreTypedMutations l.schema l.checked.items;
-  room : vec_len l.checked + into_iter_len l.mutation-iterator ≤ vec_capacity l.checked;
+  capacity : vec_len l.checked + into_iter_len l.mutation-iterator ≤ vec_capacity l.checked;
   count : into_iter_len l.mutation-iterator ≡ length (into_iter_items l.mutation-iterator);
 }

@@ -27,7 +27,7 @@ loop-step-preserved c =
       checked = checked.1;
       rest = append_assoc c.loop-step.yielded (c.in-Some.step ∷ []) (into_iter_items c.next.new.self) ∙ ap (λ l. c.loop-step.yielded ++ l) (sym next.0) ∙ c.loop-step.invariant.rest;
       count = omega (arith, ap length next.0, next.1, c.loop-step.invariant.count);
-      room = omega (arith, c.loop-step.invariant.room, c.push_reserved.ensures.len, c.push_reserved.ensures.capacity, next.1);
+      capacity = omega (arith, c.loop-step.invariant.capacity, c.push_reserved.ensures.len, c.push_reserved.ensures.capacity, next.1);
     }
 
 pub returns-clause-history : goal.returns-clause-history

@@ -15,5 +15,5 @@ invariant-loop-step l = record {
   checked : AreChecked l.fn.schema (into_iter_items l.step-iterator);
   rest : l.yielded ++ into_iter_items l.step-iterator ≡ l.fn.steps.items;
   count : into_iter_len l.step-iterator ≡ length (into_iter_items l.step-iterator);
-  room : vec_len l.replies + into_iter_len l.step-iterator ≤ vec_capacity l.replies;
+  capacity : vec_len l.replies + into_iter_len l.step-iterator ≤ vec_capacity l.replies;
 }

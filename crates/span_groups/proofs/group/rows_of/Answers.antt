@@ -10,12 +10,12 @@ use Rattle.span_groups.specs.declared.aggregate.AggregateState.{AggregateState}
 use Rattle.span_groups.specs.GroupStates.{keys_at}
 use Rattle.span_groups.specs.StateLists.{Group, groups_in, states_from}
 use Rattle.span_groups.proofs.GroupSteps.{group_by_first, count_by_firsts}
-use Rattle.span_groups.proofs.StateLists.{room_at}
+use Rattle.span_groups.proofs.StateLists.{fits_at}
 use Rattle.span_groups.proofs.Shown.{AreShown, groups-shown, gives_row, puts_fails, next_taken, shown_more, shown_fails, shown_all}
 use Rattle.span_groups.proofs.group.rows_of.Goals as goal
 
 pub states_at-requires : goal.states_at-requires
-states_at-requires c = omega (arith, c.requires, room_at c.loop-at.at c.args.width (length c.args.firsts.now) (search rules))
+states_at-requires c = omega (arith, c.requires, fits_at c.loop-at.at c.args.width (length c.args.firsts.now) (search rules))
 
 pub returns-in_err-put_row : goal.returns-in_err-put_row
 returns-in_err-put_row c g rows keyed wide are =

@@ -5,7 +5,7 @@ use Rattle.span_groups.specs.declared.aggregate.AggregateState.{AggregateState}
 use Rattle.span_groups.specs.StateLists.{states_from, IsChangedAt}
 use Rattle.span_groups.specs.States.{CanCountOne}
 use Rattle.span_groups.proofs.Absorbed.{TakesRow}
-use Rattle.span_groups.proofs.GroupSteps.{in_step, room_within, can_count, taken_at}
+use Rattle.span_groups.proofs.GroupSteps.{in_step, states_within, can_count, taken_at}
 use Rattle.span_groups.proofs.group.take_row.Goals as goal
 
 pub group_of-requires : goal.group_of-requires
@@ -17,16 +17,16 @@ overflow_mul-at c =
     let keys : List Row = c.args.index.now.keys in
     let new : List Row = c.group_of.new.index.keys in
     let mid : List AggregateState = c.group_of.new.states.items in
-    let room : c.in_ok-at.at * length g.aggregates + length g.aggregates ≤ length mid =
-    room_within g c.args.row.now keys new c.args.states.now.items mid c.in_ok-at.at c.in_ok-at.ensures.step c.in_ok-at.ensures.within c.in_ok-at.ensures.place in
-    search (rules, room)
+    let fits : c.in_ok-at.at * length g.aggregates + length g.aggregates ≤ length mid =
+    states_within g c.args.row.now keys new c.args.states.now.items mid c.in_ok-at.at c.in_ok-at.ensures.step c.in_ok-at.ensures.within c.in_ok-at.ensures.place in
+    search (rules, fits)
 
 pub take_all-requires-clause-within : goal.take_all-requires-clause-within
 take_all-requires-clause-within c =
     let g = c.args.grouping.now in
-    let room : c.in_ok-at.at * length g.aggregates + length g.aggregates ≤ length c.group_of.new.states.items =
-    room_within g c.args.row.now c.args.index.now.keys c.group_of.new.index.keys c.args.states.now.items c.group_of.new.states.items c.in_ok-at.at c.in_ok-at.ensures.step c.in_ok-at.ensures.within c.in_ok-at.ensures.place in
-    subst (λ (all : List Aggregate). c.in_ok-at.at * length all + length all ≤ length c.group_of.new.states.items) (sym {A = List Aggregate} c.as_slice-aggregates.ensures) room
+    let fits : c.in_ok-at.at * length g.aggregates + length g.aggregates ≤ length c.group_of.new.states.items =
+    states_within g c.args.row.now c.args.index.now.keys c.group_of.new.index.keys c.args.states.now.items c.group_of.new.states.items c.in_ok-at.at c.in_ok-at.ensures.step c.in_ok-at.ensures.within c.in_ok-at.ensures.place in
+    subst (λ (all : List Aggregate). c.in_ok-at.at * length all + length all ≤ length c.group_of.new.states.items) (sym {A = List Aggregate} c.as_slice-aggregates.ensures) fits
 
 pub take_all-requires-clause-few : goal.take_all-requires-clause-few
 take_all-requires-clause-few c =

@@ -8,7 +8,7 @@ use Rattle.span_rows.specs.LentRows.{lent_rows}
 use Rattle.span_rows.proofs.LentRows.{lent_get}
 use Rattle.span_groups.specs.declared.aggregate.AggregateState.{AggregateState}
 use Rattle.span_groups.specs.GroupStates.{AreGroupLists, HaveKeys}
-use Rattle.span_groups.proofs.Passes.{passed_none, pass_room, take_fails, pass_keeps, rows_passed}
+use Rattle.span_groups.proofs.Passes.{passed_none, can_count_passed, take_fails, pass_keeps, rows_passed}
 use Rattle.span_groups.proofs.lent.lent_groups.Goals as goal
 
 pub take_lent_row-requires : goal.take_lent_row-requires
@@ -16,7 +16,7 @@ take_lent_row-requires c =
     let rows : List (Bor Row) = c.args.rows.now in
     let row : Bor Row = c.index-rows-at.result in
     let within : c.loop-at.at < length (lent_rows rows) = omega (arith, c.loop-at-test.true, length-map rows (λ (r : Bor Row). r.now)) in
-    pass_room None c.args.grouping.now (lent_rows rows) c.loop-at.at c.loop-at.index.keys c.loop-at.groups.states.items c.loop-at.invariant.passed row.now within (lent_get rows c.loop-at.at row (search rules) (search rules))
+    can_count_passed None c.args.grouping.now (lent_rows rows) c.loop-at.at c.loop-at.index.keys c.loop-at.groups.states.items c.loop-at.invariant.passed row.now within (lent_get rows c.loop-at.at row (search rules) (search rules))
     (omega (arith, length-map rows (λ (r : Bor Row). r.now)))
 
 pub loop-at-init : goal.loop-at-init

@@ -7,24 +7,24 @@ use Rattle.span_rows.specs.LentRows.{lent_rows}
 use Rattle.span_groups.specs.declared.aggregate.AggregateState.{AggregateState}
 use Rattle.span_groups.specs.StateLists.{states_from, IsChangedAt}
 use Rattle.span_groups.specs.States.{AreStatesOf}
-use Rattle.span_groups.proofs.GroupSteps.{if_ok_both, room_within, step_after, merged_at, lent-push, firsts_by}
+use Rattle.span_groups.proofs.GroupSteps.{if_ok_both, states_within, step_after, merged_at, lent-push, firsts_by}
 use Rattle.span_groups.proofs.MergedGroups.{on_ok_always}
 use Rattle.span_groups.proofs.merge.merge_group.Goals as goal
 
 pub overflow_mul-at : goal.overflow_mul-at
 overflow_mul-at c =
     let g = c.args.grouping.now in
-    let room : c.in_ok-at.at * length g.aggregates + length g.aggregates ≤ length c.group_of.new.states.items =
-    room_within g c.args.row.now c.args.index.now.keys c.group_of.new.index.keys c.args.groups.now.states.items c.group_of.new.states.items c.in_ok-at.at c.in_ok-at.ensures.step c.in_ok-at.ensures.within c.in_ok-at.ensures.place in
-    search (rules, room)
+    let fits : c.in_ok-at.at * length g.aggregates + length g.aggregates ≤ length c.group_of.new.states.items =
+    states_within g c.args.row.now c.args.index.now.keys c.group_of.new.index.keys c.args.groups.now.states.items c.group_of.new.states.items c.in_ok-at.at c.in_ok-at.ensures.step c.in_ok-at.ensures.within c.in_ok-at.ensures.place in
+    search (rules, fits)
 
 pub merge_all-requires : goal.merge_all-requires
 merge_all-requires c =
     let g = c.args.grouping.now in
-    let room : c.in_ok-at.at * length g.aggregates + length g.aggregates ≤ length c.group_of.new.states.items =
-    room_within g c.args.row.now c.args.index.now.keys c.group_of.new.index.keys c.args.groups.now.states.items c.group_of.new.states.items c.in_ok-at.at c.in_ok-at.ensures.step c.in_ok-at.ensures.within c.in_ok-at.ensures.place in
+    let fits : c.in_ok-at.at * length g.aggregates + length g.aggregates ≤ length c.group_of.new.states.items =
+    states_within g c.args.row.now c.args.index.now.keys c.group_of.new.index.keys c.args.groups.now.states.items c.group_of.new.states.items c.in_ok-at.at c.in_ok-at.ensures.step c.in_ok-at.ensures.within c.in_ok-at.ensures.place in
     let len : c.len.result ≡ length g.aggregates = search rules in
-    subst (λ (n : ℕ). c.in_ok-at.at * n + length c.args.more.now ≤ length c.group_of.new.states.items) (sym len) (omega (arith, room, c.requires.wide))
+    subst (λ (n : ℕ). c.in_ok-at.at * n + length c.args.more.now ≤ length c.group_of.new.states.items) (sym len) (omega (arith, fits, c.requires.wide))
 
 pub returns-clause-step : goal.returns-clause-step
 returns-clause-step c =

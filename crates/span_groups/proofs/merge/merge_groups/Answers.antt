@@ -11,7 +11,7 @@ use Rattle.span_groups.specs.MergedGroups.{AreWholeGroups, with_keys, rows_by_ke
 use Rattle.span_groups.specs.States.{AreStatesOf}
 use Rattle.span_groups.proofs.Absorbed.{key_at, key_count}
 use Rattle.span_groups.proofs.GroupSteps.{group_by_place, count_by_places, lists_of_groups}
-use Rattle.span_groups.proofs.StateLists.{room_at}
+use Rattle.span_groups.proofs.StateLists.{fits_at}
 use Rattle.span_groups.proofs.MergedGroups.{merged_first, merged_more, merged_all}
 use Rattle.span_groups.proofs.merge.merge_groups.Goals as goal
 
@@ -21,7 +21,7 @@ states_at-states-requires c =
     let i : ℕ = c.loop-at.at in
     let len : c.len-width.result ≡ w = search rules in
     let within : i < length c.args.more.now.firsts.items = search rules in
-    let bound : i * w + w ≤ length c.args.more.now.states.items = omega (arith, c.requires.wide, room_at i w (length c.args.more.now.firsts.items) within) in
+    let bound : i * w + w ≤ length c.args.more.now.states.items = omega (arith, c.requires.wide, fits_at i w (length c.args.more.now.firsts.items) within) in
     let known : i * c.len-width.result + c.len-width.result ≤ length c.args.more.now.states.items =
     subst (λ (n : ℕ). i * n + n ≤ length c.args.more.now.states.items) (sym len) bound in
     omega (arith, known)

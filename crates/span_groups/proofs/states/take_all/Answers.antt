@@ -3,7 +3,7 @@ use Rattle.std.proofs.lemmas.Option.{slice_get_read}
 use Rattle.span_groups.specs.declared.aggregate.AggregateState.{AggregateState}
 use Rattle.span_groups.specs.StateLists.{states_from}
 use Rattle.span_groups.proofs.StateLists.{changed_none, changed_one, set_from, read_at, long_from}
-use Rattle.span_groups.proofs.Together.{Takes, takes_none, takes_one, takes_all, room_left}
+use Rattle.span_groups.proofs.Together.{Takes, takes_none, takes_one, takes_all, can_count_more}
 use Rattle.span_groups.proofs.states.take_all.Goals as goal
 
 pub index_mut-requires : goal.index_mut-requires
@@ -21,7 +21,7 @@ take-requires c =
     let found : c.index_mut.result.now ≡ get_or now (start + c.loop-at.at) c.index_mut.result.now = search rules in
     let there : slice_get (states_from start w now) c.loop-at.at ≡ Some c.index_mut.result.now =
     read_at start w now c.loop-at.at c.index_mut.result.now within (omega (arith, c.requires.within, c.loop-at.invariant.others.long)) found in
-    room_left all c.args.row.now (states_from start w old) (states_from start w now) c.loop-at.at c.index-aggregates-at.result c.index_mut.result.now c.requires.few c.loop-at.invariant.taken here there
+    can_count_more all c.args.row.now (states_from start w old) (states_from start w now) c.loop-at.at c.index-aggregates-at.result c.index_mut.result.now c.requires.few c.loop-at.invariant.taken here there
 
 pub loop-at-init : goal.loop-at-init
 loop-at-init c = record {

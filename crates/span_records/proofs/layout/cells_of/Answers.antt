@@ -12,7 +12,7 @@ pub loop-part-preserved : goal.loop-part-preserved
 loop-part-preserved c = record {
   read = rw c.push_reserved.ensures.items (one_more (IsColumnCell (texts c.args.fields.now)) c.args.parts.now c.loop-part.cells.items c.loop-part.part-index c.part-item.result c.part-item.result c.in_ok-cell_of.field-0 c.loop-part-test.true c.part-item.is c.loop-part.invariant.read c.in_ok-cell_of.ensures.read);
   count = omega (arith, c.push_reserved.ensures.len, c.loop-part.invariant.count);
-  room = omega (arith, c.push_reserved.ensures.capacity, c.loop-part.invariant.room);
+  capacity = omega (arith, c.push_reserved.ensures.capacity, c.loop-part.invariant.capacity);
 }
 
 pub returns-in_err-cell_of-clause-refusals : goal.returns-in_err-cell_of-clause-refusals

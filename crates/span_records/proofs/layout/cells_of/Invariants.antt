@@ -10,5 +10,5 @@ abbrev pub invariant-loop-part : goal.invariant-loop-part
 invariant-loop-part l = record {
   read : AllZip (IsColumnCell (texts l.fields)) (take l.part-index l.parts) l.cells.items;
   count : vec_len l.cells ≡ l.part-index;
-  room : length l.parts ≤ vec_capacity l.cells;
+  capacity : length l.parts ≤ vec_capacity l.cells;
 }

@@ -14,7 +14,7 @@ loop-part-preserved c =
     record {
       read = rw c.push_reserved.ensures.items (one_more (IsKeyCell (texts c.args.fields.now)) c.args.parts.now c.loop-part.key.items c.loop-part.part-index (record { at = 0; kind = kind.Int }) (get_or c.args.parts.now c.loop-part.part-index (record { at = 0; kind = kind.Int })) c.in_ok-value_at.field-0 c.loop-part-test.true refl c.loop-part.invariant.read c.in_ok-value_at.ensures.read);
       count = omega (arith, c.push_reserved.ensures.len, c.loop-part.invariant.count);
-      room = omega (arith, c.push_reserved.ensures.capacity, c.loop-part.invariant.room);
+      capacity = omega (arith, c.push_reserved.ensures.capacity, c.loop-part.invariant.capacity);
     }
 
 pub returns-in_err-value_at-clause-refusals : goal.returns-in_err-value_at-clause-refusals

@@ -10,5 +10,5 @@ abbrev pub invariant-loop-part : goal.invariant-loop-part
 invariant-loop-part l = record {
   read : AllZip (IsKeyCell (texts l.fields)) (take l.part-index l.parts) l.key.items;
   count : vec_len l.key ≡ l.part-index;
-  room : length l.parts ≤ vec_capacity l.key;
+  capacity : length l.parts ≤ vec_capacity l.key;
 }

@@ -8,6 +8,6 @@ use Rattle.span_records.proofs.layout.names_of.Given as goal
 abbrev pub invariant-loop-part : goal.invariant-loop-part
 invariant-loop-part l = record {
   so_far : l.names.items ++ column_names (into_iter_items l.part-iterator) ≡ column_names l.fn.parts.items;
-  room : vec_len l.names + into_iter_len l.part-iterator ≤ vec_capacity l.names;
+  capacity : vec_len l.names + into_iter_len l.part-iterator ≤ vec_capacity l.names;
   count : into_iter_len l.part-iterator ≡ length (into_iter_items l.part-iterator);
 }

@@ -13,7 +13,7 @@ pub loop-part-preserved : goal.loop-part-preserved
 loop-part-preserved c = record {
   read = rw c.push_reserved.ensures.items (one_more (IsColumnValue (texts c.args.fields.now)) c.args.parts.now c.loop-part.values.items c.loop-part.part-index c.part-item.result c.part-item.result (Some c.in_ok-value_at.field-0) c.loop-part-test.true c.part-item.is c.loop-part.invariant.read (c.in_ok-value_at.field-0, refl, c.in_ok-value_at.ensures.read));
   count = omega (arith, c.push_reserved.ensures.len, c.loop-part.invariant.count);
-  room = omega (arith, c.push_reserved.ensures.capacity, c.loop-part.invariant.room);
+  capacity = omega (arith, c.push_reserved.ensures.capacity, c.loop-part.invariant.capacity);
 }
 
 pub returns-in_err-value_at-clause-refusals : goal.returns-in_err-value_at-clause-refusals

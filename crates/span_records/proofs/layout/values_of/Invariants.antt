@@ -10,5 +10,5 @@ abbrev pub invariant-loop-part : goal.invariant-loop-part
 invariant-loop-part l = record {
   read : AllZip (IsColumnValue (texts l.fields)) (take l.part-index l.parts) l.values.items;
   count : vec_len l.values ≡ l.part-index;
-  room : length l.parts ≤ vec_capacity l.values;
+  capacity : length l.parts ≤ vec_capacity l.values;
 }

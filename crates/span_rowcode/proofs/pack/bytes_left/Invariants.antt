@@ -6,5 +6,5 @@ use Rattle.span_rowcode.proofs.pack.bytes_left.Given as goal
 abbrev pub invariant-loop-cell : goal.invariant-loop-cell
 invariant-loop-cell l = record {
   most : l.left ≤ LONGEST_ROW;
-  room : LONGEST_ROW + length (row_code (drop l.cell-index l.cells)) ≡ l.left + length (row_code l.cells);
+  total : LONGEST_ROW + length (row_code (drop l.cell-index l.cells)) ≡ l.left + length (row_code l.cells);
 }

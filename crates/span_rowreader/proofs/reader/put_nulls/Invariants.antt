@@ -8,5 +8,5 @@ abbrev pub invariant-loop : goal.invariant-loop
 invariant-loop l = record {
   nulls : l.row.items ≡ replicate l.counter Null;
   many : vec_len l.row ≡ l.counter;
-  room : l.len ≤ vec_capacity l.row;
+  capacity : l.len ≤ vec_capacity l.row;
 }

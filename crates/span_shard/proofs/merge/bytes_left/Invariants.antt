@@ -7,5 +7,5 @@ use Rattle.span_shard.proofs.merge.bytes_left.Given as goal
 abbrev pub invariant-loop-i : goal.invariant-loop-i
 invariant-loop-i l = record {
   most : l.left ≤ LONGEST_ROW;
-  room : LONGEST_ROW + length (row_code (merge_cells (drop l.i l.named) (drop l.i l.old))) ≡ l.left + length (row_code (merge_cells l.named l.old));
+  total : LONGEST_ROW + length (row_code (merge_cells (drop l.i l.named) (drop l.i l.old))) ≡ l.left + length (row_code (merge_cells l.named l.old));
 }

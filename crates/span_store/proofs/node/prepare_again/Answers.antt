@@ -1,6 +1,6 @@
 use Rattle.std.proofs.Common.{Option, refl, sym, subst}
 use Rattle.span_arena.specs.Content.{Prepared, IsSomePrepared}
-use Rattle.span_store.proofs.Preparing.{prepared_there, chain_here, node_of, has_room}
+use Rattle.span_store.proofs.Preparing.{prepared_there, chain_here, node_of, never_refused}
 use Rattle.span_store.proofs.node.prepare_again.Goals as goal
 
 pub give_back-requires : goal.give_back-requires
@@ -15,7 +15,7 @@ reserve_node-requires c =
     c.requires.owned c.place_for-at.ensures c.index.ensures c.give_back.ensures
 
 pub unreachable-requires : goal.unreachable-requires
-unreachable-requires c = has_room c.args.arena.now c.index.result.now.node.number c.give_back.new.self _ c.in_default.field-0 c.give_back.ensures c.live-in_use.ensures.order c.in_default.ensures.refused
+unreachable-requires c = never_refused c.args.arena.now c.index.result.now.node.number c.give_back.new.self _ c.in_default.field-0 c.give_back.ensures c.live-in_use.ensures.order c.in_default.ensures.refused
 
 pub returns : goal.returns
 returns c =

@@ -6,7 +6,7 @@ use Rattle.span_arena.specs.Content.{IsChain}
 use Rattle.span_keytree.specs.Entries.{KeyEntry, entries_from}
 use Rattle.span_keyindex.specs.Indexes.{entries_of}
 use Rattle.span_keyindex.proofs.Owning.{all_chains}
-use Rattle.span_store.proofs.Moving.{moving_starts, source_chain, to_chain, to_none, to_room, moving_step, moving_ends}
+use Rattle.span_store.proofs.Moving.{moving_starts, source_chain, to_chain, to_none, enough_free, moving_step, moving_ends}
 use Rattle.span_store.proofs.Parting.{held_once, part_once}
 use Rattle.span_store.proofs.split.move_versions.Goals as goal
 
@@ -29,7 +29,7 @@ pub take_versions-requires-clause-source : goal.take_versions-requires-clause-so
 take_versions-requires-clause-source c = source_chain (entries_from c.args.key.now (entries_of c.args.index.now c.args.arena.now)) (entries_of c.args.part.now c.args.to.now) c.loop-source.sources c.next.new.self c.loop-source.chains c.next-in-Some.new.self _ _ c.args.arena.now c.loop-source.arena c.args.to.now c.loop-source.to (part_once c.args.key.now (entries_of c.args.index.now c.args.arena.now) c.args.arena.now c.requires.own.own) (held_once (entries_of c.args.part.now c.args.to.now) c.args.to.now c.requires.part.own) c.loop-source.invariant.so_far c.in-Some.ensures.steps c.in-Some-next.ensures.steps
 
 pub take_versions-requires-clause-free : goal.take_versions-requires-clause-free
-take_versions-requires-clause-free c = to_room (entries_from c.args.key.now (entries_of c.args.index.now c.args.arena.now)) (entries_of c.args.part.now c.args.to.now) c.loop-source.sources c.next.new.self c.loop-source.chains c.next-in-Some.new.self _ _ c.args.arena.now c.loop-source.arena c.args.to.now c.loop-source.to (part_once c.args.key.now (entries_of c.args.index.now c.args.arena.now) c.args.arena.now c.requires.own.own) (held_once (entries_of c.args.part.now c.args.to.now) c.args.to.now c.requires.part.own) c.loop-source.invariant.so_far c.in-Some.ensures.steps c.in-Some-next.ensures.steps
+take_versions-requires-clause-free c = enough_free (entries_from c.args.key.now (entries_of c.args.index.now c.args.arena.now)) (entries_of c.args.part.now c.args.to.now) c.loop-source.sources c.next.new.self c.loop-source.chains c.next-in-Some.new.self _ _ c.args.arena.now c.loop-source.arena c.args.to.now c.loop-source.to (part_once c.args.key.now (entries_of c.args.index.now c.args.arena.now) c.args.arena.now c.requires.own.own) (held_once (entries_of c.args.part.now c.args.to.now) c.args.to.now c.requires.part.own) c.loop-source.invariant.so_far c.in-Some.ensures.steps c.in-Some-next.ensures.steps
 
 pub loop-source-preserved : goal.loop-source-preserved
 loop-source-preserved c = record {

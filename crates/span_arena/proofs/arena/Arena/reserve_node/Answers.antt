@@ -79,13 +79,13 @@ invariant_of-self-2 c =
     let u = used_of (node_at i.nodes.items) i.chains.items c.args.chain.number h.0 h.1 in
     let used = read_used i.chains.items c.args.chain.number c.index.result.now c.in-Used.links u.0 u.1 c.index.ensures c.in-Used.is in
     let none : i.free_count ≡ 0 = omega (arith, c.if-self-gt0.false) in
-    let room : length i.nodes.items < i.most = omega (arith, c.if-number-self.false, c.len-number.ensures, i.nodes.ok) in
+    let below : length i.nodes.items < i.most = omega (arith, c.if-number-self.false, c.len-number.ensures, i.nodes.ok) in
     record {
-      sound = rw c.in-Ok.ensures.items (sound-push i.nodes.items i.chains.items i.free i.free_count i.most c.self.invariant.sound c.args.chain.number c.in-Used.links used _ refl none room);
+      sound = rw c.in-Ok.ensures.items (sound-push i.nodes.items i.chains.items i.free i.free_count i.most c.self.invariant.sound c.args.chain.number c.in-Used.links used _ refl none below);
       spare = are_spare-used i.chains.items i.spare i.spare_count c.args.chain.number c.in-Used.links _ used c.self.invariant.spare;
       cells = c.self.invariant.cells ∙ sym (length-set i.chains.items c.args.chain.number _);
       few = c.self.invariant.few;
-      falling = rw c.in-Ok.ensures.items (falling-reserve _ _ c.args.chain.number (length i.nodes.items) c.args.image c.self.invariant.falling (content-push i.nodes.items i.chains.items i.free i.free_count i.most i.cells c.self.invariant.sound c.args.chain.number c.in-Used.links used c.args.image _ none room (same_image c.args.chain.number _ _ c.split_image-has_image.ensures)));
+      falling = rw c.in-Ok.ensures.items (falling-reserve _ _ c.args.chain.number (length i.nodes.items) c.args.image c.self.invariant.falling (content-push i.nodes.items i.chains.items i.free i.free_count i.most i.cells c.self.invariant.sound c.args.chain.number c.in-Used.links used c.args.image _ none below (same_image c.args.chain.number _ _ c.split_image-has_image.ensures)));
     }
 
 pub returns-clause-ok : goal.returns-clause-ok
@@ -95,6 +95,6 @@ returns-clause-ok c =
     let u = used_of (node_at i.nodes.items) i.chains.items c.args.chain.number h.0 h.1 in
     let used = read_used i.chains.items c.args.chain.number c.index.result.now c.in-Used.links u.0 u.1 c.index.ensures c.in-Used.is in
     let none : i.free_count ≡ 0 = omega (arith, c.if-self-gt0.false) in
-    let room : length i.nodes.items < i.most = omega (arith, c.if-number-self.false, c.len-number.ensures, i.nodes.ok) in
+    let below : length i.nodes.items < i.most = omega (arith, c.if-number-self.false, c.len-number.ensures, i.nodes.ok) in
     let at : c.len-number.result ≡ length i.nodes.items = omega (arith, c.len-number.ensures, i.nodes.ok) in
-    rw (← c.self.view_is, c.in-Ok.ensures.items, at) (content-push i.nodes.items i.chains.items i.free i.free_count i.most i.cells c.self.invariant.sound c.args.chain.number c.in-Used.links used c.args.image _ none room (same_image c.args.chain.number _ _ c.split_image-has_image.ensures))
+    rw (← c.self.view_is, c.in-Ok.ensures.items, at) (content-push i.nodes.items i.chains.items i.free i.free_count i.most i.cells c.self.invariant.sound c.args.chain.number c.in-Used.links used c.args.image _ none below (same_image c.args.chain.number _ _ c.split_image-has_image.ensures))

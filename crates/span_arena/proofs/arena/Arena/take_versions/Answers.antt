@@ -40,7 +40,7 @@ loop-version-init c =
       few = c.self.invariant.few;
       same = ap (λ (k : ℕ). content i.nodes.items i.chains.items k i.most i.cells) all ∙ c.self.view_is;
       emptied = emptying_starts c.args.from.now c.args.source.number c.requires.source;
-      room = omega (arith, free, c.requires.free);
+      enough = omega (arith, free, c.requires.free);
     }
 
 pub index_mut-cell-requires : goal.index_mut-cell-requires
@@ -49,7 +49,7 @@ index_mut-cell-requires c =
     let j = c.loop-version.self-inside in
     let inv = c.loop-version.invariant in
     let less = emptying_less c.args.from.now c.loop-version.from c.take_newest.new.self c.args.source.number _ c.in-Some.version inv.emptied c.in-Some.ensures in
-    let some : 0 < j.free_count = omega (arith, less, inv.room) in
+    let some : 0 < j.free_count = omega (arith, less, inv.enough) in
     omega (arith, j.nodes.ok, fill_in_range j.nodes.items j.chains.items j.free j.free_count j.most c.args.chain.number c.loop-version.count i.free inv.filling some)
 
 pub loop-version-preserved : goal.loop-version-preserved
@@ -58,7 +58,7 @@ loop-version-preserved c =
     let j = c.loop-version.self-inside in
     let inv = c.loop-version.invariant in
     let less = emptying_less c.args.from.now c.loop-version.from c.take_newest.new.self c.args.source.number _ c.in-Some.version inv.emptied c.in-Some.ensures in
-    let some : 0 < j.free_count = omega (arith, less, inv.room) in
+    let some : 0 < j.free_count = omega (arith, less, inv.enough) in
     let e : c.index_mut-cell.result.now ≡ node_at j.nodes.items j.free = c.index_mut-cell.ensures.value ∙ get_or_default j.nodes.items j.free c.index_mut-cell.result.now blank (fill_in_range j.nodes.items j.chains.items j.free j.free_count j.most c.args.chain.number c.loop-version.count i.free inv.filling some) in
     let x : NodeRecord = record { used = Linked c.args.chain.number; next = c.index_mut-cell.result.now.next; has_image = c.split_image-has_image.result.0; timestamp = c.in-Some.version.timestamp; image = c.split_image-has_image.result.1 } in
     let zero : (links_at j.chains.items c.args.chain.number).count ≡ 0 = ap (λ (r : ChainRecord). (links_of r).count) inv.used ∙ inv.none in
@@ -76,7 +76,7 @@ loop-version-preserved c =
       same = rw k (fill_content j.nodes.items j.chains.items j.free j.free_count j.most c.args.chain.number c.loop-version.count i.free inv.filling some x refl j.cells (j.free_count + c.loop-version.count) ∙ inv.same);
       emptied = subst (λ (l : List ArenaVersion). IsEmptied c.args.from.now c.take_newest.new.self c.args.source.number l) (sym (fill_walk j.nodes.items j.chains.items j.free j.free_count j.most c.args.chain.number c.loop-version.count i.free inv.filling some x refl inv.end ∙ ap (λ (v : ArenaVersion). walk (node_at j.nodes.items) c.loop-version.count i.free ++ v ∷ []) version))
           (emptying_more c.args.from.now c.loop-version.from c.take_newest.new.self c.args.source.number _ c.in-Some.version inv.emptied c.in-Some.ensures);
-      room = omega (arith, less, inv.room, some);
+      enough = omega (arith, less, inv.enough, some);
     }
 
 pub invariant_of-self : goal.invariant_of-self

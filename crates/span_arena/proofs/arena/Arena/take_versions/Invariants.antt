@@ -18,7 +18,7 @@ invariant-loop-version l = record {
   few : length l.self-inside.cells ≤ most_chains;
   same : content l.self-inside.nodes.items l.self-inside.chains.items (l.self-inside.free_count + l.count) l.self-inside.most l.self-inside.cells ≡ l.fn.self;
   emptied : IsEmptied l.fn.from l.from l.fn.source.number (walk (node_at l.self-inside.nodes.items) l.count l.newest);
-  room : length (versions l.from l.fn.source.number) ≤ l.self-inside.free_count;
+  enough : length (versions l.from l.fn.source.number) ≤ l.self-inside.free_count;
 }
 
 abbrev pub decreases-loop-version : goal.decreases-loop-version

@@ -88,7 +88,7 @@ returns-clause-advances g c =
     let lines = c.reserve_capacity.new.self in
     let buffer = c.read_after.new.buffer in
     let count = c.in_ok-count.count in
-    let room : count ≤ length (drop lines.end buffer.items) = omega (arith, length-drop lines.end buffer.items, c.in_ok-count.ensures.fits, buffer.ok) in
-    let some : 0 < length (take count (drop lines.end buffer.items)) = omega (arith, length-take-le count (drop lines.end buffer.items) room, c.if-count-eq0.false) in
+    let enough : count ≤ length (drop lines.end buffer.items) = omega (arith, length-drop lines.end buffer.items, c.in_ok-count.ensures.fits, buffer.ok) in
+    let some : 0 < length (take count (drop lines.end buffer.items)) = omega (arith, length-take-le count (drop lines.end buffer.items) enough, c.if-count-eq0.false) in
     goes_on lines.has_ended (g.I.Input.remaining c.args.input.now) (g.I.Input.remaining c.read_after.new.input)
     (take count (drop lines.end buffer.items)) c.in_ok-count.ensures.bytes some

@@ -70,7 +70,7 @@ add_prepared_at-requires-clause-apart c =
     let place : IsPlace (is_transaction c.args.owner c.args.txn) c.self.inside.transactions.items c.in-Some.at t =
     subst (λ (l : List OpenTransaction). IsPlace (is_transaction c.args.owner c.args.txn) l c.in-Some.at t) c.as_slice.ensures.value c.in-Some.ensures.some in
     let right = not-true (has_wrong_state c.args.slot t) (sym c.may_prepare.ensures ∙ c.if-not-may_prepare.false) in
-    subst (λ (o : Option OpenTransaction). IfSome o (λ u. is_prepared_at c.args.slot u ≡ false)) (sym place.here) ((or_parts (not (is_undecided t)) (is_prepared_at c.args.slot t) right).1)
+    subst (λ (o : Option OpenTransaction). IfSome o (λ u. is_prepared_at c.args.slot u ≡ false)) (sym place.here) (or_parts (not (is_undecided t)) (is_prepared_at c.args.slot t) right).1
 
 pub set_last-requires : goal.set_last-requires
 set_last-requires c =

@@ -93,9 +93,9 @@ invariant_of-journal g c =
     ∙ ap (λ n. (Keeper (restated (restated (known_at j.badge.views) n shard) (number_of next.seat.me.0) part) ∷ []) ∷ []) numbered
     ∙ ap (λ n. (Keeper (restated (restated (known_at j.badge.views) me.number shard) n part) ∷ []) ∷ []) next_numbered
     ∙ ap (λ cs. (Keeper (restated (restated (known_at j.badge.views) me.number cs) next.number part) ∷ []) ∷ []) c.replace-shard.ensures.value in
-    let room =
+    let enough =
     subst (λ n. n < length (restated (known_at j.badge.views) me.number c.cut_in.new.shard).slots) next_numbered
     (subst (λ cs. number_of next.seat.me.0 < length (restated (known_at j.badge.views) me.number cs).slots) c.replace-shard.ensures.value
     (subst (λ n. number_of next.seat.me.0 < length (restated (known_at j.badge.views) n shard).slots) numbered
     (subst (λ v. number_of next.seat.me.0 < length (restated (known_at v) (number_of c.agree-keeper.new.seat.me.0) shard).slots) held c.restate_both-keeper.ensures.room))) in
-    keeper_cut schema board.schema g.J.Naming.table j.badge.table_id j.badge.views j.journal board.schema_is c.journal.invariant me.number me.shard within is _ _ c.cut_in.new.journal c.cut_in.new.shard part next.number c.restate_both-keeper.ensures.tables.2 after d.1 room c.in-Ok.ensures.cut
+    keeper_cut schema board.schema g.J.Naming.table j.badge.table_id j.badge.views j.journal board.schema_is c.journal.invariant me.number me.shard within is _ _ c.cut_in.new.journal c.cut_in.new.shard part next.number c.restate_both-keeper.ensures.tables.2 after d.1 enough c.in-Ok.ensures.cut

@@ -16,8 +16,8 @@ use Rattle.span_store.proofs.store.Store.split.Goals as goal
 
 pub move_versions-requires-clause-part : goal.move_versions-requires-clause-part
 move_versions-requires-clause-part c =
-    let room = c.in_ok-reserve_versions.ensures.ok in
-    index_stays c.in_ok-part.part.0 c.in_ok-part.part.1 c.reserve_versions.new.room c.in_ok-part.ensures.ok.own room.cells (same-equal c.in_ok-part.part.1 c.reserve_versions.new.room room.chains)
+    let reserved = c.in_ok-reserve_versions.ensures.ok in
+    index_stays c.in_ok-part.part.0 c.in_ok-part.part.1 c.reserve_versions.new.room c.in_ok-part.ensures.ok.own reserved.cells (same-equal c.in_ok-part.part.1 c.reserve_versions.new.room reserved.chains)
 
 pub move_versions-requires-clause-keys : goal.move_versions-requires-clause-keys
 move_versions-requires-clause-keys c = ap keys_of (entries_stay c.in_ok-part.part.0 c.in_ok-part.part.1 c.reserve_versions.new.room c.in_ok-reserve_versions.ensures.ok.cells) ∙ c.in_ok-part.ensures.ok.keys

@@ -4,14 +4,14 @@ use Rattle.span_machine.specs.declared.transaction.OpenTransaction.{OpenTransact
 use Rattle.span_machine.specs.Limits.{most_slots}
 use Rattle.span_machine.specs.Machine.{is_prepared_at}
 use Rattle.span_transactions.specs.Places.{AreOfSlots}
-use Rattle.span_transactions.proofs.PreparedOnce.{once_more, room_for_one}
+use Rattle.span_transactions.proofs.PreparedOnce.{once_more, one_more_fits}
 use Rattle.span_transactions.proofs.transaction.KeptTransaction.add_prepared.Goals as goal
 
 pub unwrap-requires : goal.unwrap-requires
 unwrap-requires c =
     let ps = c.self.inside.prepared in
     let apart = subst (λ (t : OpenTransaction). is_prepared_at c.args.prepared.slot t ≡ false) (sym c.self.view_is) c.requires.apart in
-    let few : length ps.items < most_slots = room_for_one ps.items c.args.prepared c.self.invariant.slots apart c.requires.slot in
+    let few : length ps.items < most_slots = one_more_fits ps.items c.args.prepared c.self.invariant.slots apart c.requires.slot in
     c.push.ensures.succeeds (omega (arith, few, ps.ok.0, c.self.invariant.room))
 
 pub invariant_of-self : goal.invariant_of-self
