@@ -724,11 +724,11 @@ use Rattle.span_primary.specs.Pieces.{{each_read}}
 use Rattle.span_schematext.specs.Declarations.{{{name}_more}}
 use Rattle.span_schematext.proofs.declaration.{name}_rest.Given as goal
 
-abbrev pub invariant-loop-tokens : goal.invariant-loop-tokens
-invariant-loop-tokens l = each_read ({name}_more {now}).read part.{part}More l.found l.tokens.now ≡ each_read ({name}_more {before}).read part.{part}More [] l.fn.tokens.now
+abbrev pub invariant-loop-alloc : goal.invariant-loop-alloc
+invariant-loop-alloc l = each_read ({name}_more {now}).read part.{part}More l.found l.tokens.now ≡ each_read ({name}_more {before}).read part.{part}More [] l.fn.tokens.now
 
-abbrev pub decreases-loop-tokens : goal.decreases-loop-tokens
-decreases-loop-tokens l = length l.tokens.now
+abbrev pub decreases-loop-alloc : goal.decreases-loop-alloc
+decreases-loop-alloc l = length l.tokens.now
 """
 
 
@@ -738,8 +738,8 @@ def answers_antt(name, _, has_depth):
     return f"""use Rattle.span_schematext.proofs.Lasting.{{{name}_more_shrinks}}
 use Rattle.span_schematext.proofs.declaration.{name}_rest.Goals as goal
 
-pub loop-tokens-smaller : goal.loop-tokens-smaller
-loop-tokens-smaller c = ({name}_more_shrinks {given}).falls c.loop-tokens.tokens.now c.{name}_more.new.tokens.now c.in_ok-next.next c.in_ok-next.ensures
+pub loop-alloc-smaller : goal.loop-alloc-smaller
+loop-alloc-smaller c = ({name}_more_shrinks {given}).falls c.loop-alloc.tokens.now c.{name}_more.new.tokens.now c.in_ok-next.next c.in_ok-next.ensures
 """
 
 

@@ -2,5 +2,5 @@
 use Rattle.span_schematext.proofs.Lasting.{key_column_more_shrinks}
 use Rattle.span_schematext.proofs.declaration.key_column_rest.Goals as goal
 
-pub loop-tokens-smaller : goal.loop-tokens-smaller
-loop-tokens-smaller c = (key_column_more_shrinks c.args.text.now).falls c.loop-tokens.tokens.now c.key_column_more.new.tokens.now c.in_ok-next.next c.in_ok-next.ensures
+pub loop-alloc-smaller : goal.loop-alloc-smaller
+loop-alloc-smaller c = (key_column_more_shrinks c.args.text.now).falls c.loop-alloc.tokens.now c.key_column_more.new.tokens.now c.in_ok-next.next c.in_ok-next.ensures

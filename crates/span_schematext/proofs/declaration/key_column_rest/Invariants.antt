@@ -5,8 +5,8 @@ use Rattle.span_primary.specs.Pieces.{each_read}
 use Rattle.span_schematext.specs.Declarations.{key_column_more}
 use Rattle.span_schematext.proofs.declaration.key_column_rest.Given as goal
 
-abbrev pub invariant-loop-tokens : goal.invariant-loop-tokens
-invariant-loop-tokens l = each_read (key_column_more l.text).read part.KeyColumnMore l.found l.tokens.now ≡ each_read (key_column_more l.fn.text).read part.KeyColumnMore [] l.fn.tokens.now
+abbrev pub invariant-loop-alloc : goal.invariant-loop-alloc
+invariant-loop-alloc l = each_read (key_column_more l.text).read part.KeyColumnMore l.found l.tokens.now ≡ each_read (key_column_more l.fn.text).read part.KeyColumnMore [] l.fn.tokens.now
 
-abbrev pub decreases-loop-tokens : goal.decreases-loop-tokens
-decreases-loop-tokens l = length l.tokens.now
+abbrev pub decreases-loop-alloc : goal.decreases-loop-alloc
+decreases-loop-alloc l = length l.tokens.now

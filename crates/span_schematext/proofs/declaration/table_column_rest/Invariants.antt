@@ -5,8 +5,8 @@ use Rattle.span_primary.specs.Pieces.{each_read}
 use Rattle.span_schematext.specs.Declarations.{table_column_more}
 use Rattle.span_schematext.proofs.declaration.table_column_rest.Given as goal
 
-abbrev pub invariant-loop-tokens : goal.invariant-loop-tokens
-invariant-loop-tokens l = each_read (table_column_more l.text l.left).read part.TableColumnMore l.found l.tokens.now ≡ each_read (table_column_more l.fn.text l.fn.left).read part.TableColumnMore [] l.fn.tokens.now
+abbrev pub invariant-loop-alloc : goal.invariant-loop-alloc
+invariant-loop-alloc l = each_read (table_column_more l.text l.left).read part.TableColumnMore l.found l.tokens.now ≡ each_read (table_column_more l.fn.text l.fn.left).read part.TableColumnMore [] l.fn.tokens.now
 
-abbrev pub decreases-loop-tokens : goal.decreases-loop-tokens
-decreases-loop-tokens l = length l.tokens.now
+abbrev pub decreases-loop-alloc : goal.decreases-loop-alloc
+decreases-loop-alloc l = length l.tokens.now
