@@ -725,10 +725,10 @@ use Rattle.span_schematext.specs.Declarations.{{{name}_more}}
 use Rattle.span_schematext.proofs.declaration.{name}_rest.Given as goal
 
 abbrev pub invariant-loop-alloc : goal.invariant-loop-alloc
-invariant-loop-alloc l = each_read ({name}_more {now}).read part.{part}More l.found l.rest ≡ each_read ({name}_more {before}).read part.{part}More [] l.fn.tokens
+invariant-loop-alloc l = each_read ({name}_more {now}).read part.{part}More l.found l.tokens.now ≡ each_read ({name}_more {before}).read part.{part}More [] l.fn.tokens.now
 
 abbrev pub decreases-loop-alloc : goal.decreases-loop-alloc
-decreases-loop-alloc l = length l.rest
+decreases-loop-alloc l = length l.tokens.now
 """
 
 
@@ -739,7 +739,7 @@ def answers_antt(name, _, has_depth):
 use Rattle.span_schematext.proofs.declaration.{name}_rest.Goals as goal
 
 pub loop-alloc-smaller : goal.loop-alloc-smaller
-loop-alloc-smaller c = ({name}_more_shrinks {given}).falls c.loop-alloc.rest.now c.in_ok-next.after.now c.in_ok-next.next c.in_ok-next.ensures
+loop-alloc-smaller c = ({name}_more_shrinks {given}).falls c.loop-alloc.tokens.now c.{name}_more.new.tokens.now c.in_ok-next.next c.in_ok-next.ensures
 """
 
 

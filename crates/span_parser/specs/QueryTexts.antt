@@ -1,9 +1,8 @@
 -- What a reader of clauses has, and what it is to return.
 use Rattle.std.specs.Prelude.{ℕ, List}
-use Rattle.span_grammar.specs.declared.class.Lexeme.{Lexeme}
 use Rattle.span_grammar.specs.declared.grammar.Part.{Part}
 use Rattle.span_primary.specs.Pieces.{Piece, Gives, each}
-use Rattle.span_primary.specs.Reading.{Returned}
+use Rattle.span_primary.specs.Reading.{Move}
 
 -- the text, and the number of openings left
 pub record QueryText : Type 0 where
@@ -12,9 +11,9 @@ pub record QueryText : Type 0 where
 
 module _ {A : Type 0} (q : QueryText) where
   -- the tokens were read as the piece says
-  abbrev pub Reads : (List ℕ → ℕ → Piece A) → List Lexeme → Returned A → Type 0
-  Reads piece tokens result = Gives result ((piece q.text q.left).read tokens)
+  abbrev pub Reads : (List ℕ → ℕ → Piece A) → Move A
+  Reads piece = Gives (piece q.text q.left)
 
   -- the same of the piece, which is the part, any number of times
-  abbrev pub ReadsEach : Part → (List ℕ → ℕ → Piece A) → List Lexeme → Returned (List A) → Type 0
-  ReadsEach a piece tokens result = Gives result ((each a (piece q.text q.left)).read tokens)
+  abbrev pub ReadsEach : Part → (List ℕ → ℕ → Piece A) → Move (List A)
+  ReadsEach a piece = Gives (each a (piece q.text q.left))

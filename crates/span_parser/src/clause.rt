@@ -10,55 +10,52 @@ use span_grammar::reader::goes_on;
 use span_lexer::token::{Sign, Word};
 use span_primary::column::{column, direction};
 use span_primary::fault::SyntaxError;
-use span_primary::token::{integer_of, integer_value, next_is, pair_with, spelling, take};
+use span_primary::token::{integer_of, integer_value, next_is, spelling, take};
 use span_syntax::expression::read_expression;
 use span_trees::operator::prepend;
 use span_trees::tree::{Column, Expr, Spelling};
+use span_value::owned::keep_with;
 use sqlite_items::Items;
 use std::alloc::Global;
 use std::marker::Model;
 
 /// `AS name`
 #[tactic(auto, unfolding(crate::specs::Queries::as_name))]
-fn as_name<'a>(
-    alloc: Global,
-    text: &[u8],
-    tokens: &'a [Lexeme],
-) -> Result<(Spelling, &'a [Lexeme]), SyntaxError>
-    ensures { Gives result ((spec.as_name text.now).read tokens.now) }
+fn as_name(alloc: Global, text: &[u8], tokens: &mut &[Lexeme]) -> Result<Spelling, SyntaxError>
+    ensures { Gives (spec.as_name text.now) tokens.old tokens.new result }
 {
-    let (_, rest) = take(Sort::Word(Word::As), tokens)?;
-    spelling(alloc, text, Sort::Name, rest)
+    take(Sort::Word(Word::As), tokens)?;
+    spelling(alloc, text, Sort::Name, tokens)
 }
 
 /// `[[AS] name]`
 #[tactic(auto, unfolding(crate::specs::Queries::alias))]
-pub fn alias<'a>(
+pub fn alias(
     alloc: Global,
     text: &[u8],
-    tokens: &'a [Lexeme],
-) -> Result<(Option<Spelling>, &'a [Lexeme]), SyntaxError>
-    ensures { Gives result ((spec.alias text.now).read tokens.now) }
+    tokens: &mut &[Lexeme],
+) -> Result<Option<Spelling>, SyntaxError>
+    ensures { Gives (spec.alias text.now) tokens.old tokens.new result }
 {
     if goes_on(Part::AsName, tokens) {
-        let (name, rest) = as_name(alloc, text, tokens)?;
-        return Ok((Some(name), rest));
+        let name = as_name(alloc, text, tokens)?;
+        return Ok(Some(name));
     }
     if next_is(Sort::Name, tokens) {
-        let (name, rest) = spelling(alloc, text, Sort::Name, tokens)?;
-        return Ok((Some(name), rest));
+        let name = spelling(alloc, text, Sort::Name, tokens)?;
+        return Ok(Some(name));
     }
-    Ok((None, tokens))
+    Ok(None)
 }
 
 /// `[AS] name`
 #[tactic(auto, unfolding(crate::specs::Queries::required_alias))]
-pub fn required_alias<'a>(
+pub fn required_alias(
     alloc: Global,
     text: &[u8],
-    tokens: &'a [Lexeme],
-) -> Result<(Spelling, &'a [Lexeme]), SyntaxError>
-    ensures { Gives result ((spec.required_alias text.now).read tokens.now) }
+    tokens: &mut &[Lexeme],
+) -> Result<Spelling, SyntaxError>
+    ensures { Gives (spec.required_alias text.now) tokens.old tokens.new result }
 {
     if goes_on(Part::AsName, tokens) {
         return as_name(alloc, text, tokens);
@@ -68,325 +65,298 @@ pub fn required_alias<'a>(
 
 /// `[ALL | DISTINCT]`: whether it is DISTINCT.
 #[tactic(auto, unfolding(crate::specs::Queries::quantifier))]
-pub fn quantifier(tokens: &[Lexeme]) -> Result<(bool, &[Lexeme]), SyntaxError>
-    ensures { Gives result (spec.quantifier.read tokens.now) }
+pub fn quantifier(tokens: &mut &[Lexeme]) -> Result<bool, SyntaxError>
+    ensures { Gives spec.quantifier tokens.old tokens.new result }
 {
     if next_is(Sort::Word(Word::All), tokens) {
-        let (_, rest) = take(Sort::Word(Word::All), tokens)?;
-        return Ok((false, rest));
+        take(Sort::Word(Word::All), tokens)?;
+        return Ok(false);
     }
     if next_is(Sort::Word(Word::Distinct), tokens) {
-        let (_, rest) = take(Sort::Word(Word::Distinct), tokens)?;
-        return Ok((true, rest));
+        take(Sort::Word(Word::Distinct), tokens)?;
+        return Ok(true);
     }
-    Ok((false, tokens))
+    Ok(false)
 }
 
 /// `[OUTER]`
 #[tactic(auto, unfolding(crate::specs::Queries::maybe_outer))]
-fn maybe_outer(tokens: &[Lexeme]) -> Result<(bool, &[Lexeme]), SyntaxError>
-    ensures { Gives result (spec.maybe_outer.read tokens.now) }
+fn maybe_outer(tokens: &mut &[Lexeme]) -> Result<bool, SyntaxError>
+    ensures { Gives spec.maybe_outer tokens.old tokens.new result }
 {
     if next_is(Sort::Word(Word::Outer), tokens) {
-        let (_, rest) = take(Sort::Word(Word::Outer), tokens)?;
-        return Ok((true, rest));
+        take(Sort::Word(Word::Outer), tokens)?;
+        return Ok(true);
     }
-    Ok((false, tokens))
+    Ok(false)
 }
 
 /// A name or a place.
 #[tactic(auto, unfolding(crate::specs::Queries::sort_column))]
-fn sort_column<'a>(
+fn sort_column(
     alloc: Global,
     text: &[u8],
-    tokens: &'a [Lexeme],
-) -> Result<(SortColumn, &'a [Lexeme]), SyntaxError>
-    ensures { Gives result ((spec.sort_column text.now).read tokens.now) }
+    tokens: &mut &[Lexeme],
+) -> Result<SortColumn, SyntaxError>
+    ensures { Gives (spec.sort_column text.now) tokens.old tokens.new result }
 {
     if next_is(Sort::Name, tokens) {
-        let (name, rest) = spelling(alloc, text, Sort::Name, tokens)?;
-        return Ok((SortColumn::Name(name), rest));
+        let name = spelling(alloc, text, Sort::Name, tokens)?;
+        return Ok(SortColumn::Name(name));
     }
-    let (place, rest) = take(Sort::Int, tokens)?;
-    Ok((SortColumn::Place(integer_of(false, place)), rest))
+    let place = take(Sort::Int, tokens)?;
+    Ok(SortColumn::Place(integer_of(false, place)))
 }
 
 /// `key`
 #[tactic(auto, unfolding(crate::specs::Queries::sort_key))]
-fn sort_key<'a>(
-    alloc: Global,
-    text: &[u8],
-    tokens: &'a [Lexeme],
-) -> Result<(SortKey, &'a [Lexeme]), SyntaxError>
-    ensures { Gives result ((spec.sort_key text.now).read tokens.now) }
+fn sort_key(alloc: Global, text: &[u8], tokens: &mut &[Lexeme]) -> Result<SortKey, SyntaxError>
+    ensures { Gives (spec.sort_key text.now) tokens.old tokens.new result }
 {
-    let (column, rest) = sort_column(alloc, text, tokens)?;
-    let (is_descending, rest) = direction(rest)?;
-    Ok((
-        SortKey {
-            column,
-            is_descending,
-        },
-        rest,
-    ))
+    let column = sort_column(alloc, text, tokens)?;
+    let is_descending = direction(tokens)?;
+    Ok(SortKey {
+        column,
+        is_descending,
+    })
 }
 
 /// `, key`
 #[tactic(auto, unfolding(crate::specs::Queries::sort_key_more))]
-fn sort_key_more<'a>(
-    alloc: Global,
-    text: &[u8],
-    tokens: &'a [Lexeme],
-) -> Result<(SortKey, &'a [Lexeme]), SyntaxError>
-    ensures { Gives result ((spec.sort_key_more text.now).read tokens.now) }
+fn sort_key_more(alloc: Global, text: &[u8], tokens: &mut &[Lexeme]) -> Result<SortKey, SyntaxError>
+    ensures { Gives (spec.sort_key_more text.now) tokens.old tokens.new result }
 {
-    let (_, rest) = take(Sort::Sign(Sign::Comma), tokens)?;
-    sort_key(alloc, text, rest)
+    take(Sort::Sign(Sign::Comma), tokens)?;
+    sort_key(alloc, text, tokens)
 }
 
 /// `{"," key}`
 #[tactic(auto, using(crate::proofs::Falling::loop_steps))]
-fn sort_key_rest<'a>(
+fn sort_key_rest(
     alloc: Global,
     text: &[u8],
-    tokens: &'a [Lexeme],
-) -> Result<(Items<SortKey>, &'a [Lexeme]), SyntaxError>
-    ensures { Gives result ((each Part.SortKeyMore (spec.sort_key_more text.now)).read tokens.now) }
+    tokens: &mut &[Lexeme],
+) -> Result<Items<SortKey>, SyntaxError>
+    ensures { Gives (each Part.SortKeyMore (spec.sort_key_more text.now)) tokens.old tokens.new result }
 {
     let mut found = Items::new(alloc);
-    let mut rest = tokens;
-    'turns: while goes_on(Part::SortKeyMore, rest) {
-        let (next, after) = sort_key_more(alloc, text, rest)?;
+    'turns: while goes_on(Part::SortKeyMore, tokens) {
+        let next = sort_key_more(alloc, text, tokens)?;
         found.push(next)?;
-        rest = after;
     }
-    Ok((found, rest))
+    Ok(found)
 }
 
 /// `key {"," key}`
 #[tactic(auto, unfolding(crate::specs::Queries::sort_keys))]
-fn sort_keys<'a>(
+fn sort_keys(
     alloc: Global,
     text: &[u8],
-    tokens: &'a [Lexeme],
-) -> Result<(Items<SortKey>, &'a [Lexeme]), SyntaxError>
-    ensures { Gives result ((spec.sort_keys text.now).read tokens.now) }
+    tokens: &mut &[Lexeme],
+) -> Result<Items<SortKey>, SyntaxError>
+    ensures { Gives (spec.sort_keys text.now) tokens.old tokens.new result }
 {
-    let (first, rest) = sort_key(alloc, text, tokens)?;
-    let (more, rest) = sort_key_rest(alloc, text, rest)?;
-    Ok((prepend(alloc, first, more)?, rest))
+    let first = sort_key(alloc, text, tokens)?;
+    let more = sort_key_rest(alloc, text, tokens)?;
+    Ok(prepend(alloc, first, more)?)
 }
 
 /// `ORDER BY key {"," key}`
 #[tactic(auto, unfolding(crate::specs::Queries::order_by))]
-fn order_by<'a>(
+fn order_by(
     alloc: Global,
     text: &[u8],
-    tokens: &'a [Lexeme],
-) -> Result<(Items<SortKey>, &'a [Lexeme]), SyntaxError>
-    ensures { Gives result ((spec.order_by text.now).read tokens.now) }
+    tokens: &mut &[Lexeme],
+) -> Result<Items<SortKey>, SyntaxError>
+    ensures { Gives (spec.order_by text.now) tokens.old tokens.new result }
 {
-    let (_, rest) = take(Sort::Word(Word::Order), tokens)?;
-    let (_, rest) = take(Sort::Word(Word::By), rest)?;
-    sort_keys(alloc, text, rest)
+    take(Sort::Word(Word::Order), tokens)?;
+    take(Sort::Word(Word::By), tokens)?;
+    sort_keys(alloc, text, tokens)
 }
 
 /// The keys of an ORDER BY, if there is one.
 #[tactic(auto, unfolding(crate::specs::Queries::maybe_order_by))]
-pub fn maybe_order_by<'a>(
+pub fn maybe_order_by(
     alloc: Global,
     text: &[u8],
-    tokens: &'a [Lexeme],
-) -> Result<(Items<SortKey>, &'a [Lexeme]), SyntaxError>
-    ensures { Gives result ((spec.maybe_order_by text.now).read tokens.now) }
+    tokens: &mut &[Lexeme],
+) -> Result<Items<SortKey>, SyntaxError>
+    ensures { Gives (spec.maybe_order_by text.now) tokens.old tokens.new result }
 {
     if !goes_on(Part::OrderBy, tokens) {
-        return Ok((Items::new(alloc), tokens));
+        return Ok(Items::new(alloc));
     }
     order_by(alloc, text, tokens)
 }
 
 /// `OFFSET int`
 #[tactic(auto, unfolding(crate::specs::Queries::skip))]
-pub(crate) fn skip(tokens: &[Lexeme]) -> Result<(u64, &[Lexeme]), SyntaxError>
-    ensures { Gives result (spec.skip.read tokens.now) }
+pub(crate) fn skip(tokens: &mut &[Lexeme]) -> Result<u64, SyntaxError>
+    ensures { Gives spec.skip tokens.old tokens.new result }
 {
-    let (_, rest) = take(Sort::Context(Context::Offset), tokens)?;
-    let (rows, rest) = take(Sort::Int, rest)?;
-    Ok((integer_value(rows.token.kind), rest))
+    take(Sort::Context(Context::Offset), tokens)?;
+    let rows = take(Sort::Int, tokens)?;
+    Ok(integer_value(rows.token.kind))
 }
 
 /// The number of rows that are skipped.
 #[tactic(auto, unfolding(crate::specs::Queries::maybe_skip))]
-fn maybe_skip(tokens: &[Lexeme]) -> Result<(u64, &[Lexeme]), SyntaxError>
-    ensures { Gives result (spec.maybe_skip.read tokens.now) }
+fn maybe_skip(tokens: &mut &[Lexeme]) -> Result<u64, SyntaxError>
+    ensures { Gives spec.maybe_skip tokens.old tokens.new result }
 {
     if !goes_on(Part::Skip, tokens) {
-        return Ok((0, tokens));
+        return Ok(0);
     }
     skip(tokens)
 }
 
 /// `LIMIT int [OFFSET int]`
 #[tactic(auto, unfolding(crate::specs::Queries::limit_clause))]
-fn limit_clause(tokens: &[Lexeme]) -> Result<(Limit, &[Lexeme]), SyntaxError>
-    ensures { Gives result (spec.limit_clause.read tokens.now) }
+fn limit_clause(tokens: &mut &[Lexeme]) -> Result<Limit, SyntaxError>
+    ensures { Gives spec.limit_clause tokens.old tokens.new result }
 {
-    let (_, rest) = take(Sort::Word(Word::Limit), tokens)?;
-    let (rows, rest) = take(Sort::Int, rest)?;
-    let (skip, rest) = maybe_skip(rest)?;
+    take(Sort::Word(Word::Limit), tokens)?;
+    let rows = take(Sort::Int, tokens)?;
+    let skip = maybe_skip(tokens)?;
     let rows = integer_value(rows.token.kind);
-    Ok((Limit { rows, skip }, rest))
+    Ok(Limit { rows, skip })
 }
 
 /// A LIMIT, if there is one.
 #[tactic(auto, unfolding(crate::specs::Queries::maybe_limit))]
-pub fn maybe_limit(tokens: &[Lexeme]) -> Result<(Option<Limit>, &[Lexeme]), SyntaxError>
-    ensures { Gives result (spec.maybe_limit.read tokens.now) }
+pub fn maybe_limit(tokens: &mut &[Lexeme]) -> Result<Option<Limit>, SyntaxError>
+    ensures { Gives spec.maybe_limit tokens.old tokens.new result }
 {
     if !goes_on(Part::Limit, tokens) {
-        return Ok((None, tokens));
+        return Ok(None);
     }
-    let (found, rest) = limit_clause(tokens)?;
-    Ok((Some(found), rest))
+    let found = limit_clause(tokens)?;
+    Ok(Some(found))
 }
 
 /// `, col`
 #[tactic(auto, unfolding(crate::specs::Queries::column_more))]
-fn column_more<'a>(
-    alloc: Global,
-    text: &[u8],
-    tokens: &'a [Lexeme],
-) -> Result<(Column, &'a [Lexeme]), SyntaxError>
-    ensures { Gives result ((spec.column_more text.now).read tokens.now) }
+fn column_more(alloc: Global, text: &[u8], tokens: &mut &[Lexeme]) -> Result<Column, SyntaxError>
+    ensures { Gives (spec.column_more text.now) tokens.old tokens.new result }
 {
-    let (_, rest) = take(Sort::Sign(Sign::Comma), tokens)?;
-    column(alloc, text, rest)
+    take(Sort::Sign(Sign::Comma), tokens)?;
+    column(alloc, text, tokens)
 }
 
 /// `{"," col}`
 #[tactic(auto, using(crate::proofs::Falling::loop_steps))]
-fn column_rest<'a>(
+fn column_rest(
     alloc: Global,
     text: &[u8],
-    tokens: &'a [Lexeme],
-) -> Result<(Items<Column>, &'a [Lexeme]), SyntaxError>
-    ensures { Gives result ((each Part.ColumnMore (spec.column_more text.now)).read tokens.now) }
+    tokens: &mut &[Lexeme],
+) -> Result<Items<Column>, SyntaxError>
+    ensures { Gives (each Part.ColumnMore (spec.column_more text.now)) tokens.old tokens.new result }
 {
     let mut found = Items::new(alloc);
-    let mut rest = tokens;
-    'turns: while goes_on(Part::ColumnMore, rest) {
-        let (next, after) = column_more(alloc, text, rest)?;
+    'turns: while goes_on(Part::ColumnMore, tokens) {
+        let next = column_more(alloc, text, tokens)?;
         found.push(next)?;
-        rest = after;
     }
-    Ok((found, rest))
+    Ok(found)
 }
 
 /// `col {"," col}`
 #[tactic(auto, unfolding(crate::specs::Queries::columns))]
-fn columns<'a>(
-    alloc: Global,
-    text: &[u8],
-    tokens: &'a [Lexeme],
-) -> Result<(Items<Column>, &'a [Lexeme]), SyntaxError>
-    ensures { Gives result ((spec.columns text.now).read tokens.now) }
+fn columns(alloc: Global, text: &[u8], tokens: &mut &[Lexeme]) -> Result<Items<Column>, SyntaxError>
+    ensures { Gives (spec.columns text.now) tokens.old tokens.new result }
 {
-    let (first, rest) = column(alloc, text, tokens)?;
-    let (more, rest) = column_rest(alloc, text, rest)?;
-    Ok((prepend(alloc, first, more)?, rest))
+    let first = column(alloc, text, tokens)?;
+    let more = column_rest(alloc, text, tokens)?;
+    Ok(prepend(alloc, first, more)?)
 }
 
 /// `GROUP BY col {"," col}`
 #[tactic(auto, unfolding(crate::specs::Queries::group_by))]
-fn group_by<'a>(
+fn group_by(
     alloc: Global,
     text: &[u8],
-    tokens: &'a [Lexeme],
-) -> Result<(Items<Column>, &'a [Lexeme]), SyntaxError>
-    ensures { Gives result ((spec.group_by text.now).read tokens.now) }
+    tokens: &mut &[Lexeme],
+) -> Result<Items<Column>, SyntaxError>
+    ensures { Gives (spec.group_by text.now) tokens.old tokens.new result }
 {
-    let (_, rest) = take(Sort::Word(Word::Group), tokens)?;
-    let (_, rest) = take(Sort::Word(Word::By), rest)?;
-    columns(alloc, text, rest)
+    take(Sort::Word(Word::Group), tokens)?;
+    take(Sort::Word(Word::By), tokens)?;
+    columns(alloc, text, tokens)
 }
 
 /// The columns of a GROUP BY, if there is one.
 #[tactic(auto, unfolding(crate::specs::Queries::maybe_group_by))]
-fn maybe_group_by<'a>(
+fn maybe_group_by(
     alloc: Global,
     text: &[u8],
-    tokens: &'a [Lexeme],
-) -> Result<(Items<Column>, &'a [Lexeme]), SyntaxError>
-    ensures { Gives result ((spec.maybe_group_by text.now).read tokens.now) }
+    tokens: &mut &[Lexeme],
+) -> Result<Items<Column>, SyntaxError>
+    ensures { Gives (spec.maybe_group_by text.now) tokens.old tokens.new result }
 {
     if !goes_on(Part::GroupBy, tokens) {
-        return Ok((Items::new(alloc), tokens));
+        return Ok(Items::new(alloc));
     }
     group_by(alloc, text, tokens)
 }
 
 /// `name "." "*"`
 #[tactic(auto, unfolding(crate::specs::Queries::all_of_table))]
-fn all_of_table<'a>(
-    alloc: Global,
-    text: &[u8],
-    tokens: &'a [Lexeme],
-) -> Result<(Output, &'a [Lexeme]), SyntaxError>
-    ensures { Gives result ((spec.all_of_table text.now).read tokens.now) }
+fn all_of_table(alloc: Global, text: &[u8], tokens: &mut &[Lexeme]) -> Result<Output, SyntaxError>
+    ensures { Gives (spec.all_of_table text.now) tokens.old tokens.new result }
 {
-    let (name, rest) = spelling(alloc, text, Sort::AllOf, tokens)?;
-    let (_, rest) = take(Sort::Sign(Sign::Dot), rest)?;
-    let (_, rest) = take(Sort::Sign(Sign::Star), rest)?;
-    Ok((Output::AllOf(name), rest))
+    let name = spelling(alloc, text, Sort::AllOf, tokens)?;
+    take(Sort::Sign(Sign::Dot), tokens)?;
+    take(Sort::Sign(Sign::Star), tokens)?;
+    Ok(Output::AllOf(name))
 }
 
 /// `INNER JOIN`
 #[tactic(auto, unfolding(crate::specs::Queries::inner_join))]
-fn inner_join(tokens: &[Lexeme]) -> Result<(bool, &[Lexeme]), SyntaxError>
-    ensures { Gives result (spec.inner_join.read tokens.now) }
+fn inner_join(tokens: &mut &[Lexeme]) -> Result<bool, SyntaxError>
+    ensures { Gives spec.inner_join tokens.old tokens.new result }
 {
-    let (_, rest) = take(Sort::Word(Word::Inner), tokens)?;
-    let (_, rest) = take(Sort::Word(Word::Join), rest)?;
-    Ok((false, rest))
+    take(Sort::Word(Word::Inner), tokens)?;
+    take(Sort::Word(Word::Join), tokens)?;
+    Ok(false)
 }
 
 /// `LEFT [OUTER] JOIN`
 #[tactic(auto, unfolding(crate::specs::Queries::left_join))]
-fn left_join(tokens: &[Lexeme]) -> Result<(bool, &[Lexeme]), SyntaxError>
-    ensures { Gives result (spec.left_join.read tokens.now) }
+fn left_join(tokens: &mut &[Lexeme]) -> Result<bool, SyntaxError>
+    ensures { Gives spec.left_join tokens.old tokens.new result }
 {
-    let (_, rest) = take(Sort::Word(Word::Left), tokens)?;
-    let (_, rest) = maybe_outer(rest)?;
-    let (_, rest) = take(Sort::Word(Word::Join), rest)?;
-    Ok((true, rest))
+    take(Sort::Word(Word::Left), tokens)?;
+    maybe_outer(tokens)?;
+    take(Sort::Word(Word::Join), tokens)?;
+    Ok(true)
 }
 
 /// Whether a join is a LEFT JOIN.
 #[tactic(auto, unfolding(crate::specs::Queries::join_kind))]
-pub fn join_kind(tokens: &[Lexeme]) -> Result<(bool, &[Lexeme]), SyntaxError>
-    ensures { Gives result (spec.join_kind.read tokens.now) }
+pub fn join_kind(tokens: &mut &[Lexeme]) -> Result<bool, SyntaxError>
+    ensures { Gives spec.join_kind tokens.old tokens.new result }
 {
     if goes_on(Part::InnerJoin, tokens) {
         return inner_join(tokens);
     }
     if next_is(Sort::Word(Word::Join), tokens) {
-        let (_, rest) = take(Sort::Word(Word::Join), tokens)?;
-        return Ok((false, rest));
+        take(Sort::Word(Word::Join), tokens)?;
+        return Ok(false);
     }
     left_join(tokens)
 }
 
 /// `[";"]`
 #[tactic(auto, unfolding(crate::specs::Queries::maybe_semicolon))]
-pub fn maybe_semicolon(tokens: &[Lexeme]) -> Result<(bool, &[Lexeme]), SyntaxError>
-    ensures { Gives result (spec.maybe_semicolon.read tokens.now) }
+pub fn maybe_semicolon(tokens: &mut &[Lexeme]) -> Result<bool, SyntaxError>
+    ensures { Gives spec.maybe_semicolon tokens.old tokens.new result }
 {
     if !next_is(Sort::AnySemicolon, tokens) {
-        return Ok((false, tokens));
+        return Ok(false);
     }
-    let (_, rest) = take(Sort::AnySemicolon, tokens)?;
-    Ok((true, rest))
+    take(Sort::AnySemicolon, tokens)?;
+    Ok(true)
 }
 
 /// The conditions of a block: WHERE, the columns of GROUP BY, and HAVING.
@@ -415,81 +385,72 @@ impl<'t> Model for Clauses<'t> {
 
 impl<'t> Clauses<'t> {
     /// An expression.
-    pub fn expr<'a>(&self, tokens: &'a [Lexeme]) -> Result<(Expr, &'a [Lexeme]), SyntaxError>
-        ensures { Reads self.now spec.expr tokens.now result }
+    pub fn expr(&self, tokens: &mut &[Lexeme]) -> Result<Expr, SyntaxError>
+        ensures { Reads self.now spec.expr tokens.old tokens.new result }
     {
         read_expression(self.alloc, self.text, self.left, tokens)
     }
 
     /// `WHERE expr`
     #[tactic(auto, unfolding(crate::specs::Queries::where_clause))]
-    fn where_clause<'a>(&self, tokens: &'a [Lexeme]) -> Result<(Expr, &'a [Lexeme]), SyntaxError>
-        ensures { Reads self.now spec.where_clause tokens.now result }
+    fn where_clause(&self, tokens: &mut &[Lexeme]) -> Result<Expr, SyntaxError>
+        ensures { Reads self.now spec.where_clause tokens.old tokens.new result }
     {
-        let (_, rest) = take(Sort::Word(Word::Where), tokens)?;
-        self.expr(rest)
+        take(Sort::Word(Word::Where), tokens)?;
+        self.expr(tokens)
     }
 
     /// The condition of a WHERE, if there is one.
     #[tactic(auto, unfolding(crate::specs::Queries::maybe_where))]
-    fn maybe_where<'a>(
-        &self,
-        tokens: &'a [Lexeme],
-    ) -> Result<(Option<Expr>, &'a [Lexeme]), SyntaxError>
-        ensures { Reads self.now spec.maybe_where tokens.now result }
+    fn maybe_where(&self, tokens: &mut &[Lexeme]) -> Result<Option<Expr>, SyntaxError>
+        ensures { Reads self.now spec.maybe_where tokens.old tokens.new result }
     {
         if !goes_on(Part::Where, tokens) {
-            return Ok((None, tokens));
+            return Ok(None);
         }
-        let (condition, rest) = self.where_clause(tokens)?;
-        Ok((Some(condition), rest))
+        let condition = self.where_clause(tokens)?;
+        Ok(Some(condition))
     }
 
     /// `HAVING expr`
     #[tactic(auto, unfolding(crate::specs::Queries::having))]
-    fn having<'a>(&self, tokens: &'a [Lexeme]) -> Result<(Expr, &'a [Lexeme]), SyntaxError>
-        ensures { Reads self.now spec.having tokens.now result }
+    fn having(&self, tokens: &mut &[Lexeme]) -> Result<Expr, SyntaxError>
+        ensures { Reads self.now spec.having tokens.old tokens.new result }
     {
-        let (_, rest) = take(Sort::Word(Word::Having), tokens)?;
-        self.expr(rest)
+        take(Sort::Word(Word::Having), tokens)?;
+        self.expr(tokens)
     }
 
     /// The condition of a HAVING, if there is one.
     #[tactic(auto, unfolding(crate::specs::Queries::maybe_having))]
-    fn maybe_having<'a>(
-        &self,
-        tokens: &'a [Lexeme],
-    ) -> Result<(Option<Expr>, &'a [Lexeme]), SyntaxError>
-        ensures { Reads self.now spec.maybe_having tokens.now result }
+    fn maybe_having(&self, tokens: &mut &[Lexeme]) -> Result<Option<Expr>, SyntaxError>
+        ensures { Reads self.now spec.maybe_having tokens.old tokens.new result }
     {
         if !goes_on(Part::Having, tokens) {
-            return Ok((None, tokens));
+            return Ok(None);
         }
-        let (condition, rest) = self.having(tokens)?;
-        Ok((Some(condition), rest))
+        let condition = self.having(tokens)?;
+        Ok(Some(condition))
     }
 
     /// `expr [[AS] name]`
     #[tactic(auto, unfolding(crate::specs::Queries::output_expression))]
-    fn output_expression<'a>(
-        &self,
-        tokens: &'a [Lexeme],
-    ) -> Result<(Output, &'a [Lexeme]), SyntaxError>
-        ensures { Reads self.now spec.output_expression tokens.now result }
+    fn output_expression(&self, tokens: &mut &[Lexeme]) -> Result<Output, SyntaxError>
+        ensures { Reads self.now spec.output_expression tokens.old tokens.new result }
     {
-        let (value, rest) = self.expr(tokens)?;
-        let ((value, name), rest) = pair_with(value, alias(self.alloc, self.text, rest))?;
-        Ok((Output::Value(value, name), rest))
+        let value = self.expr(tokens)?;
+        let (value, name) = keep_with(value, alias(self.alloc, self.text, tokens))?;
+        Ok(Output::Value(value, name))
     }
 
     /// `out`
     #[tactic(auto, unfolding(crate::specs::Queries::output))]
-    fn output<'a>(&self, tokens: &'a [Lexeme]) -> Result<(Output, &'a [Lexeme]), SyntaxError>
-        ensures { Reads self.now spec.output tokens.now result }
+    fn output(&self, tokens: &mut &[Lexeme]) -> Result<Output, SyntaxError>
+        ensures { Reads self.now spec.output tokens.old tokens.new result }
     {
         if next_is(Sort::Sign(Sign::Star), tokens) {
-            let (_, rest) = take(Sort::Sign(Sign::Star), tokens)?;
-            return Ok((Output::All, rest));
+            take(Sort::Sign(Sign::Star), tokens)?;
+            return Ok(Output::All);
         }
         if goes_on(Part::AllOfTable, tokens) {
             return all_of_table(self.alloc, self.text, tokens);
@@ -499,74 +460,63 @@ impl<'t> Clauses<'t> {
 
     /// `, out`
     #[tactic(auto, unfolding(crate::specs::Queries::output_more))]
-    fn output_more<'a>(&self, tokens: &'a [Lexeme]) -> Result<(Output, &'a [Lexeme]), SyntaxError>
-        ensures { Reads self.now spec.output_more tokens.now result }
+    fn output_more(&self, tokens: &mut &[Lexeme]) -> Result<Output, SyntaxError>
+        ensures { Reads self.now spec.output_more tokens.old tokens.new result }
     {
-        let (_, rest) = take(Sort::Sign(Sign::Comma), tokens)?;
-        self.output(rest)
+        take(Sort::Sign(Sign::Comma), tokens)?;
+        self.output(tokens)
     }
 
     /// `{"," out}`
     #[tactic(auto, using(crate::proofs::Falling::loop_steps))]
-    fn output_rest<'a>(
-        &self,
-        tokens: &'a [Lexeme],
-    ) -> Result<(Items<Output>, &'a [Lexeme]), SyntaxError>
-        ensures { ReadsEach self.now Part.OutputMore spec.output_more tokens.now result }
+    fn output_rest(&self, tokens: &mut &[Lexeme]) -> Result<Items<Output>, SyntaxError>
+        ensures { ReadsEach self.now Part.OutputMore spec.output_more tokens.old tokens.new result }
     {
         let mut found = Items::new(self.alloc);
-        let mut rest = tokens;
-        while goes_on(Part::OutputMore, rest) {
-            let (next, after) = self.output_more(rest)?;
+        while goes_on(Part::OutputMore, tokens) {
+            let next = self.output_more(tokens)?;
             found.push(next)?;
-            rest = after;
         }
-        Ok((found, rest))
+        Ok(found)
     }
 
     /// `out {"," out}`
     #[tactic(auto, unfolding(crate::specs::Queries::outputs))]
-    pub fn outputs<'a>(
-        &self,
-        tokens: &'a [Lexeme],
-    ) -> Result<(Items<Output>, &'a [Lexeme]), SyntaxError>
-        ensures { Reads self.now spec.outputs tokens.now result }
+    pub fn outputs(&self, tokens: &mut &[Lexeme]) -> Result<Items<Output>, SyntaxError>
+        ensures { Reads self.now spec.outputs tokens.old tokens.new result }
     {
-        let (first, rest) = self.output(tokens)?;
-        let ((first, more), rest) = pair_with(first, self.output_rest(rest))?;
-        Ok((prepend(self.alloc, first, more)?, rest))
+        let first = self.output(tokens)?;
+        let (first, more) = keep_with(first, self.output_rest(tokens))?;
+        Ok(prepend(self.alloc, first, more)?)
     }
 
     /// `ON expr`
     #[tactic(auto, unfolding(crate::specs::Queries::join_on))]
-    pub fn join_on<'a>(&self, tokens: &'a [Lexeme]) -> Result<(Expr, &'a [Lexeme]), SyntaxError>
-        ensures { Reads self.now spec.join_on tokens.now result }
+    pub fn join_on(&self, tokens: &mut &[Lexeme]) -> Result<Expr, SyntaxError>
+        ensures { Reads self.now spec.join_on tokens.old tokens.new result }
     {
-        let (_, rest) = take(Sort::Word(Word::On), tokens)?;
-        self.expr(rest)
+        take(Sort::Word(Word::On), tokens)?;
+        self.expr(tokens)
     }
 
     /// The columns of a GROUP BY, and the condition of a HAVING.
     #[tactic(auto, unfolding(crate::specs::Queries::block_groups))]
-    fn block_groups<'a>(
+    fn block_groups(
         &self,
-        tokens: &'a [Lexeme],
-    ) -> Result<((Items<Column>, Option<Expr>), &'a [Lexeme]), SyntaxError>
-        ensures { Reads self.now spec.block_groups tokens.now result }
+        tokens: &mut &[Lexeme],
+    ) -> Result<(Items<Column>, Option<Expr>), SyntaxError>
+        ensures { Reads self.now spec.block_groups tokens.old tokens.new result }
     {
-        let (groups, rest) = maybe_group_by(self.alloc, self.text, tokens)?;
-        pair_with(groups, self.maybe_having(rest))
+        let groups = maybe_group_by(self.alloc, self.text, tokens)?;
+        keep_with(groups, self.maybe_having(tokens))
     }
 
     /// The conditions of a block.
     #[tactic(auto, unfolding(crate::specs::Queries::block_filter))]
-    pub fn block_filter<'a>(
-        &self,
-        tokens: &'a [Lexeme],
-    ) -> Result<(Conditions, &'a [Lexeme]), SyntaxError>
-        ensures { Reads self.now spec.block_filter tokens.now result }
+    pub fn block_filter(&self, tokens: &mut &[Lexeme]) -> Result<Conditions, SyntaxError>
+        ensures { Reads self.now spec.block_filter tokens.old tokens.new result }
     {
-        let (filter, rest) = self.maybe_where(tokens)?;
-        pair_with(filter, self.block_groups(rest))
+        let filter = self.maybe_where(tokens)?;
+        keep_with(filter, self.block_groups(tokens))
     }
 }

@@ -1,6 +1,7 @@
 -- A piece is read as the grammar's theory reads its part, and built.
 use Rattle.std.proofs.Common.{◌≡◌, ℕ, zero, suc, Bool, true, false, List, [], ◌∷◌, ◌++◌, length, refl, sym, ap, subst, ◌∙◌, Ok, Err, append_assoc}
 use Rattle.std.proofs.Math.Dec.{eqb-suc-zero}
+use Rattle.std.proofs.lemmas.List.{append-nil}
 use Rattle.std.specs.Prelude.{if◌then◌else◌, ◌==◌}
 use Rattle.span_grammar.specs.declared.class.Lexeme.{Lexeme}
 use Rattle.span_grammar.specs.declared.class.Sort.{Sort}
@@ -53,7 +54,6 @@ pub map_good : {A B : Type 0} {n : ℕ} {r : Rule} (f : A → B) (x : Piece A) �
 map_good {B = B} {n = n} {r = r} f x g = record { is = λ ts. ap (λ (o : ReadResult _). and_then o (λ v k. let w : ReadResult B = Ok (f v, k) in w)) (g.is ts) ∙ map_at f x.of (parse inside n r ts) }
 
 pub beside_good : {A B : Type 0} {n : ℕ} {r : Rule} (v : A) (x : Piece B) → Good n r x → Good n r (pair_with v x)
-unfolding pair_with
 beside_good v x g = map_good (λ w. (v, w)) x g
 
 -- ---- one after the other
@@ -107,10 +107,6 @@ abbrev onto : {A : Type 0} → List A → ReadResult (List A) → ReadResult (Li
 onto found (Ok p) = Ok (found ++ p.0, p.1)
 onto found (Err e) = Err e
 
-append_nil : {A : Type 0} (xs : List A) → xs ≡ xs ++ []
-append_nil [] = refl
-append_nil (x ∷ xs) = ap (λ (w : List _). x ∷ w) (append_nil xs)
-
 module _ {A : Type 0} (n : ℕ) (a : Part) (x : Piece A) (gx : Good n (rule_of a) x) where
   abbrev manies : ℕ → List Lexeme → Answer
   manies m ts = read_many (λ us. parse inside n (rule_of a) us) (rule_of a) m ts
@@ -130,7 +126,7 @@ module _ {A : Type 0} (n : ℕ) (a : Part) (x : Piece A) (gx : Good n (rule_of a
 
   end_at : (found : List A) (ts : List Lexeme) → (let o : ReadResult (List A) = Ok (found, ts) in o) ≡ onto found (to_read_result (each_of x.of) (Read End ts))
   unfolding to_read_result each_of
-  end_at found ts = ap (λ (w : List A). let o : ReadResult (List A) = Ok (w, ts) in o) (append_nil found)
+  end_at found ts = ap (λ (w : List A). let o : ReadResult (List A) = Ok (w, ts) in o) (sym (append-nil found))
 
   many_or : (b : Bool) (found : List A) (o p : ReadResult (List A)) (s t : Answer) → o ≡ onto found (to_read_result (each_of x.of) s) → p ≡ onto found (to_read_result (each_of x.of) t) → (if b then o else p) ≡ onto found (to_read_result (each_of x.of) (if b then s else t))
   many_or true found o p s t h i = h
@@ -164,9 +160,6 @@ nest_at of t (Read x k) = refl
 nest_at of t (Wrong k) = refl
 nest_at of t (Deep k) = refl
 
-not_zero : (n : ℕ) → (suc n == 0) ≡ false
-not_zero n = eqb-suc-zero n
-
 module _ {A : Type 0} (s : Sort) (l : Place) (x : Piece A) where
   abbrev entered : ℕ → Bool → Lexeme → List Lexeme → ReadResult A
   entered n b t ts = and_then (and_then (if b then Ok (t, ts) else Err (fault.Syntax (length (t ∷ ts)))) (λ u k. if n == 0 then Err (fault.TooDeep (length (t ∷ ts))) else Ok (u, k))) (λ u k. x.read k)
@@ -182,7 +175,7 @@ module _ {A : Type 0} (s : Sort) (l : Place) (x : Piece A) where
 
   in_at : (n : ℕ) → Good n (inside l) x → (b : Bool) (t : Lexeme) (ts : List Lexeme) → entered (suc n) b t ts ≡ to_read_result (λ v. x.of (nested_of v)) (if b then bind (parse inside n (inside l) ts) (λ y k. Read (Nest t y) k) else Wrong (t ∷ ts))
   in_at n g true t ts =
-      ap (λ (b : Bool). and_then (if b then Err (fault.TooDeep (length (t ∷ ts))) else Ok (t, ts)) (λ u k. x.read k)) (not_zero n)
+      ap (λ (b : Bool). and_then (if b then Err (fault.TooDeep (length (t ∷ ts))) else Ok (t, ts)) (λ u k. x.read k)) (eqb-suc-zero n)
       ∙ g.is ts ∙ nest_at x.of t (parse inside n (inside l) ts)
   in_at n g false t ts = wrong_at t ts
 

@@ -21,7 +21,7 @@ deeper_is level.Expression text (suc n) h = ap (at level.Expression text) (befor
 deeper_is level.Negated text (suc n) h = ap (at level.Negated text) (before n)
 deeper_is level.Signed text (suc n) h = ap (at level.Signed text) (before n)
 
-pub gives_deeper : (l : Level) (text : List ℕ) (n : ℕ) (ts : List Lexeme) (r : Result (Expr × Bor (List Lexeme)) SyntaxError) → 0 < n → Gives r ((at l text (n - 1)).read ts) → Gives r ((inner_at l (after text n)).read ts)
-gives_deeper l text n ts r h g = subst (λ (p : Piece Expr). Gives r (p.read ts)) (deeper_is l text n h) g
+pub gives_deeper : (l : Level) (text : List ℕ) (n : ℕ) (ts k : Bor (List Lexeme)) (r : Result Expr SyntaxError) → 0 < n → Gives (at l text (n - 1)) ts k r → Gives (inner_at l (after text n)) ts k r
+gives_deeper l text n ts k r h g = subst (λ (p : Piece Expr). Gives p ts k r) (deeper_is l text n h) g
 
 pub ruleset level_steps = (gives_deeper)

@@ -1,20 +1,13 @@
 -- Reading a piece any number of times, turn by turn.
 use Rattle.std.proofs.Common.{◌≡◌, ℕ, zero, suc, ◌<◌, ◌≤◌, Bool, true, false, List, [], ◌∷◌, ◌++◌, length, refl, ap, ◌∙◌, arith, Ok, Err}
 use Rattle.std.specs.Prelude.{if◌then◌else◌}
+use Rattle.std.proofs.lemmas.Bool.{cond-true, cond-false}
 use Rattle.span_grammar.specs.declared.class.Lexeme.{Lexeme}
 use Rattle.span_primary.specs.declared.fault.SyntaxError.{SyntaxError}
 use Rattle.span_grammar.specs.declared.grammar.Part.{Part}
 use Rattle.span_grammar.specs.Rules.{starts}
 use Rattle.span_grammar.specs.Grammar.{rule_of}
 use Rattle.span_primary.specs.Pieces.{ReadResult, and_then, read_times, each_read}
-
-if_is_true : {X : Type 0} (b : Bool) (x y : X) → b ≡ true → (if b then x else y) ≡ x
-if_is_true true x y h = refl
-if_is_true false x y h = absurd cc
-
-if_is_false : {X : Type 0} (b : Bool) (x y : X) → b ≡ false → (if b then x else y) ≡ y
-if_is_false true x y h = absurd cc
-if_is_false false x y h = refl
 
 -- it takes a token at least
 pub record Shrinks {A : Type 0} (f : List Lexeme → ReadResult A) : Type 0 where
@@ -50,18 +43,18 @@ module _ {A : Type 0} (f : List Lexeme → ReadResult A) (a : Part) where
   each_more found [] k x s h i = absurd cc
   each_more found (t ∷ ts) k x s h i =
       let g = s.falls (t ∷ ts) k x i in
-      if_is_true (starts (rule_of a) (t ∷ ts)) (once (length ts) found (t ∷ ts)) (Ok (found, t ∷ ts)) h
+      cond-true (starts (rule_of a) (t ∷ ts)) (once (length ts) found (t ∷ ts)) (Ok (found, t ∷ ts)) h
       ∙ ap (λ (o : ReadResult A). and_then o (λ x k. read_times f a (length ts) (found ++ (x ∷ [])) k)) i
       ∙ fuel s (length ts) (length k) (found ++ (x ∷ [])) k (omega (arith, g)) (omega arith)
 
   pub each_end : (found : List A) (ts : List Lexeme) → starts (rule_of a) ts ≡ false → each_read f a found ts ≡ Ok (found, ts)
   unfolding each_read read_times
   each_end found [] h = refl
-  each_end found (t ∷ ts) h = if_is_false (starts (rule_of a) (t ∷ ts)) (once (length ts) found (t ∷ ts)) (Ok (found, t ∷ ts)) h
+  each_end found (t ∷ ts) h = cond-false (starts (rule_of a) (t ∷ ts)) (once (length ts) found (t ∷ ts)) (Ok (found, t ∷ ts)) h
 
   pub each_err : (found : List A) (ts : List Lexeme) (e : SyntaxError) → starts (rule_of a) ts ≡ true → f ts ≡ Err e → each_read f a found ts ≡ Err e
   unfolding each_read read_times
   each_err found [] e h i = absurd cc
   each_err found (t ∷ ts) e h i =
-      if_is_true (starts (rule_of a) (t ∷ ts)) (once (length ts) found (t ∷ ts)) (Ok (found, t ∷ ts)) h
+      cond-true (starts (rule_of a) (t ∷ ts)) (once (length ts) found (t ∷ ts)) (Ok (found, t ∷ ts)) h
       ∙ ap (λ (o : ReadResult A). and_then o (λ x k. read_times f a (length ts) (found ++ (x ∷ [])) k)) i

@@ -109,10 +109,14 @@ abbrev pub each : {A : Type 0} → Part → Piece A → Piece (List A)
 each a p = record { of = each_of p.of; read = λ ts. each_read p.read a [] ts }
 
 -- what was read before, and a piece after it
-unfoldable pub pair_with : {A B : Type 0} → A → Piece B → Piece (A × B)
+abbrev pub pair_with : {A B : Type 0} → A → Piece B → Piece (A × B)
 pair_with x p = record { of = λ t. (x, p.of t); read = λ ts. and_then (p.read ts) (λ y k. Ok ((x, y), k)) }
 
--- an opening, with `left` openings left, and what is after it
+-- an opening token, with `left` openings left
+abbrev pub opening_token : ℕ → Sort → Piece Lexeme
+opening_token left s = record { of = token_of; read = enter_read left s }
+
+-- the same, and what is after it
 abbrev pub opening : {A : Type 0} → ℕ → Sort → Piece A → Piece A
 opening left s p =
     record { of = λ x. p.of (nested_of x); read = λ ts. and_then (enter_read left s ts) (λ t k. p.read k) }
@@ -124,7 +128,8 @@ to_read_result f (Read x k) = Ok (f x, k)
 to_read_result f (Wrong k) = Err (fault.Syntax (length k))
 to_read_result f (Deep k) = Err (fault.TooDeep (length k))
 
--- what a function returned, unless memory ran out
-abbrev pub Gives : {A : Type 0} → Result (A × Bor (List Lexeme)) SyntaxError → ReadResult A → Type 0
-Gives (Ok x) o = o ≡ Ok (x.0, x.1.now)
-Gives (Err e) o = e ≢ fault.OutOfMemory → o ≡ Err e
+-- what a function returned whose cursor stood at `before`, and now stands at `after`: what the piece reads, unless memory
+-- ran out; after an error nothing is said of the cursor
+abbrev pub Gives : {A : Type 0} → Piece A → Bor (List Lexeme) → Bor (List Lexeme) → Result A SyntaxError → Type 0
+Gives p before after (Ok x) = p.read before.now ≡ Ok (x, after.now)
+Gives p before after (Err e) = e ≢ fault.OutOfMemory → p.read before.now ≡ Err e

@@ -1,6 +1,6 @@
 -- What a reader has, and what it is to return.
 use Rattle.std.specs.Prelude.{ℕ, List, Result}
-use denote.Ref.{Bor}
+use denote.Ref.{Bor, MutBor}
 use Rattle.span_grammar.specs.declared.class.Lexeme.{Lexeme}
 use Rattle.span_grammar.specs.declared.grammar.Part.{Part}
 use Rattle.span_primary.specs.declared.fault.SyntaxError.{SyntaxError}
@@ -14,22 +14,26 @@ pub record Reading (F : Type 0) : Type 0 where
   pub left : ℕ
   pub read : F
 
--- what a function that reads tokens returned
-abbrev pub Returned : Type 0 → Type 0
-Returned A = Result (A × Bor (List Lexeme)) SyntaxError
+-- a cursor over tokens, which a function moves past what it reads
+abbrev pub Cursor : Type 0
+Cursor = MutBor (Bor (List Lexeme))
+
+-- what is said of a move: of the tokens before it and after it, and of what the function returned
+abbrev pub Move : Type 0 → Type 1
+Move A = Bor (List Lexeme) → Bor (List Lexeme) → Result A SyntaxError → Type 0
 
 module _ {F A : Type 0} (r : Reading F) where
   -- the tokens were read as the piece says
-  abbrev pub Reads : (List ℕ → ℕ → Inner → Piece A) → List Lexeme → Returned A → Type 0
-  Reads piece tokens result = Gives result ((piece r.text r.left (after r.text r.left)).read tokens)
+  abbrev pub Reads : (List ℕ → ℕ → Inner → Piece A) → Move A
+  Reads piece = Gives (piece r.text r.left (after r.text r.left))
 
   -- the same of the piece, which is the part, any number of times
-  abbrev pub ReadsEach : Part → (List ℕ → ℕ → Inner → Piece A) → List Lexeme → Returned (List A) → Type 0
-  ReadsEach a piece tokens result = Gives result ((each a (piece r.text r.left (after r.text r.left))).read tokens)
+  abbrev pub ReadsEach : Part → (List ℕ → ℕ → Inner → Piece A) → Move (List A)
+  ReadsEach a piece = Gives (each a (piece r.text r.left (after r.text r.left)))
 
   -- after an opening, of a piece that is over the expressions there
-  abbrev pub ReadsInside : (Piece Expr → Piece A) → List Lexeme → Returned A → Type 0
-  ReadsInside piece tokens result = Gives result ((piece (after r.text r.left).expression).read tokens)
+  abbrev pub ReadsInside : (Piece Expr → Piece A) → Move A
+  ReadsInside piece = Gives (piece (after r.text r.left).expression)
 
-  abbrev pub ReadsEachInside : Part → (Piece Expr → Piece A) → List Lexeme → Returned (List A) → Type 0
-  ReadsEachInside a piece tokens result = Gives result ((each a (piece (after r.text r.left).expression)).read tokens)
+  abbrev pub ReadsEachInside : Part → (Piece Expr → Piece A) → Move (List A)
+  ReadsEachInside a piece = Gives (each a (piece (after r.text r.left).expression))

@@ -12,61 +12,51 @@ use span_lexer::token::{Sign, Word};
 use span_trees::tree::{Column, Spelling};
 use std::alloc::Global;
 
-/// A column, of which the first name was read, and the rest.
+/// A column, of which the first name was read.
 #[tactic(auto, unfolding(crate::specs::Expressions::qualified_column, crate::specs::Expressions::qualifier))]
-pub(crate) fn qualified_column<'a>(
+pub(crate) fn qualified_column(
     alloc: Global,
     text: &[u8],
     first: Spelling,
-    tokens: &'a [Lexeme],
-) -> Result<(Column, &'a [Lexeme]), SyntaxError>
-    ensures { Gives result ((spec.qualified_column text.now first).read tokens.now) }
+    tokens: &mut &[Lexeme],
+) -> Result<Column, SyntaxError>
+    ensures { Gives (spec.qualified_column text.now first) tokens.old tokens.new result }
 {
     if !goes_on(Part::Qualifier, tokens) {
-        return Ok((
-            Column {
-                table: None,
-                name: first,
-            },
-            tokens,
-        ));
+        return Ok(Column {
+            table: None,
+            name: first,
+        });
     }
-    let (_, rest) = take(Sort::Sign(Sign::Dot), tokens)?;
-    let (name, rest) = spelling(alloc, text, Sort::Name, rest)?;
-    Ok((
-        Column {
-            table: Some(first),
-            name,
-        },
-        rest,
-    ))
+    take(Sort::Sign(Sign::Dot), tokens)?;
+    let name = spelling(alloc, text, Sort::Name, tokens)?;
+    Ok(Column {
+        table: Some(first),
+        name,
+    })
 }
 
 /// A column of a table or of none.
 #[tactic(auto, unfolding(crate::specs::Expressions::column))]
-pub fn column<'a>(
-    alloc: Global,
-    text: &[u8],
-    tokens: &'a [Lexeme],
-) -> Result<(Column, &'a [Lexeme]), SyntaxError>
-    ensures { Gives result ((spec.column text.now).read tokens.now) }
+pub fn column(alloc: Global, text: &[u8], tokens: &mut &[Lexeme]) -> Result<Column, SyntaxError>
+    ensures { Gives (spec.column text.now) tokens.old tokens.new result }
 {
-    let (first, rest) = spelling(alloc, text, Sort::Name, tokens)?;
-    qualified_column(alloc, text, first, rest)
+    let first = spelling(alloc, text, Sort::Name, tokens)?;
+    qualified_column(alloc, text, first, tokens)
 }
 
 /// `[ASC | DESC]`: whether it descends.
 #[tactic(auto, unfolding(crate::specs::Expressions::direction))]
-pub fn direction(tokens: &[Lexeme]) -> Result<(bool, &[Lexeme]), SyntaxError>
-    ensures { Gives result (spec.direction.read tokens.now) }
+pub fn direction(tokens: &mut &[Lexeme]) -> Result<bool, SyntaxError>
+    ensures { Gives spec.direction tokens.old tokens.new result }
 {
     if next_is(Sort::Word(Word::Asc), tokens) {
-        let (_, rest) = take(Sort::Word(Word::Asc), tokens)?;
-        return Ok((false, rest));
+        take(Sort::Word(Word::Asc), tokens)?;
+        return Ok(false);
     }
     if next_is(Sort::Word(Word::Desc), tokens) {
-        let (_, rest) = take(Sort::Word(Word::Desc), tokens)?;
-        return Ok((true, rest));
+        take(Sort::Word(Word::Desc), tokens)?;
+        return Ok(true);
     }
-    Ok((false, tokens))
+    Ok(false)
 }

@@ -19,125 +19,112 @@ use span_trees::tree::{Expr, Spelling};
 use sqlite_items::{Boxed, Items};
 use std::alloc::Global;
 
-impl<
-    F: for<'a> Fn(
-        Global,
-        &[u8],
-        usize,
-        Level,
-        &'a [Lexeme],
-    ) -> Result<(Expr, &'a [Lexeme]), SyntaxError>,
-> Reader<'_, F> {
+impl<F> Reader<'_, F>
+where
+    F: Fn(Global, &[u8], usize, Level, &mut &[Lexeme]) -> Result<Expr, SyntaxError>,
+{
     /// `"(" expr ")"`
     #[tactic(auto, unfolding(crate::specs::Expressions::parenthesis))]
-    fn parenthesis<'a>(&self, tokens: &'a [Lexeme]) -> Result<(Expr, &'a [Lexeme]), SyntaxError>
+    fn parenthesis(&self, tokens: &mut &[Lexeme]) -> Result<Expr, SyntaxError>
         requires nests { Nests F.Fn self.now }
-        ensures { Reads self.now spec.parenthesis tokens.now result }
+        ensures { Reads self.now spec.parenthesis tokens.old tokens.new result }
     {
-        let (_, rest) = enter(self.left, Sort::Sign(Sign::Open), tokens)?;
-        let (inner, rest) = self.after(Level::Expression, rest)?;
-        close_parenthesis(inner, rest)
+        enter(self.left, Sort::Sign(Sign::Open), tokens)?;
+        let inner = self.after(Level::Expression, tokens)?;
+        close_parenthesis(inner, tokens)
     }
 
     /// A call, after its name.
     #[tactic(auto, unfolding(crate::specs::Expressions::arguments))]
-    fn arguments<'a>(
-        &self,
-        name: Spelling,
-        tokens: &'a [Lexeme],
-    ) -> Result<(Expr, &'a [Lexeme]), SyntaxError>
+    fn arguments(&self, name: Spelling, tokens: &mut &[Lexeme]) -> Result<Expr, SyntaxError>
         requires nests { Nests F.Fn self.now }
-        ensures { Reads self.now (λ text left inner. spec.arguments text left inner name) tokens.now result }
+        ensures { Reads self.now (λ text n inner. spec.arguments text n inner name) tokens.old tokens.new result }
     {
-        let (_, rest) = enter(self.left, Sort::Sign(Sign::Open), tokens)?;
-        let (call, rest) = self.argument_list(name, rest)?;
-        close_parenthesis(call, rest)
+        enter(self.left, Sort::Sign(Sign::Open), tokens)?;
+        let call = self.argument_list(name, tokens)?;
+        close_parenthesis(call, tokens)
     }
 
     /// `"(" expr {"," expr} ")"`
     #[tactic(auto, unfolding(crate::specs::Expressions::members))]
-    fn members<'a>(&self, tokens: &'a [Lexeme]) -> Result<(Items<Expr>, &'a [Lexeme]), SyntaxError>
+    fn members(&self, tokens: &mut &[Lexeme]) -> Result<Items<Expr>, SyntaxError>
         requires nests { Nests F.Fn self.now }
-        ensures { Reads self.now spec.members tokens.now result }
+        ensures { Reads self.now spec.members tokens.old tokens.new result }
     {
-        let (_, rest) = enter(self.left, Sort::Sign(Sign::Open), tokens)?;
-        let (found, rest) = self.list(rest)?;
-        close_parenthesis(found, rest)
+        enter(self.left, Sort::Sign(Sign::Open), tokens)?;
+        let found = self.list(tokens)?;
+        close_parenthesis(found, tokens)
     }
 
     /// A CASE.
     #[tactic(auto, unfolding(crate::specs::Expressions::case))]
-    fn case<'a>(&self, tokens: &'a [Lexeme]) -> Result<(Expr, &'a [Lexeme]), SyntaxError>
+    fn case(&self, tokens: &mut &[Lexeme]) -> Result<Expr, SyntaxError>
         requires nests { Nests F.Fn self.now }
-        ensures { Reads self.now spec.case tokens.now result }
+        ensures { Reads self.now spec.case tokens.old tokens.new result }
     {
-        let (_, rest) = enter(self.left, Sort::Word(Word::Case), tokens)?;
-        self.in_case(rest)
+        enter(self.left, Sort::Word(Word::Case), tokens)?;
+        self.in_case(tokens)
     }
 
     /// `NOT neg`
     #[tactic(auto, unfolding(crate::specs::Expressions::negation))]
-    pub fn negation<'a>(&self, tokens: &'a [Lexeme]) -> Result<(Expr, &'a [Lexeme]), SyntaxError>
+    pub fn negation(&self, tokens: &mut &[Lexeme]) -> Result<Expr, SyntaxError>
         requires nests { Nests F.Fn self.now }
-        ensures { Reads self.now spec.negation tokens.now result }
+        ensures { Reads self.now spec.negation tokens.old tokens.new result }
     {
-        let (_, rest) = enter(self.left, Sort::Word(Word::Not), tokens)?;
-        let (operand, rest) = self.after(Level::Negated, rest)?;
-        Ok((Expr::Not(Boxed::new(self.alloc, operand)?), rest))
+        enter(self.left, Sort::Word(Word::Not), tokens)?;
+        let operand = self.after(Level::Negated, tokens)?;
+        Ok(Expr::Not(Boxed::new(self.alloc, operand)?))
     }
 
     /// `"-" unary`
     #[tactic(auto, unfolding(crate::specs::Expressions::opposite))]
-    fn opposite<'a>(&self, tokens: &'a [Lexeme]) -> Result<(Expr, &'a [Lexeme]), SyntaxError>
+    fn opposite(&self, tokens: &mut &[Lexeme]) -> Result<Expr, SyntaxError>
         requires nests { Nests F.Fn self.now }
-        ensures { Reads self.now spec.opposite tokens.now result }
+        ensures { Reads self.now spec.opposite tokens.old tokens.new result }
     {
-        let (_, rest) = enter(self.left, Sort::Sign(Sign::Minus), tokens)?;
-        self.after(Level::Signed, rest)
+        enter(self.left, Sort::Sign(Sign::Minus), tokens)?;
+        self.after(Level::Signed, tokens)
     }
 
     /// A call or a column, after its name.
     #[tactic(auto, unfolding(crate::specs::Expressions::after_name))]
-    fn after_name<'a>(
-        &self,
-        name: Spelling,
-        tokens: &'a [Lexeme],
-    ) -> Result<(Expr, &'a [Lexeme]), SyntaxError>
+    fn after_name(&self, name: Spelling, tokens: &mut &[Lexeme]) -> Result<Expr, SyntaxError>
         requires nests { Nests F.Fn self.now }
-        ensures { Reads self.now (λ text left inner. spec.after_name text left inner name) tokens.now result }
+        ensures { Reads self.now (λ text n inner. spec.after_name text n inner name) tokens.old tokens.new result }
     {
         if goes_on(Part::Arguments, tokens) {
             return self.arguments(name, tokens);
         }
-        let (column, rest) = qualified_column(self.alloc, self.text, name, tokens)?;
-        Ok((Expr::Column(column), rest))
+        let column = qualified_column(self.alloc, self.text, name, tokens)?;
+        Ok(Expr::Column(column))
     }
 
     /// A call or a column.
     #[tactic(auto, unfolding(crate::specs::Expressions::call_or_column))]
-    fn call_or_column<'a>(&self, tokens: &'a [Lexeme]) -> Result<(Expr, &'a [Lexeme]), SyntaxError>
+    fn call_or_column(&self, tokens: &mut &[Lexeme]) -> Result<Expr, SyntaxError>
         requires nests { Nests F.Fn self.now }
-        ensures { Reads self.now spec.call_or_column tokens.now result }
+        ensures { Reads self.now spec.call_or_column tokens.old tokens.new result }
     {
-        let (name, rest) = spelling(self.alloc, self.text, Sort::Name, tokens)?;
-        self.after_name(name, rest)
+        let name = spelling(self.alloc, self.text, Sort::Name, tokens)?;
+        self.after_name(name, tokens)
     }
 
     /// A call of IF.
     #[tactic(auto, unfolding(crate::specs::Expressions::if_call))]
-    fn if_call<'a>(&self, tokens: &'a [Lexeme]) -> Result<(Expr, &'a [Lexeme]), SyntaxError>
+    fn if_call(&self, tokens: &mut &[Lexeme]) -> Result<Expr, SyntaxError>
         requires nests { Nests F.Fn self.now }
-        ensures { Reads self.now spec.if_call tokens.now result }
+        ensures { Reads self.now spec.if_call tokens.old tokens.new result }
     {
-        let (name, rest) = spelling(self.alloc, self.text, Sort::Word(Word::If), tokens)?;
-        self.arguments(name, rest)
+        let name = spelling(self.alloc, self.text, Sort::Word(Word::If), tokens)?;
+        self.arguments(name, tokens)
     }
 
     /// A call, a column, a CASE or an expression in parentheses.
     #[tactic(auto, unfolding(crate::specs::Expressions::compound))]
-    fn compound<'a>(&self, tokens: &'a [Lexeme]) -> Result<(Expr, &'a [Lexeme]), SyntaxError>
+    fn compound(&self, tokens: &mut &[Lexeme]) -> Result<Expr, SyntaxError>
         requires nests { Nests F.Fn self.now }
-        ensures { Reads self.now spec.compound tokens.now result }
+        ensures { Reads self.now spec.compound tokens.old tokens.new result }
     {
         if goes_on(Part::Named, tokens) {
             return self.call_or_column(tokens);
@@ -153,64 +140,64 @@ impl<
 
     /// TRUE, FALSE, NULL, a parameter, or what has other parts.
     #[tactic(auto, unfolding(crate::specs::Expressions::word_literal))]
-    fn word_literal<'a>(&self, tokens: &'a [Lexeme]) -> Result<(Expr, &'a [Lexeme]), SyntaxError>
+    fn word_literal(&self, tokens: &mut &[Lexeme]) -> Result<Expr, SyntaxError>
         requires nests { Nests F.Fn self.now }
-        ensures { Reads self.now spec.word_literal tokens.now result }
+        ensures { Reads self.now spec.word_literal tokens.old tokens.new result }
     {
         if next_is(Sort::Word(Word::True), tokens) {
-            let (found, rest) = take(Sort::Word(Word::True), tokens)?;
-            return Ok((Expr::Truth(true, span_of(&found.token)), rest));
+            let found = take(Sort::Word(Word::True), tokens)?;
+            return Ok(Expr::Truth(true, span_of(&found.token)));
         }
         if next_is(Sort::Word(Word::False), tokens) {
-            let (found, rest) = take(Sort::Word(Word::False), tokens)?;
-            return Ok((Expr::Truth(false, span_of(&found.token)), rest));
+            let found = take(Sort::Word(Word::False), tokens)?;
+            return Ok(Expr::Truth(false, span_of(&found.token)));
         }
         if next_is(Sort::Word(Word::Null), tokens) {
-            let (found, rest) = take(Sort::Word(Word::Null), tokens)?;
-            return Ok((Expr::Null(span_of(&found.token)), rest));
+            let found = take(Sort::Word(Word::Null), tokens)?;
+            return Ok(Expr::Null(span_of(&found.token)));
         }
         if next_is(Sort::Parameter, tokens) {
-            let (name, rest) = spelling(self.alloc, self.text, Sort::Parameter, tokens)?;
-            return Ok((Expr::Parameter(name), rest));
+            let name = spelling(self.alloc, self.text, Sort::Parameter, tokens)?;
+            return Ok(Expr::Parameter(name));
         }
         self.compound(tokens)
     }
 
     /// `prim`, but no integer.
     #[tactic(auto, unfolding(crate::specs::Expressions::other_primary))]
-    fn other_primary<'a>(&self, tokens: &'a [Lexeme]) -> Result<(Expr, &'a [Lexeme]), SyntaxError>
+    fn other_primary(&self, tokens: &mut &[Lexeme]) -> Result<Expr, SyntaxError>
         requires nests { Nests F.Fn self.now }
-        ensures { Reads self.now spec.other_primary tokens.now result }
+        ensures { Reads self.now spec.other_primary tokens.old tokens.new result }
     {
         if next_is(Sort::Str, tokens) {
-            let (literal, rest) = spelling(self.alloc, self.text, Sort::Str, tokens)?;
-            return Ok((Expr::Str(literal), rest));
+            let literal = spelling(self.alloc, self.text, Sort::Str, tokens)?;
+            return Ok(Expr::Str(literal));
         }
         if next_is(Sort::Bytes, tokens) {
-            let (literal, rest) = spelling(self.alloc, self.text, Sort::Bytes, tokens)?;
-            return Ok((Expr::Bytes(literal), rest));
+            let literal = spelling(self.alloc, self.text, Sort::Bytes, tokens)?;
+            return Ok(Expr::Bytes(literal));
         }
         self.word_literal(tokens)
     }
 
     /// `prim`
     #[tactic(auto, unfolding(crate::specs::Expressions::primary))]
-    fn primary<'a>(&self, tokens: &'a [Lexeme]) -> Result<(Expr, &'a [Lexeme]), SyntaxError>
+    fn primary(&self, tokens: &mut &[Lexeme]) -> Result<Expr, SyntaxError>
         requires nests { Nests F.Fn self.now }
-        ensures { Reads self.now spec.primary tokens.now result }
+        ensures { Reads self.now spec.primary tokens.old tokens.new result }
     {
         if next_is(Sort::Int, tokens) {
-            let (found, rest) = take(Sort::Int, tokens)?;
-            return Ok((Expr::Integer(integer_of(false, found)), rest));
+            let found = take(Sort::Int, tokens)?;
+            return Ok(Expr::Integer(integer_of(false, found)));
         }
         self.other_primary(tokens)
     }
 
     /// `unary`
     #[tactic(auto, unfolding(crate::specs::Expressions::unary))]
-    pub fn unary<'a>(&self, tokens: &'a [Lexeme]) -> Result<(Expr, &'a [Lexeme]), SyntaxError>
+    pub fn unary(&self, tokens: &mut &[Lexeme]) -> Result<Expr, SyntaxError>
         requires nests { Nests F.Fn self.now }
-        ensures { Reads self.now spec.unary tokens.now result }
+        ensures { Reads self.now spec.unary tokens.old tokens.new result }
     {
         if goes_on(Part::Opposite, tokens) {
             return self.opposite(tokens);
@@ -220,9 +207,9 @@ impl<
 
     /// `unary`, but no integer.
     #[tactic(auto, unfolding(crate::specs::Expressions::other_unary))]
-    fn other_unary<'a>(&self, tokens: &'a [Lexeme]) -> Result<(Expr, &'a [Lexeme]), SyntaxError>
+    fn other_unary(&self, tokens: &mut &[Lexeme]) -> Result<Expr, SyntaxError>
         requires nests { Nests F.Fn self.now }
-        ensures { Reads self.now spec.other_unary tokens.now result }
+        ensures { Reads self.now spec.other_unary tokens.old tokens.new result }
     {
         if goes_on(Part::Opposite, tokens) {
             return self.opposite(tokens);
@@ -232,59 +219,47 @@ impl<
 
     /// What is after a minus. One directly before an integer belongs to it.
     #[tactic(auto, unfolding(crate::specs::Expressions::signed_primary))]
-    pub fn signed_primary<'a>(
-        &self,
-        tokens: &'a [Lexeme],
-    ) -> Result<(Expr, &'a [Lexeme]), SyntaxError>
+    pub fn signed_primary(&self, tokens: &mut &[Lexeme]) -> Result<Expr, SyntaxError>
         requires nests { Nests F.Fn self.now }
-        ensures { Reads self.now spec.signed_primary tokens.now result }
+        ensures { Reads self.now spec.signed_primary tokens.old tokens.new result }
     {
         if next_is(Sort::Int, tokens) {
-            let (found, rest) = take(Sort::Int, tokens)?;
-            return Ok((Expr::Integer(integer_of(true, found)), rest));
+            let found = take(Sort::Int, tokens)?;
+            return Ok(Expr::Integer(integer_of(true, found)));
         }
-        let (operand, rest) = self.other_unary(tokens)?;
-        Ok((Expr::Negative(Boxed::new(self.alloc, operand)?), rest))
+        let operand = self.other_unary(tokens)?;
+        Ok(Expr::Negative(Boxed::new(self.alloc, operand)?))
     }
 
     /// `IS [NOT] NULL`
     #[tactic(auto, unfolding(crate::specs::Expressions::is_null))]
-    pub fn is_null<'a>(
-        &self,
-        tokens: &'a [Lexeme],
-    ) -> Result<((bool, PredicateTest), &'a [Lexeme]), SyntaxError>
+    pub fn is_null(&self, tokens: &mut &[Lexeme]) -> Result<(bool, PredicateTest), SyntaxError>
         requires nests { Nests F.Fn self.now }
-        ensures { Reads self.now spec.is_null tokens.now result }
+        ensures { Reads self.now spec.is_null tokens.old tokens.new result }
     {
-        let (is_not, rest) = null_words(tokens)?;
-        Ok(((is_not, PredicateTest::IsNull), rest))
+        let is_not = null_words(tokens)?;
+        Ok((is_not, PredicateTest::IsNull))
     }
 
     /// `LIKE string`
     #[tactic(auto, unfolding(crate::specs::Expressions::like))]
-    pub fn like<'a>(
-        &self,
-        tokens: &'a [Lexeme],
-    ) -> Result<(PredicateTest, &'a [Lexeme]), SyntaxError>
+    pub fn like(&self, tokens: &mut &[Lexeme]) -> Result<PredicateTest, SyntaxError>
         requires nests { Nests F.Fn self.now }
-        ensures { Reads self.now spec.like tokens.now result }
+        ensures { Reads self.now spec.like tokens.old tokens.new result }
     {
-        let (_, rest) = take(Sort::Word(Word::Like), tokens)?;
-        let (pattern, rest) = spelling(self.alloc, self.text, Sort::Str, rest)?;
-        Ok((PredicateTest::Like(pattern), rest))
+        take(Sort::Word(Word::Like), tokens)?;
+        let pattern = spelling(self.alloc, self.text, Sort::Str, tokens)?;
+        Ok(PredicateTest::Like(pattern))
     }
 
     /// `IN "(" expr {"," expr} ")"`
     #[tactic(auto, unfolding(crate::specs::Expressions::within))]
-    pub fn within<'a>(
-        &self,
-        tokens: &'a [Lexeme],
-    ) -> Result<(PredicateTest, &'a [Lexeme]), SyntaxError>
+    pub fn within(&self, tokens: &mut &[Lexeme]) -> Result<PredicateTest, SyntaxError>
         requires nests { Nests F.Fn self.now }
-        ensures { Reads self.now spec.within tokens.now result }
+        ensures { Reads self.now spec.within tokens.old tokens.new result }
     {
-        let (_, rest) = take(Sort::Word(Word::In), tokens)?;
-        let (members, rest) = self.members(rest)?;
-        Ok((PredicateTest::In(members), rest))
+        take(Sort::Word(Word::In), tokens)?;
+        let members = self.members(tokens)?;
+        Ok(PredicateTest::In(members))
     }
 }

@@ -5,13 +5,14 @@ ghost use Rattle.span_primary.specs.Nests.{Nests, ReadsAfter};
 ghost use Rattle.span_primary.specs.Reading.{ReadsInside, ReadsEachInside};
 
 use super::fault::SyntaxError;
-use super::token::{next_is, pair_with, take};
+use super::token::{next_is, take};
 use span_grammar::class::{Lexeme, Sort};
 use span_grammar::grammar::Part;
 use span_grammar::reader::goes_on;
 use span_lexer::token::{Sign, Word};
 use span_trees::operator::prepend;
 use span_trees::tree::{Arm, Expr, Spelling};
+use span_value::owned::keep_with;
 use sqlite_items::{Boxed, Items};
 use std::alloc::Global;
 use std::marker::Model;
@@ -59,216 +60,185 @@ impl<'t, F> Reader<'t, F> {
     }
 }
 
-impl<
-    F: for<'a> Fn(
-        Global,
-        &[u8],
-        usize,
-        Level,
-        &'a [Lexeme],
-    ) -> Result<(Expr, &'a [Lexeme]), SyntaxError>,
-> Reader<'_, F> {
+impl<F> Reader<'_, F>
+where
+    F: Fn(Global, &[u8], usize, Level, &mut &[Lexeme]) -> Result<Expr, SyntaxError>,
+{
     /// What is after an opening.
     #[tactic(auto, using(crate::proofs::Levels::level_steps))]
-    pub(crate) fn after<'a>(
-        &self,
-        level: Level,
-        tokens: &'a [Lexeme],
-    ) -> Result<(Expr, &'a [Lexeme]), SyntaxError>
+    pub(crate) fn after(&self, level: Level, tokens: &mut &[Lexeme]) -> Result<Expr, SyntaxError>
         requires nests { Nests F.Fn self.now }
         requires deeper { 0 < self.now.left }
-        ensures { ReadsAfter self.now level tokens.now result }
+        ensures { ReadsAfter self.now level tokens.old tokens.new result }
     {
         (self.read)(self.alloc, self.text, self.left - 1, level, tokens)
     }
 
     /// `, expr`
     #[tactic(auto, unfolding(crate::specs::Expressions::list_more))]
-    fn list_more<'a>(&self, tokens: &'a [Lexeme]) -> Result<(Expr, &'a [Lexeme]), SyntaxError>
+    fn list_more(&self, tokens: &mut &[Lexeme]) -> Result<Expr, SyntaxError>
         requires nests { Nests F.Fn self.now }
         requires deeper { 0 < self.now.left }
-        ensures { ReadsInside self.now spec.list_more tokens.now result }
+        ensures { ReadsInside self.now spec.list_more tokens.old tokens.new result }
     {
-        let (_, rest) = take(Sort::Sign(Sign::Comma), tokens)?;
-        self.after(Level::Expression, rest)
+        take(Sort::Sign(Sign::Comma), tokens)?;
+        self.after(Level::Expression, tokens)
     }
 
     /// `{"," expr}`
     #[tactic(auto, using(crate::proofs::Shrinking::loop_steps))]
-    fn list_rest<'a>(
-        &self,
-        tokens: &'a [Lexeme],
-    ) -> Result<(Items<Expr>, &'a [Lexeme]), SyntaxError>
+    fn list_rest(&self, tokens: &mut &[Lexeme]) -> Result<Items<Expr>, SyntaxError>
         requires nests { Nests F.Fn self.now }
         requires deeper { 0 < self.now.left }
-        ensures { ReadsEachInside self.now Part.ListMore spec.list_more tokens.now result }
+        ensures { ReadsEachInside self.now Part.ListMore spec.list_more tokens.old tokens.new result }
     {
         let mut found = Items::new(self.alloc);
-        let mut rest = tokens;
-        while goes_on(Part::ListMore, rest) {
-            let (next, after) = self.list_more(rest)?;
+        while goes_on(Part::ListMore, tokens) {
+            let next = self.list_more(tokens)?;
             found.push(next)?;
-            rest = after;
         }
-        Ok((found, rest))
+        Ok(found)
     }
 
     /// Expressions, separated by commas.
     #[tactic(auto, unfolding(crate::specs::Expressions::list))]
-    pub(crate) fn list<'a>(
-        &self,
-        tokens: &'a [Lexeme],
-    ) -> Result<(Items<Expr>, &'a [Lexeme]), SyntaxError>
+    pub(crate) fn list(&self, tokens: &mut &[Lexeme]) -> Result<Items<Expr>, SyntaxError>
         requires nests { Nests F.Fn self.now }
         requires deeper { 0 < self.now.left }
-        ensures { ReadsInside self.now spec.list tokens.now result }
+        ensures { ReadsInside self.now spec.list tokens.old tokens.new result }
     {
-        let (first, rest) = self.after(Level::Expression, tokens)?;
-        let ((first, more), rest) = pair_with(first, self.list_rest(rest))?;
-        Ok((prepend(self.alloc, first, more)?, rest))
+        let first = self.after(Level::Expression, tokens)?;
+        let (first, more) = keep_with(first, self.list_rest(tokens))?;
+        Ok(prepend(self.alloc, first, more)?)
     }
 
     /// `THEN expr`
     #[tactic(auto, unfolding(crate::specs::Expressions::then_value))]
-    fn then_value<'a>(&self, tokens: &'a [Lexeme]) -> Result<(Expr, &'a [Lexeme]), SyntaxError>
+    fn then_value(&self, tokens: &mut &[Lexeme]) -> Result<Expr, SyntaxError>
         requires nests { Nests F.Fn self.now }
         requires deeper { 0 < self.now.left }
-        ensures { ReadsInside self.now spec.then_value tokens.now result }
+        ensures { ReadsInside self.now spec.then_value tokens.old tokens.new result }
     {
-        let (_, rest) = take(Sort::Word(Word::Then), tokens)?;
-        self.after(Level::Expression, rest)
+        take(Sort::Word(Word::Then), tokens)?;
+        self.after(Level::Expression, tokens)
     }
 
     /// `WHEN expr THEN expr`
     #[tactic(auto, unfolding(crate::specs::Expressions::when, crate::specs::Expressions::arm_of))]
-    fn when<'a>(&self, tokens: &'a [Lexeme]) -> Result<(Arm, &'a [Lexeme]), SyntaxError>
+    fn when(&self, tokens: &mut &[Lexeme]) -> Result<Arm, SyntaxError>
         requires nests { Nests F.Fn self.now }
         requires deeper { 0 < self.now.left }
-        ensures { ReadsInside self.now spec.when tokens.now result }
+        ensures { ReadsInside self.now spec.when tokens.old tokens.new result }
     {
-        let (_, rest) = take(Sort::Word(Word::When), tokens)?;
-        let (condition, rest) = self.after(Level::Expression, rest)?;
-        let ((condition, value), rest) = pair_with(condition, self.then_value(rest))?;
-        Ok((Arm { condition, value }, rest))
+        take(Sort::Word(Word::When), tokens)?;
+        let condition = self.after(Level::Expression, tokens)?;
+        let (condition, value) = keep_with(condition, self.then_value(tokens))?;
+        Ok(Arm { condition, value })
     }
 
     /// `{WHEN expr THEN expr}`
     #[tactic(auto, using(crate::proofs::Shrinking::loop_steps))]
-    fn when_rest<'a>(&self, tokens: &'a [Lexeme]) -> Result<(Items<Arm>, &'a [Lexeme]), SyntaxError>
+    fn when_rest(&self, tokens: &mut &[Lexeme]) -> Result<Items<Arm>, SyntaxError>
         requires nests { Nests F.Fn self.now }
         requires deeper { 0 < self.now.left }
-        ensures { ReadsEachInside self.now Part.When spec.when tokens.now result }
+        ensures { ReadsEachInside self.now Part.When spec.when tokens.old tokens.new result }
     {
         let mut found = Items::new(self.alloc);
-        let mut rest = tokens;
-        while goes_on(Part::When, rest) {
-            let (next, after) = self.when(rest)?;
+        while goes_on(Part::When, tokens) {
+            let next = self.when(tokens)?;
             found.push(next)?;
-            rest = after;
         }
-        Ok((found, rest))
+        Ok(found)
     }
 
     /// The operand of a CASE, if it has one.
     #[tactic(auto, unfolding(crate::specs::Expressions::case_operand))]
-    fn case_operand<'a>(
-        &self,
-        tokens: &'a [Lexeme],
-    ) -> Result<(Option<Boxed<Expr>>, &'a [Lexeme]), SyntaxError>
+    fn case_operand(&self, tokens: &mut &[Lexeme]) -> Result<Option<Boxed<Expr>>, SyntaxError>
         requires nests { Nests F.Fn self.now }
         requires deeper { 0 < self.now.left }
-        ensures { ReadsInside self.now spec.case_operand tokens.now result }
+        ensures { ReadsInside self.now spec.case_operand tokens.old tokens.new result }
     {
         if !goes_on(Part::Expression, tokens) {
-            return Ok((None, tokens));
+            return Ok(None);
         }
-        let (operand, rest) = self.after(Level::Expression, tokens)?;
-        Ok((Some(Boxed::new(self.alloc, operand)?), rest))
+        let operand = self.after(Level::Expression, tokens)?;
+        Ok(Some(Boxed::new(self.alloc, operand)?))
     }
 
     /// `[ELSE expr]`
     #[tactic(auto, unfolding(crate::specs::Expressions::case_else))]
-    fn case_else<'a>(
-        &self,
-        tokens: &'a [Lexeme],
-    ) -> Result<(Option<Boxed<Expr>>, &'a [Lexeme]), SyntaxError>
+    fn case_else(&self, tokens: &mut &[Lexeme]) -> Result<Option<Boxed<Expr>>, SyntaxError>
         requires nests { Nests F.Fn self.now }
         requires deeper { 0 < self.now.left }
-        ensures { ReadsInside self.now spec.case_else tokens.now result }
+        ensures { ReadsInside self.now spec.case_else tokens.old tokens.new result }
     {
         if !goes_on(Part::Else, tokens) {
-            return Ok((None, tokens));
+            return Ok(None);
         }
-        let (_, rest) = take(Sort::Word(Word::Else), tokens)?;
-        let (value, rest) = self.after(Level::Expression, rest)?;
-        Ok((Some(Boxed::new(self.alloc, value)?), rest))
+        take(Sort::Word(Word::Else), tokens)?;
+        let value = self.after(Level::Expression, tokens)?;
+        Ok(Some(Boxed::new(self.alloc, value)?))
     }
 
     /// `[ELSE expr] END`
     #[tactic(auto, unfolding(crate::specs::Expressions::case_end))]
-    fn case_end<'a>(
-        &self,
-        tokens: &'a [Lexeme],
-    ) -> Result<(Option<Boxed<Expr>>, &'a [Lexeme]), SyntaxError>
+    fn case_end(&self, tokens: &mut &[Lexeme]) -> Result<Option<Boxed<Expr>>, SyntaxError>
         requires nests { Nests F.Fn self.now }
         requires deeper { 0 < self.now.left }
-        ensures { ReadsInside self.now spec.case_end tokens.now result }
+        ensures { ReadsInside self.now spec.case_end tokens.old tokens.new result }
     {
-        let (otherwise, rest) = self.case_else(tokens)?;
-        let ((otherwise, _), rest) = pair_with(otherwise, take(Sort::Word(Word::End), rest))?;
-        Ok((otherwise, rest))
+        let otherwise = self.case_else(tokens)?;
+        take(Sort::Word(Word::End), tokens)?;
+        Ok(otherwise)
     }
 
     /// The arms of a CASE, and what ends it.
     #[tactic(auto, unfolding(crate::specs::Expressions::case_arms))]
-    fn case_arms<'a>(
+    fn case_arms(
         &self,
-        tokens: &'a [Lexeme],
-    ) -> Result<((Items<Arm>, Option<Boxed<Expr>>), &'a [Lexeme]), SyntaxError>
+        tokens: &mut &[Lexeme],
+    ) -> Result<(Items<Arm>, Option<Boxed<Expr>>), SyntaxError>
         requires nests { Nests F.Fn self.now }
         requires deeper { 0 < self.now.left }
-        ensures { ReadsInside self.now spec.case_arms tokens.now result }
+        ensures { ReadsInside self.now spec.case_arms tokens.old tokens.new result }
     {
-        let (arm, rest) = self.when(tokens)?;
-        let ((arm, more), rest) = pair_with(arm, self.when_rest(rest))?;
+        let arm = self.when(tokens)?;
+        let (arm, more) = keep_with(arm, self.when_rest(tokens))?;
         let arms = prepend(self.alloc, arm, more)?;
-        pair_with(arms, self.case_end(rest))
+        keep_with(arms, self.case_end(tokens))
     }
 
     /// What is after CASE.
     #[tactic(auto, using(span_trees::specs::declared::tree::Expr::the_lemmas), unfolding(crate::specs::Expressions::in_case, crate::specs::Expressions::case_of))]
-    pub(crate) fn in_case<'a>(
-        &self,
-        tokens: &'a [Lexeme],
-    ) -> Result<(Expr, &'a [Lexeme]), SyntaxError>
+    pub(crate) fn in_case(&self, tokens: &mut &[Lexeme]) -> Result<Expr, SyntaxError>
         requires nests { Nests F.Fn self.now }
         requires deeper { 0 < self.now.left }
-        ensures { ReadsInside self.now spec.in_case tokens.now result }
+        ensures { ReadsInside self.now spec.in_case tokens.old tokens.new result }
     {
-        let (operand, rest) = self.case_operand(tokens)?;
-        let ((operand, (arms, otherwise)), rest) = pair_with(operand, self.case_arms(rest))?;
-        Ok((Expr::Case(operand, arms, otherwise), rest))
+        let operand = self.case_operand(tokens)?;
+        let (arms, otherwise) = self.case_arms(tokens)?;
+        Ok(Expr::Case(operand, arms, otherwise))
     }
 
     /// What is between the parentheses of a call.
     #[tactic(auto, unfolding(crate::specs::Expressions::argument_list))]
-    pub(crate) fn argument_list<'a>(
+    pub(crate) fn argument_list(
         &self,
         name: Spelling,
-        tokens: &'a [Lexeme],
-    ) -> Result<(Expr, &'a [Lexeme]), SyntaxError>
+        tokens: &mut &[Lexeme],
+    ) -> Result<Expr, SyntaxError>
         requires nests { Nests F.Fn self.now }
         requires deeper { 0 < self.now.left }
-        ensures { ReadsInside self.now (λ inside. spec.argument_list inside name) tokens.now result }
+        ensures { ReadsInside self.now (λ inside. spec.argument_list inside name) tokens.old tokens.new result }
     {
         if next_is(Sort::Sign(Sign::Star), tokens) {
-            let (_, rest) = take(Sort::Sign(Sign::Star), tokens)?;
-            return Ok((Expr::CallStar(name), rest));
+            take(Sort::Sign(Sign::Star), tokens)?;
+            return Ok(Expr::CallStar(name));
         }
         if goes_on(Part::List, tokens) {
-            let (operands, rest) = self.list(tokens)?;
-            return Ok((Expr::Call(name, operands), rest));
+            let operands = self.list(tokens)?;
+            return Ok(Expr::Call(name, operands));
         }
-        Ok((Expr::Call(name, Items::new(self.alloc)), tokens))
+        Ok(Expr::Call(name, Items::new(self.alloc)))
     }
 }

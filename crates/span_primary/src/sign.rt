@@ -10,82 +10,82 @@ use span_trees::tree::{ComparisonOperator, Operator};
 
 /// `*` or `||`
 #[tactic(auto, unfolding(crate::specs::Expressions::term_sign))]
-pub fn term_sign(tokens: &[Lexeme]) -> Result<(Operator, &[Lexeme]), SyntaxError>
-    ensures { Gives result (spec.term_sign.read tokens.now) }
+pub fn term_sign(tokens: &mut &[Lexeme]) -> Result<Operator, SyntaxError>
+    ensures { Gives spec.term_sign tokens.old tokens.new result }
 {
     if next_is(Sort::Sign(Sign::Star), tokens) {
-        let (_, rest) = take(Sort::Sign(Sign::Star), tokens)?;
-        return Ok((Operator::Times, rest));
+        take(Sort::Sign(Sign::Star), tokens)?;
+        return Ok(Operator::Times);
     }
-    let (_, rest) = take(Sort::Sign(Sign::Concat), tokens)?;
-    Ok((Operator::Concat, rest))
+    take(Sort::Sign(Sign::Concat), tokens)?;
+    Ok(Operator::Concat)
 }
 
 /// `+` or `-`
 #[tactic(auto, unfolding(crate::specs::Expressions::sum_sign))]
-pub fn sum_sign(tokens: &[Lexeme]) -> Result<(Operator, &[Lexeme]), SyntaxError>
-    ensures { Gives result (spec.sum_sign.read tokens.now) }
+pub fn sum_sign(tokens: &mut &[Lexeme]) -> Result<Operator, SyntaxError>
+    ensures { Gives spec.sum_sign tokens.old tokens.new result }
 {
     if next_is(Sort::Sign(Sign::Plus), tokens) {
-        let (_, rest) = take(Sort::Sign(Sign::Plus), tokens)?;
-        return Ok((Operator::Plus, rest));
+        take(Sort::Sign(Sign::Plus), tokens)?;
+        return Ok(Operator::Plus);
     }
-    let (_, rest) = take(Sort::Sign(Sign::Minus), tokens)?;
-    Ok((Operator::Minus, rest))
+    take(Sort::Sign(Sign::Minus), tokens)?;
+    Ok(Operator::Minus)
 }
 
 /// A comparison.
 #[tactic(auto, unfolding(crate::specs::Expressions::comparison))]
-pub fn comparison(tokens: &[Lexeme]) -> Result<(ComparisonOperator, &[Lexeme]), SyntaxError>
-    ensures { Gives result (spec.comparison.read tokens.now) }
+pub fn comparison(tokens: &mut &[Lexeme]) -> Result<ComparisonOperator, SyntaxError>
+    ensures { Gives spec.comparison tokens.old tokens.new result }
 {
     if next_is(Sort::Sign(Sign::Equal), tokens) {
-        let (_, rest) = take(Sort::Sign(Sign::Equal), tokens)?;
-        return Ok((ComparisonOperator::Equal, rest));
+        take(Sort::Sign(Sign::Equal), tokens)?;
+        return Ok(ComparisonOperator::Equal);
     }
     if next_is(Sort::Sign(Sign::LessGreater), tokens) {
-        let (_, rest) = take(Sort::Sign(Sign::LessGreater), tokens)?;
-        return Ok((ComparisonOperator::NotEqual, rest));
+        take(Sort::Sign(Sign::LessGreater), tokens)?;
+        return Ok(ComparisonOperator::NotEqual);
     }
     if next_is(Sort::Sign(Sign::BangEqual), tokens) {
-        let (_, rest) = take(Sort::Sign(Sign::BangEqual), tokens)?;
-        return Ok((ComparisonOperator::NotEqual, rest));
+        take(Sort::Sign(Sign::BangEqual), tokens)?;
+        return Ok(ComparisonOperator::NotEqual);
     }
     if next_is(Sort::Sign(Sign::Less), tokens) {
-        let (_, rest) = take(Sort::Sign(Sign::Less), tokens)?;
-        return Ok((ComparisonOperator::Less, rest));
+        take(Sort::Sign(Sign::Less), tokens)?;
+        return Ok(ComparisonOperator::Less);
     }
     if next_is(Sort::Sign(Sign::LessEqual), tokens) {
-        let (_, rest) = take(Sort::Sign(Sign::LessEqual), tokens)?;
-        return Ok((ComparisonOperator::AtMost, rest));
+        take(Sort::Sign(Sign::LessEqual), tokens)?;
+        return Ok(ComparisonOperator::AtMost);
     }
     if next_is(Sort::Sign(Sign::Greater), tokens) {
-        let (_, rest) = take(Sort::Sign(Sign::Greater), tokens)?;
-        return Ok((ComparisonOperator::Greater, rest));
+        take(Sort::Sign(Sign::Greater), tokens)?;
+        return Ok(ComparisonOperator::Greater);
     }
-    let (_, rest) = take(Sort::Sign(Sign::GreaterEqual), tokens)?;
-    Ok((ComparisonOperator::AtLeast, rest))
+    take(Sort::Sign(Sign::GreaterEqual), tokens)?;
+    Ok(ComparisonOperator::AtLeast)
 }
 
 /// Whether NOT comes next.
 #[tactic(auto, unfolding(crate::specs::Expressions::maybe_not))]
-pub fn maybe_not(tokens: &[Lexeme]) -> Result<(bool, &[Lexeme]), SyntaxError>
-    ensures { Gives result (spec.maybe_not.read tokens.now) }
+pub fn maybe_not(tokens: &mut &[Lexeme]) -> Result<bool, SyntaxError>
+    ensures { Gives spec.maybe_not tokens.old tokens.new result }
 {
     if !next_is(Sort::Word(Word::Not), tokens) {
-        return Ok((false, tokens));
+        return Ok(false);
     }
-    let (_, rest) = take(Sort::Word(Word::Not), tokens)?;
-    Ok((true, rest))
+    take(Sort::Word(Word::Not), tokens)?;
+    Ok(true)
 }
 
 /// `IS [NOT] NULL`: whether with NOT.
 #[tactic(auto, unfolding(crate::specs::Expressions::null_words))]
-pub fn null_words(tokens: &[Lexeme]) -> Result<(bool, &[Lexeme]), SyntaxError>
-    ensures { Gives result (spec.null_words.read tokens.now) }
+pub fn null_words(tokens: &mut &[Lexeme]) -> Result<bool, SyntaxError>
+    ensures { Gives spec.null_words tokens.old tokens.new result }
 {
-    let (_, rest) = take(Sort::Word(Word::Is), tokens)?;
-    let (is_not, rest) = maybe_not(rest)?;
-    let (_, rest) = take(Sort::Word(Word::Null), rest)?;
-    Ok((is_not, rest))
+    take(Sort::Word(Word::Is), tokens)?;
+    let is_not = maybe_not(tokens)?;
+    take(Sort::Word(Word::Null), tokens)?;
+    Ok(is_not)
 }

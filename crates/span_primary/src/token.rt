@@ -1,10 +1,12 @@
 //! The steps that every rule is read by.
-ghost use Rattle.std.specs.Prelude.{◌≡◌, ◌<◌, List, IfOk};
+//!
+//! What reads tokens is given a cursor over them, and moves it past what it read. After an error the cursor may be anywhere.
+ghost use Rattle.std.specs.Prelude.{◌≡◌, ◌<◌, IfOk};
 ghost use Rattle.std.specs.Str.Lossy.{utf8_lossy};
 ghost use Rattle.span_grammar.specs.declared.grammar.Part;
 ghost use Rattle.span_grammar.specs.Rules.{starts};
 ghost use Rattle.span_grammar.specs.Grammar.{rule_of};
-ghost use Rattle.span_primary.specs.Pieces.{Gives, Piece, pair_with, token_read, enter_read};
+ghost use Rattle.span_primary.specs.Pieces.{Gives, token, opening_token};
 ghost use Rattle.span_grammar.specs.Classes as classes;
 ghost use Rattle.span_primary.specs.Expressions as spec;
 
@@ -25,55 +27,41 @@ pub fn next_is(sort: Sort, tokens: &[Lexeme]) -> bool
     goes_on(Part::Token(sort), tokens)
 }
 
-/// The next token, if it is of a sort, and the rest.
+/// Takes the next token, if it is of a sort.
 #[tactic(auto, unfolding(crate::specs::Pieces::token_read))]
-pub fn take(sort: Sort, tokens: &[Lexeme]) -> Result<(Lexeme, &[Lexeme]), SyntaxError>
-    ensures { Gives result (token_read sort tokens.now) }
+pub fn take(sort: Sort, tokens: &mut &[Lexeme]) -> Result<Lexeme, SyntaxError>
+    ensures { Gives (token sort) tokens.old tokens.new result }
 {
     match tokens.split_first() {
-        Some((lexeme, rest)) if is_class(sort, lexeme.class) => Ok((*lexeme, rest)),
+        Some((lexeme, rest)) if is_class(sort, lexeme.class) => {
+            *tokens = rest;
+            Ok(*lexeme)
+        }
         _ => Err(SyntaxError::Syntax(tokens.len())),
     }
 }
 
-/// The next token, if it is an opening of a sort and an opening is left, and the rest.
+/// Takes the next token, if it is an opening of a sort and an opening is left.
 #[tactic(auto, unfolding(crate::specs::Pieces::enter_read))]
-pub fn enter(left: usize, sort: Sort, tokens: &[Lexeme]) -> Result<(Lexeme, &[Lexeme]), SyntaxError>
-    ensures read { Gives result (enter_read left sort tokens.now) }
+pub fn enter(left: usize, sort: Sort, tokens: &mut &[Lexeme]) -> Result<Lexeme, SyntaxError>
+    ensures read { Gives (opening_token left sort) tokens.old tokens.new result }
     ensures deeper { IfOk result (λ x. 0 < left) }
 {
-    let (lexeme, rest) = take(sort, tokens)?;
+    let here = tokens.len();
+    let opening = take(sort, tokens)?;
     if left == 0 {
-        return Err(SyntaxError::TooDeep(tokens.len()));
+        return Err(SyntaxError::TooDeep(here));
     }
-    Ok((lexeme, rest))
-}
-
-/// Pairs what was read before with what was read after it.
-///
-/// If that was not read, `found` is dropped here, at any type: to prove that the drop of a tree is safe takes long, at
-/// each place where a tree may be dropped.
-#[tactic(auto, unfolding(crate::specs::Pieces::pair_with))]
-pub fn pair_with<'a, T: Drop, U>(
-    found: T,
-    after: Result<(U, &'a [Lexeme]), SyntaxError>,
-) -> Result<((T, U), &'a [Lexeme]), SyntaxError>
-    ensures { (p : Piece U) (ts : List Lexeme) → Gives after.entry (p.read ts) → Gives result ((pair_with found p).read ts) }
-{
-    let (next, rest) = after?;
-    Ok(((found, next), rest))
+    Ok(opening)
 }
 
 /// Reads the parenthesis that ends what was read before.
 #[tactic(auto, unfolding(crate::specs::Expressions::close_parenthesis))]
-pub fn close_parenthesis<T: Drop>(
-    found: T,
-    tokens: &[Lexeme],
-) -> Result<(T, &[Lexeme]), SyntaxError>
-    ensures { Gives result ((spec.close_parenthesis found).read tokens.now) }
+pub fn close_parenthesis<T: Drop>(found: T, tokens: &mut &[Lexeme]) -> Result<T, SyntaxError>
+    ensures { Gives (spec.close_parenthesis found) tokens.old tokens.new result }
 {
-    let (_, rest) = take(Sort::Sign(Sign::Close), tokens)?;
-    Ok((found, rest))
+    take(Sort::Sign(Sign::Close), tokens)?;
+    Ok(found)
 }
 
 /// The place of a token.
@@ -97,18 +85,18 @@ fn spelling_of(alloc: Global, text: &[u8], lexeme: Lexeme) -> Result<Spelling, A
     })
 }
 
-/// The spelling of the next token, if it is of a sort, and the rest.
+/// Takes the next token, if it is of a sort: its spelling.
 #[tactic(auto, unfolding(crate::specs::Expressions::spelling))]
-pub fn spelling<'a>(
+pub fn spelling(
     alloc: Global,
     text: &[u8],
     sort: Sort,
-    tokens: &'a [Lexeme],
-) -> Result<(Spelling, &'a [Lexeme]), SyntaxError>
-    ensures { Gives result ((spec.spelling text.now sort).read tokens.now) }
+    tokens: &mut &[Lexeme],
+) -> Result<Spelling, SyntaxError>
+    ensures { Gives (spec.spelling text.now sort) tokens.old tokens.new result }
 {
-    let (lexeme, rest) = take(sort, tokens)?;
-    Ok((spelling_of(alloc, text, lexeme)?, rest))
+    let lexeme = take(sort, tokens)?;
+    Ok(spelling_of(alloc, text, lexeme)?)
 }
 
 /// The value of an integer.

@@ -18,7 +18,7 @@ unfolding nested_query at
 deeper_is text zero h = absurd (omega arith)
 deeper_is text (suc n) h = ap (at text) (before n)
 
-pub gives_deeper : (text : List ℕ) (n : ℕ) (ts : List Lexeme) (r : Result (Query × Bor (List Lexeme)) SyntaxError) → 0 < n → Gives r ((query text (n - 1) (nested_query text (n - 1))).read ts) → Gives r ((nested_query text n).read ts)
-gives_deeper text n ts r h g = subst (λ (p : Piece Query). Gives r (p.read ts)) (deeper_is text n h) g
+pub gives_deeper : (text : List ℕ) (n : ℕ) (ts k : Bor (List Lexeme)) (r : Result Query SyntaxError) → 0 < n → Gives (query text (n - 1) (nested_query text (n - 1))) ts k r → Gives (nested_query text n) ts k r
+gives_deeper text n ts k r h g = subst (λ (p : Piece Query). Gives p ts k r) (deeper_is text n h) g
 
 pub ruleset level_steps = (gives_deeper)

@@ -25,7 +25,8 @@ use std::alloc::{AllocError, Global};
 fn read_statement(alloc: Global, text: &[u8], tokens: &[Lexeme]) -> Result<Query, SyntaxError>
     ensures { GivesToEnd result (read_to_end (spec.statement text.now most_openings) tokens.now) }
 {
-    let (query, rest) = statement(alloc, text, MOST_OPENINGS, tokens)?;
+    let mut rest = tokens;
+    let query = statement(alloc, text, MOST_OPENINGS, &mut rest)?;
     require_end(query, rest)
 }
 

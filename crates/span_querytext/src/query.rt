@@ -17,7 +17,8 @@ use span_parser::clause::{
 };
 use span_parser::tree::{Block, Item, Join, Limit, Query, SortKey};
 use span_primary::fault::SyntaxError;
-use span_primary::token::{close_parenthesis, enter, pair_with, spelling, take};
+use span_primary::token::{close_parenthesis, enter, spelling, take};
+use span_value::owned::keep_with;
 use sqlite_items::{Boxed, Items};
 use std::alloc::Global;
 use std::marker::Model;
@@ -38,15 +39,16 @@ impl<'t, F> Model for QueryReader<'t, F> {
     ghost view = { λ r. record { text = r.clauses.text; left = r.clauses.left; read = r.read } };
 }
 
-impl<
-    F: for<'a> Fn(Global, &[u8], usize, &'a [Lexeme]) -> Result<(Query, &'a [Lexeme]), SyntaxError>,
-> QueryReader<'_, F> {
+impl<F> QueryReader<'_, F>
+where
+    F: Fn(Global, &[u8], usize, &mut &[Lexeme]) -> Result<Query, SyntaxError>,
+{
     /// A query after an opening.
     #[tactic(auto, using(crate::proofs::Sublevels::level_steps))]
-    fn after<'a>(&self, tokens: &'a [Lexeme]) -> Result<(Query, &'a [Lexeme]), SyntaxError>
+    fn after(&self, tokens: &mut &[Lexeme]) -> Result<Query, SyntaxError>
         requires nests { NestsQueries F.Fn self.now }
         requires deeper { 0 < self.now.left }
-        ensures { ReadsNested self.now tokens.now result }
+        ensures { ReadsNested self.now tokens.old tokens.new result }
     {
         (self.read)(
             self.clauses.alloc,
@@ -58,46 +60,43 @@ impl<
 
     /// `"(" query ")"`
     #[tactic(auto, unfolding(span_parser::specs::Queries::subquery))]
-    fn subquery<'a>(&self, tokens: &'a [Lexeme]) -> Result<(Query, &'a [Lexeme]), SyntaxError>
+    fn subquery(&self, tokens: &mut &[Lexeme]) -> Result<Query, SyntaxError>
         requires nests { NestsQueries F.Fn self.now }
-        ensures { ReadsQuery self.now spec.subquery tokens.now result }
+        ensures { ReadsQuery self.now spec.subquery tokens.old tokens.new result }
     {
-        let (_, rest) = enter(self.clauses.left, Sort::Sign(Sign::Open), tokens)?;
-        let (query, rest) = self.after(rest)?;
-        close_parenthesis(query, rest)
+        enter(self.clauses.left, Sort::Sign(Sign::Open), tokens)?;
+        let query = self.after(tokens)?;
+        close_parenthesis(query, tokens)
     }
 
     /// `name [[AS] name]`
     #[tactic(auto, unfolding(span_parser::specs::Queries::named_item))]
-    fn named_item<'a>(&self, tokens: &'a [Lexeme]) -> Result<(Item, &'a [Lexeme]), SyntaxError>
+    fn named_item(&self, tokens: &mut &[Lexeme]) -> Result<Item, SyntaxError>
         requires nests { NestsQueries F.Fn self.now }
-        ensures { ReadsQuery self.now spec.named_item tokens.now result }
+        ensures { ReadsQuery self.now spec.named_item tokens.old tokens.new result }
     {
-        let (name, rest) = spelling(self.clauses.alloc, self.clauses.text, Sort::Name, tokens)?;
-        let (other, rest) = alias(self.clauses.alloc, self.clauses.text, rest)?;
-        Ok((Item::Table(name, other), rest))
+        let name = spelling(self.clauses.alloc, self.clauses.text, Sort::Name, tokens)?;
+        let other = alias(self.clauses.alloc, self.clauses.text, tokens)?;
+        Ok(Item::Table(name, other))
     }
 
     /// `"(" query ")" [AS] name`
     #[tactic(auto, unfolding(span_parser::specs::Queries::derived_item))]
-    fn derived_item<'a>(&self, tokens: &'a [Lexeme]) -> Result<(Item, &'a [Lexeme]), SyntaxError>
+    fn derived_item(&self, tokens: &mut &[Lexeme]) -> Result<Item, SyntaxError>
         requires nests { NestsQueries F.Fn self.now }
-        ensures { ReadsQuery self.now spec.derived_item tokens.now result }
+        ensures { ReadsQuery self.now spec.derived_item tokens.old tokens.new result }
     {
-        let (query, rest) = self.subquery(tokens)?;
-        let name = required_alias(self.clauses.alloc, self.clauses.text, rest);
-        let ((query, name), rest) = pair_with(query, name)?;
-        Ok((
-            Item::Derived(Boxed::new(self.clauses.alloc, query)?, name),
-            rest,
-        ))
+        let query = self.subquery(tokens)?;
+        let name = required_alias(self.clauses.alloc, self.clauses.text, tokens);
+        let (query, name) = keep_with(query, name)?;
+        Ok(Item::Derived(Boxed::new(self.clauses.alloc, query)?, name))
     }
 
     /// `item`
     #[tactic(auto, unfolding(span_parser::specs::Queries::item))]
-    fn item<'a>(&self, tokens: &'a [Lexeme]) -> Result<(Item, &'a [Lexeme]), SyntaxError>
+    fn item(&self, tokens: &mut &[Lexeme]) -> Result<Item, SyntaxError>
         requires nests { NestsQueries F.Fn self.now }
-        ensures { ReadsQuery self.now spec.item tokens.now result }
+        ensures { ReadsQuery self.now spec.item tokens.old tokens.new result }
     {
         if goes_on(Part::NamedItem, tokens) {
             return self.named_item(tokens);
@@ -107,71 +106,63 @@ impl<
 
     /// `join`
     #[tactic(auto, unfolding(span_parser::specs::Queries::join, span_parser::specs::Queries::join_of))]
-    fn join<'a>(&self, tokens: &'a [Lexeme]) -> Result<(Join, &'a [Lexeme]), SyntaxError>
+    fn join(&self, tokens: &mut &[Lexeme]) -> Result<Join, SyntaxError>
         requires nests { NestsQueries F.Fn self.now }
-        ensures { ReadsQuery self.now spec.join tokens.now result }
+        ensures { ReadsQuery self.now spec.join tokens.old tokens.new result }
     {
-        let (is_left, rest) = join_kind(tokens)?;
-        let (item, rest) = self.item(rest)?;
-        let ((item, on), rest) = pair_with(item, self.clauses.join_on(rest))?;
-        Ok((Join { is_left, item, on }, rest))
+        let is_left = join_kind(tokens)?;
+        let item = self.item(tokens)?;
+        let (item, on) = keep_with(item, self.clauses.join_on(tokens))?;
+        Ok(Join { is_left, item, on })
     }
 
     /// `{join}`
     #[tactic(auto, using(span_parser::proofs::Falling::loop_steps))]
-    fn joins<'a>(&self, tokens: &'a [Lexeme]) -> Result<(Items<Join>, &'a [Lexeme]), SyntaxError>
+    fn joins(&self, tokens: &mut &[Lexeme]) -> Result<Items<Join>, SyntaxError>
         requires nests { NestsQueries F.Fn self.now }
-        ensures { ReadsEachQuery self.now Part.Join spec.join tokens.now result }
+        ensures { ReadsEachQuery self.now Part.Join spec.join tokens.old tokens.new result }
     {
         let mut found = Items::new(self.clauses.alloc);
-        let mut rest = tokens;
-        while goes_on(Part::Join, rest) {
-            let (next, after) = self.join(rest)?;
+        while goes_on(Part::Join, tokens) {
+            let next = self.join(tokens)?;
             found.push(next)?;
-            rest = after;
         }
-        Ok((found, rest))
+        Ok(found)
     }
 
     /// The joins of a block, and what is after them.
     #[tactic(auto, unfolding(span_parser::specs::Queries::block_joins))]
-    fn block_joins<'a>(
-        &self,
-        tokens: &'a [Lexeme],
-    ) -> Result<((Items<Join>, Conditions), &'a [Lexeme]), SyntaxError>
+    fn block_joins(&self, tokens: &mut &[Lexeme]) -> Result<(Items<Join>, Conditions), SyntaxError>
         requires nests { NestsQueries F.Fn self.now }
-        ensures { ReadsQuery self.now spec.block_joins tokens.now result }
+        ensures { ReadsQuery self.now spec.block_joins tokens.old tokens.new result }
     {
-        let (joins, rest) = self.joins(tokens)?;
-        pair_with(joins, self.clauses.block_filter(rest))
+        let joins = self.joins(tokens)?;
+        keep_with(joins, self.clauses.block_filter(tokens))
     }
 
     /// FROM, and what is after it.
     #[tactic(auto, unfolding(span_parser::specs::Queries::block_from))]
-    fn block_from<'a>(
+    fn block_from(
         &self,
-        tokens: &'a [Lexeme],
-    ) -> Result<((Item, (Items<Join>, Conditions)), &'a [Lexeme]), SyntaxError>
+        tokens: &mut &[Lexeme],
+    ) -> Result<(Item, (Items<Join>, Conditions)), SyntaxError>
         requires nests { NestsQueries F.Fn self.now }
-        ensures { ReadsQuery self.now spec.block_from tokens.now result }
+        ensures { ReadsQuery self.now spec.block_from tokens.old tokens.new result }
     {
-        let (_, rest) = take(Sort::Word(Word::From), tokens)?;
-        let (from, rest) = self.item(rest)?;
-        pair_with(from, self.block_joins(rest))
+        take(Sort::Word(Word::From), tokens)?;
+        let from = self.item(tokens)?;
+        keep_with(from, self.block_joins(tokens))
     }
 
     /// What is after SELECT.
     #[tactic(auto, unfolding(span_parser::specs::Queries::block_body, span_parser::specs::Queries::block_of))]
-    fn block_body<'a>(&self, tokens: &'a [Lexeme]) -> Result<(Block, &'a [Lexeme]), SyntaxError>
+    fn block_body(&self, tokens: &mut &[Lexeme]) -> Result<Block, SyntaxError>
         requires nests { NestsQueries F.Fn self.now }
-        ensures { ReadsQuery self.now spec.block_body tokens.now result }
+        ensures { ReadsQuery self.now spec.block_body tokens.old tokens.new result }
     {
-        let (is_distinct, rest) = quantifier(tokens)?;
-        let (outputs, rest) = self.clauses.outputs(rest)?;
-        let ((outputs, (from, (joins, conditions))), rest) = pair_with(
-            outputs,
-            self.block_from(rest),
-        )?;
+        let is_distinct = quantifier(tokens)?;
+        let outputs = self.clauses.outputs(tokens)?;
+        let (outputs, (from, (joins, conditions))) = keep_with(outputs, self.block_from(tokens))?;
         let (filter, (groups, having)) = conditions;
         let block = Block {
             is_distinct,
@@ -182,110 +173,99 @@ impl<
             groups,
             having,
         };
-        Ok((block, rest))
+        Ok(block)
     }
 
     /// `block`
     #[tactic(auto, unfolding(span_parser::specs::Queries::block))]
-    fn block<'a>(&self, tokens: &'a [Lexeme]) -> Result<(Block, &'a [Lexeme]), SyntaxError>
+    fn block(&self, tokens: &mut &[Lexeme]) -> Result<Block, SyntaxError>
         requires nests { NestsQueries F.Fn self.now }
-        ensures { ReadsQuery self.now spec.block tokens.now result }
+        ensures { ReadsQuery self.now spec.block tokens.old tokens.new result }
     {
-        let (_, rest) = take(Sort::Word(Word::Select), tokens)?;
-        self.block_body(rest)
+        take(Sort::Word(Word::Select), tokens)?;
+        self.block_body(tokens)
     }
 
     /// `UNION ALL block`
     #[tactic(auto, unfolding(span_parser::specs::Queries::union_more))]
-    fn union_more<'a>(&self, tokens: &'a [Lexeme]) -> Result<(Block, &'a [Lexeme]), SyntaxError>
+    fn union_more(&self, tokens: &mut &[Lexeme]) -> Result<Block, SyntaxError>
         requires nests { NestsQueries F.Fn self.now }
-        ensures { ReadsQuery self.now spec.union_more tokens.now result }
+        ensures { ReadsQuery self.now spec.union_more tokens.old tokens.new result }
     {
-        let (_, rest) = take(Sort::Word(Word::Union), tokens)?;
-        let (_, rest) = take(Sort::Word(Word::All), rest)?;
-        self.block(rest)
+        take(Sort::Word(Word::Union), tokens)?;
+        take(Sort::Word(Word::All), tokens)?;
+        self.block(tokens)
     }
 
     /// `{UNION ALL block}`
     #[tactic(auto, using(span_parser::proofs::Falling::loop_steps))]
-    fn union_rest<'a>(
-        &self,
-        tokens: &'a [Lexeme],
-    ) -> Result<(Items<Block>, &'a [Lexeme]), SyntaxError>
+    fn union_rest(&self, tokens: &mut &[Lexeme]) -> Result<Items<Block>, SyntaxError>
         requires nests { NestsQueries F.Fn self.now }
-        ensures { ReadsEachQuery self.now Part.UnionMore spec.union_more tokens.now result }
+        ensures { ReadsEachQuery self.now Part.UnionMore spec.union_more tokens.old tokens.new result }
     {
         let mut found = Items::new(self.clauses.alloc);
-        let mut rest = tokens;
-        while goes_on(Part::UnionMore, rest) {
-            let (next, after) = self.union_more(rest)?;
+        while goes_on(Part::UnionMore, tokens) {
+            let next = self.union_more(tokens)?;
             found.push(next)?;
-            rest = after;
         }
-        Ok((found, rest))
+        Ok(found)
     }
 
     /// The other blocks, and what is after them.
     #[tactic(auto, unfolding(span_parser::specs::Queries::unions))]
-    fn unions<'a>(
+    fn unions(
         &self,
-        tokens: &'a [Lexeme],
-    ) -> Result<
-        (
-            (Items<Block>, (Items<SortKey>, Option<Limit>)),
-            &'a [Lexeme],
-        ),
-        SyntaxError,
-    >
+        tokens: &mut &[Lexeme],
+    ) -> Result<(Items<Block>, (Items<SortKey>, Option<Limit>)), SyntaxError>
         requires nests { NestsQueries F.Fn self.now }
-        ensures { ReadsQuery self.now spec.unions tokens.now result }
+        ensures { ReadsQuery self.now spec.unions tokens.old tokens.new result }
     {
-        let (others, rest) = self.union_rest(tokens)?;
-        let order = order_and_limit(self.clauses.alloc, self.clauses.text, rest);
-        pair_with(others, order)
+        let others = self.union_rest(tokens)?;
+        let order = order_and_limit(self.clauses.alloc, self.clauses.text, tokens);
+        keep_with(others, order)
     }
 
     /// `query`
     #[tactic(auto, unfolding(span_parser::specs::Queries::query, span_parser::specs::Queries::query_of))]
-    fn query<'a>(&self, tokens: &'a [Lexeme]) -> Result<(Query, &'a [Lexeme]), SyntaxError>
+    fn query(&self, tokens: &mut &[Lexeme]) -> Result<Query, SyntaxError>
         requires nests { NestsQueries F.Fn self.now }
-        ensures { ReadsQuery self.now spec.query tokens.now result }
+        ensures { ReadsQuery self.now spec.query tokens.old tokens.new result }
     {
-        let (first, rest) = self.block(tokens)?;
-        let ((first, (others, (order, limit))), rest) = pair_with(first, self.unions(rest))?;
+        let first = self.block(tokens)?;
+        let (first, (others, (order, limit))) = keep_with(first, self.unions(tokens))?;
         let query = Query {
             first,
             others,
             order,
             limit,
         };
-        Ok((query, rest))
+        Ok(query)
     }
 }
 
 /// ORDER BY and LIMIT.
 #[tactic(auto, unfolding(span_parser::specs::Queries::order_and_limit))]
-fn order_and_limit<'a>(
+fn order_and_limit(
     alloc: Global,
     text: &[u8],
-    tokens: &'a [Lexeme],
-) -> Result<((Items<SortKey>, Option<Limit>), &'a [Lexeme]), SyntaxError>
-    ensures { Gives result ((spec.order_and_limit text.now).read tokens.now) }
+    tokens: &mut &[Lexeme],
+) -> Result<(Items<SortKey>, Option<Limit>), SyntaxError>
+    ensures { Gives (spec.order_and_limit text.now) tokens.old tokens.new result }
 {
-    let (order, rest) = maybe_order_by(alloc, text, tokens)?;
-    pair_with(order, maybe_limit(rest))
+    let order = maybe_order_by(alloc, text, tokens)?;
+    keep_with(order, maybe_limit(tokens))
 }
 
 /// A query, with `left` openings left. This function alone recurses.
 #[tactic(auto, using(crate::proofs::Sublevels::level_steps))]
-fn read_query<'a>(
+fn read_query(
     alloc: Global,
     text: &[u8],
     left: usize,
-    tokens: &'a [Lexeme],
-) -> Result<(Query, &'a [Lexeme]), SyntaxError>
+    tokens: &mut &[Lexeme],
+) -> Result<Query, SyntaxError>
     requires { left ≤ most_openings }
-    ensures { Gives result ((spec.query text.now left (spec.nested_query text.now left)).read tokens.now) }
+    ensures { Gives (spec.query text.now left (spec.nested_query text.now left)) tokens.old tokens.new result }
 {
     let clauses = Clauses { alloc, text, left };
     let reader = QueryReader {
@@ -297,16 +277,16 @@ fn read_query<'a>(
 
 /// A query, with or without a semicolon at its end.
 #[tactic(auto, unfolding(span_parser::specs::Queries::statement))]
-pub(crate) fn statement<'a>(
+pub(crate) fn statement(
     alloc: Global,
     text: &[u8],
     left: usize,
-    tokens: &'a [Lexeme],
-) -> Result<(Query, &'a [Lexeme]), SyntaxError>
+    tokens: &mut &[Lexeme],
+) -> Result<Query, SyntaxError>
     requires { left ≤ most_openings }
-    ensures { Gives result ((spec.statement text.now left).read tokens.now) }
+    ensures { Gives (spec.statement text.now left) tokens.old tokens.new result }
 {
-    let (query, rest) = read_query(alloc, text, left, tokens)?;
-    let ((query, _), rest) = pair_with(query, maybe_semicolon(rest))?;
-    Ok((query, rest))
+    let query = read_query(alloc, text, left, tokens)?;
+    let (query, _) = keep_with(query, maybe_semicolon(tokens))?;
+    Ok(query)
 }

@@ -1,8 +1,8 @@
 -- What the tables of a text say of its schema.
-use Rattle.std.proofs.Common.{◌≡◌, ◌≢◌, ◌⊎◌, inl, inr, ℕ, ◌<◌, length, take, List, Option, Some, None, Result, Ok, Err, sym, ap, subst, ◌∙◌}
+use Rattle.std.proofs.Common.{◌≡◌, ◌≢◌, ◌⊎◌, inl, inr, ℕ, ◌<◌, length, take, List, Some, Result, Ok, Err, sym, ap, subst, ◌∙◌}
 use Rattle.std.specs.Prelude.{IfOk, IfErr, MatchResult}
 use Rattle.std.proofs.lemmas.Bool.{cases_order}
-use Rattle.std.proofs.lemmas.Option.{slice_get_cases}
+use Rattle.std.proofs.lemmas.Option.{slice_get_cases, none-some, same_Some}
 use Rattle.span_value.specs.declared.refusal.Refusal.{Refusal}
 use Rattle.span_value.specs.declared.refusal.Refusal.TheVariants as refusal
 use Rattle.span_schema.specs.declared.table.Table.{Table}
@@ -15,28 +15,22 @@ use Rattle.span_schematext.specs.Declarations.{tables}
 use Rattle.span_schematext.proofs.Declaring.{tables_good}
 use Rattle.span_syntax.proofs.Parsing.{one_value, value_not_refused}
 
-none_not_some : {X : Type 0} (o : Option X) (x : X) → o ≡ None → o ≡ Some x → ⊥
-none_not_some {X = X} o x h i = let j : (let p : Option X = None in p) ≡ Some x = sym h ∙ i in absurd cc
-
-some_is : {X : Type 0} (x y : X) → (let p : Option X = Some x in p) ≡ Some y → x ≡ y
-some_is x y h = cc
-
 -- a rule is broken by a table that is there
 within : (tables : List Table) (i : ℕ) (why : Refusal) → cause_at tables i ≡ Some why → i < length tables
 within tables i why h = elim (slice_get_cases tables i).1 [
   | inl found ↦ found.1
-  | inr past ↦ absurd (none_not_some (cause_at tables i) why (ap (cause_in (take i tables) (length (path_at tables i))) past.1) h)
+  | inr past ↦ absurd (none-some why (sym (ap (cause_in (take i tables) (length (path_at tables i))) past.1) ∙ h))
 ]
 
 pub not_both : (tables : List Table) (why : Refusal) → MeetsRules tables → IsFirstCause tables why → ⊥
-not_both tables why m c = none_not_some (cause_at tables c.place) why (m.at c.place (within tables c.place why c.here)) c.here
+not_both tables why m c = none-some why (sym (m.at c.place (within tables c.place why c.here)) ∙ c.here)
 
 pub one_cause : (tables : List Table) (a b : Refusal) → IsFirstCause tables a → IsFirstCause tables b → a ≡ b
 one_cause tables a b c d = elim (cases_order c.place d.place) [
-  | inl same ↦ some_is a b (sym c.here ∙ ap (cause_at tables) same ∙ d.here)
+  | inl same ↦ same_Some a b (sym c.here ∙ ap (cause_at tables) same ∙ d.here)
   | inr apart ↦ elim apart [
-    | inl before ↦ absurd (none_not_some (cause_at tables c.place) a (d.before c.place before) c.here)
-    | inr after ↦ absurd (none_not_some (cause_at tables d.place) b (c.before d.place after) d.here)
+    | inl before ↦ absurd (none-some a (sym (d.before c.place before) ∙ c.here))
+    | inr after ↦ absurd (none-some b (sym (c.before d.place after) ∙ d.here))
   ]
 ]
 

@@ -28,7 +28,8 @@ use std::alloc::{AllocError, Global};
 fn read_all(alloc: Global, text: &[u8], tokens: &[Lexeme]) -> Result<Seq<Table>, SyntaxError>
     ensures { GivesToEnd result (read_to_end (spec.tables text.now most_openings) tokens.now) }
 {
-    let (found, rest) = tables(alloc, text, MOST_OPENINGS, tokens)?;
+    let mut rest = tokens;
+    let found = tables(alloc, text, MOST_OPENINGS, &mut rest)?;
     require_end(found, rest)
 }
 

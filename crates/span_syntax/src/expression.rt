@@ -15,9 +15,10 @@ use span_lexer::token::Word;
 use span_primary::fault::SyntaxError;
 use span_primary::reader::{Level, Reader};
 use span_primary::sign::{comparison, maybe_not, sum_sign, term_sign};
-use span_primary::token::{pair_with, take};
+use span_primary::token::take;
 use span_trees::operator::{PredicateTest, apply_test, chain_of, conjunction_of, disjunction_of};
 use span_trees::tree::{Expr, Link};
+use span_value::owned::keep_with;
 use sqlite_items::Items;
 use std::alloc::Global;
 use std::marker::Model;
@@ -37,141 +38,120 @@ impl<'t, F> Model for ExpressionReader<'t, F> {
     ghost view = { λ r. r.primary };
 }
 
-impl<
-    F: for<'a> Fn(
-        Global,
-        &[u8],
-        usize,
-        Level,
-        &'a [Lexeme],
-    ) -> Result<(Expr, &'a [Lexeme]), SyntaxError>,
-> ExpressionReader<'_, F> {
+impl<F> ExpressionReader<'_, F>
+where
+    F: Fn(Global, &[u8], usize, Level, &mut &[Lexeme]) -> Result<Expr, SyntaxError>,
+{
     /// An operator and the operand after it.
     #[tactic(auto, unfolding(span_primary::specs::Expressions::term_more))]
-    fn term_more<'a>(&self, tokens: &'a [Lexeme]) -> Result<(Link, &'a [Lexeme]), SyntaxError>
+    fn term_more(&self, tokens: &mut &[Lexeme]) -> Result<Link, SyntaxError>
         requires nests { Nests F.Fn self.now }
-        ensures { Reads self.now spec.term_more tokens.now result }
+        ensures { Reads self.now spec.term_more tokens.old tokens.new result }
     {
-        let (operator, rest) = term_sign(tokens)?;
-        let (operand, rest) = self.primary.unary(rest)?;
-        Ok((Link { operator, operand }, rest))
+        let operator = term_sign(tokens)?;
+        let operand = self.primary.unary(tokens)?;
+        Ok(Link { operator, operand })
     }
 
     /// The operators with their operands.
     #[tactic(auto, using(span_primary::proofs::Shrinking::loop_steps))]
-    fn term_rest<'a>(
-        &self,
-        tokens: &'a [Lexeme],
-    ) -> Result<(Items<Link>, &'a [Lexeme]), SyntaxError>
+    fn term_rest(&self, tokens: &mut &[Lexeme]) -> Result<Items<Link>, SyntaxError>
         requires nests { Nests F.Fn self.now }
-        ensures { ReadsEach self.now Part.TermMore spec.term_more tokens.now result }
+        ensures { ReadsEach self.now Part.TermMore spec.term_more tokens.old tokens.new result }
     {
         let mut found = Items::new(self.alloc);
-        let mut rest = tokens;
-        while goes_on(Part::TermMore, rest) {
-            let (next, after) = self.term_more(rest)?;
+        while goes_on(Part::TermMore, tokens) {
+            let next = self.term_more(tokens)?;
             found.push(next)?;
-            rest = after;
         }
-        Ok((found, rest))
+        Ok(found)
     }
 
     /// `term`
     #[tactic(auto, unfolding(span_primary::specs::Expressions::term))]
-    fn term<'a>(&self, tokens: &'a [Lexeme]) -> Result<(Expr, &'a [Lexeme]), SyntaxError>
+    fn term(&self, tokens: &mut &[Lexeme]) -> Result<Expr, SyntaxError>
         requires nests { Nests F.Fn self.now }
-        ensures { Reads self.now spec.term tokens.now result }
+        ensures { Reads self.now spec.term tokens.old tokens.new result }
     {
-        let (first, rest) = self.primary.unary(tokens)?;
-        let ((first, more), rest) = pair_with(first, self.term_rest(rest))?;
-        Ok((chain_of(self.alloc, first, more)?, rest))
+        let first = self.primary.unary(tokens)?;
+        let (first, more) = keep_with(first, self.term_rest(tokens))?;
+        Ok(chain_of(self.alloc, first, more)?)
     }
 
     /// An operator and the operand after it.
     #[tactic(auto, unfolding(span_primary::specs::Expressions::sum_more))]
-    fn sum_more<'a>(&self, tokens: &'a [Lexeme]) -> Result<(Link, &'a [Lexeme]), SyntaxError>
+    fn sum_more(&self, tokens: &mut &[Lexeme]) -> Result<Link, SyntaxError>
         requires nests { Nests F.Fn self.now }
-        ensures { Reads self.now spec.sum_more tokens.now result }
+        ensures { Reads self.now spec.sum_more tokens.old tokens.new result }
     {
-        let (operator, rest) = sum_sign(tokens)?;
-        let (operand, rest) = self.term(rest)?;
-        Ok((Link { operator, operand }, rest))
+        let operator = sum_sign(tokens)?;
+        let operand = self.term(tokens)?;
+        Ok(Link { operator, operand })
     }
 
     /// The operators with their operands.
     #[tactic(auto, using(span_primary::proofs::Shrinking::loop_steps))]
-    fn sum_rest<'a>(&self, tokens: &'a [Lexeme]) -> Result<(Items<Link>, &'a [Lexeme]), SyntaxError>
+    fn sum_rest(&self, tokens: &mut &[Lexeme]) -> Result<Items<Link>, SyntaxError>
         requires nests { Nests F.Fn self.now }
-        ensures { ReadsEach self.now Part.SumMore spec.sum_more tokens.now result }
+        ensures { ReadsEach self.now Part.SumMore spec.sum_more tokens.old tokens.new result }
     {
         let mut found = Items::new(self.alloc);
-        let mut rest = tokens;
-        while goes_on(Part::SumMore, rest) {
-            let (next, after) = self.sum_more(rest)?;
+        while goes_on(Part::SumMore, tokens) {
+            let next = self.sum_more(tokens)?;
             found.push(next)?;
-            rest = after;
         }
-        Ok((found, rest))
+        Ok(found)
     }
 
     /// `sum`
     #[tactic(auto, unfolding(span_primary::specs::Expressions::sum))]
-    fn sum<'a>(&self, tokens: &'a [Lexeme]) -> Result<(Expr, &'a [Lexeme]), SyntaxError>
+    fn sum(&self, tokens: &mut &[Lexeme]) -> Result<Expr, SyntaxError>
         requires nests { Nests F.Fn self.now }
-        ensures { Reads self.now spec.sum tokens.now result }
+        ensures { Reads self.now spec.sum tokens.old tokens.new result }
     {
-        let (first, rest) = self.term(tokens)?;
-        let ((first, more), rest) = pair_with(first, self.sum_rest(rest))?;
-        Ok((chain_of(self.alloc, first, more)?, rest))
+        let first = self.term(tokens)?;
+        let (first, more) = keep_with(first, self.sum_rest(tokens))?;
+        Ok(chain_of(self.alloc, first, more)?)
     }
 
     /// A comparison with an operand.
     #[tactic(auto, unfolding(span_primary::specs::Expressions::comparison_test))]
-    fn comparison_test<'a>(
-        &self,
-        tokens: &'a [Lexeme],
-    ) -> Result<((bool, PredicateTest), &'a [Lexeme]), SyntaxError>
+    fn comparison_test(&self, tokens: &mut &[Lexeme]) -> Result<(bool, PredicateTest), SyntaxError>
         requires nests { Nests F.Fn self.now }
-        ensures { Reads self.now spec.comparison_test tokens.now result }
+        ensures { Reads self.now spec.comparison_test tokens.old tokens.new result }
     {
-        let (how, rest) = comparison(tokens)?;
-        let (second, rest) = self.sum(rest)?;
-        Ok(((false, PredicateTest::Compared(how, second)), rest))
+        let how = comparison(tokens)?;
+        let second = self.sum(tokens)?;
+        Ok((false, PredicateTest::Compared(how, second)))
     }
 
     /// `AND sum`, after the low end of a BETWEEN.
     #[tactic(auto, unfolding(span_primary::specs::Expressions::high_end))]
-    fn high_end<'a>(&self, tokens: &'a [Lexeme]) -> Result<(Expr, &'a [Lexeme]), SyntaxError>
+    fn high_end(&self, tokens: &mut &[Lexeme]) -> Result<Expr, SyntaxError>
         requires nests { Nests F.Fn self.now }
-        ensures { Reads self.now spec.high_end tokens.now result }
+        ensures { Reads self.now spec.high_end tokens.old tokens.new result }
     {
-        let (_, rest) = take(Sort::Word(Word::And), tokens)?;
-        self.sum(rest)
+        take(Sort::Word(Word::And), tokens)?;
+        self.sum(tokens)
     }
 
     /// `BETWEEN sum AND sum`
     #[tactic(auto, unfolding(span_primary::specs::Expressions::between))]
-    fn between<'a>(
-        &self,
-        tokens: &'a [Lexeme],
-    ) -> Result<(PredicateTest, &'a [Lexeme]), SyntaxError>
+    fn between(&self, tokens: &mut &[Lexeme]) -> Result<PredicateTest, SyntaxError>
         requires nests { Nests F.Fn self.now }
-        ensures { Reads self.now spec.between tokens.now result }
+        ensures { Reads self.now spec.between tokens.old tokens.new result }
     {
-        let (_, rest) = take(Sort::Word(Word::Between), tokens)?;
-        let (low, rest) = self.sum(rest)?;
-        let ((low, high), rest) = pair_with(low, self.high_end(rest))?;
-        Ok((PredicateTest::Between(low, high), rest))
+        take(Sort::Word(Word::Between), tokens)?;
+        let low = self.sum(tokens)?;
+        let (low, high) = keep_with(low, self.high_end(tokens))?;
+        Ok(PredicateTest::Between(low, high))
     }
 
     /// LIKE, BETWEEN or IN.
     #[tactic(auto, unfolding(span_primary::specs::Expressions::negatable_test))]
-    fn negatable_test<'a>(
-        &self,
-        tokens: &'a [Lexeme],
-    ) -> Result<(PredicateTest, &'a [Lexeme]), SyntaxError>
+    fn negatable_test(&self, tokens: &mut &[Lexeme]) -> Result<PredicateTest, SyntaxError>
         requires nests { Nests F.Fn self.now }
-        ensures { Reads self.now spec.negatable_test tokens.now result }
+        ensures { Reads self.now spec.negatable_test tokens.old tokens.new result }
     {
         if goes_on(Part::Like, tokens) {
             return self.primary.like(tokens);
@@ -184,26 +164,20 @@ impl<
 
     /// LIKE, BETWEEN or IN, with NOT or without.
     #[tactic(auto, unfolding(span_primary::specs::Expressions::maybe_not_test))]
-    fn maybe_not_test<'a>(
-        &self,
-        tokens: &'a [Lexeme],
-    ) -> Result<((bool, PredicateTest), &'a [Lexeme]), SyntaxError>
+    fn maybe_not_test(&self, tokens: &mut &[Lexeme]) -> Result<(bool, PredicateTest), SyntaxError>
         requires nests { Nests F.Fn self.now }
-        ensures { Reads self.now spec.maybe_not_test tokens.now result }
+        ensures { Reads self.now spec.maybe_not_test tokens.old tokens.new result }
     {
-        let (is_not, rest) = maybe_not(tokens)?;
-        let (question, rest) = self.negatable_test(rest)?;
-        Ok(((is_not, question), rest))
+        let is_not = maybe_not(tokens)?;
+        let question = self.negatable_test(tokens)?;
+        Ok((is_not, question))
     }
 
     /// What is asked of an operand, and whether with NOT.
     #[tactic(auto, unfolding(span_primary::specs::Expressions::predicate_rest))]
-    fn predicate_rest<'a>(
-        &self,
-        tokens: &'a [Lexeme],
-    ) -> Result<((bool, PredicateTest), &'a [Lexeme]), SyntaxError>
+    fn predicate_rest(&self, tokens: &mut &[Lexeme]) -> Result<(bool, PredicateTest), SyntaxError>
         requires nests { Nests F.Fn self.now }
-        ensures { Reads self.now spec.predicate_rest tokens.now result }
+        ensures { Reads self.now spec.predicate_rest tokens.old tokens.new result }
     {
         if goes_on(Part::Compared, tokens) {
             return self.comparison_test(tokens);
@@ -214,28 +188,25 @@ impl<
         if goes_on(Part::MaybeNotTest, tokens) {
             return self.maybe_not_test(tokens);
         }
-        Ok(((false, PredicateTest::Nothing), tokens))
+        Ok((false, PredicateTest::Nothing))
     }
 
     /// `pred`
     #[tactic(auto, unfolding(span_primary::specs::Expressions::predicate))]
-    fn predicate<'a>(&self, tokens: &'a [Lexeme]) -> Result<(Expr, &'a [Lexeme]), SyntaxError>
+    fn predicate(&self, tokens: &mut &[Lexeme]) -> Result<Expr, SyntaxError>
         requires nests { Nests F.Fn self.now }
-        ensures { Reads self.now spec.predicate tokens.now result }
+        ensures { Reads self.now spec.predicate tokens.old tokens.new result }
     {
-        let (first, rest) = self.sum(tokens)?;
-        let ((first, question), rest) = pair_with(first, self.predicate_rest(rest))?;
-        Ok((apply_test(self.alloc, first, question)?, rest))
+        let first = self.sum(tokens)?;
+        let (first, question) = keep_with(first, self.predicate_rest(tokens))?;
+        Ok(apply_test(self.alloc, first, question)?)
     }
 
     /// `neg`
     #[tactic(auto, unfolding(span_primary::specs::Expressions::negated_predicate))]
-    fn negated_predicate<'a>(
-        &self,
-        tokens: &'a [Lexeme],
-    ) -> Result<(Expr, &'a [Lexeme]), SyntaxError>
+    fn negated_predicate(&self, tokens: &mut &[Lexeme]) -> Result<Expr, SyntaxError>
         requires nests { Nests F.Fn self.now }
-        ensures { Reads self.now spec.negated_predicate tokens.now result }
+        ensures { Reads self.now spec.negated_predicate tokens.old tokens.new result }
     {
         if goes_on(Part::Negation, tokens) {
             return self.primary.negation(tokens);
@@ -245,99 +216,86 @@ impl<
 
     /// AND and the operand after it.
     #[tactic(auto, unfolding(span_primary::specs::Expressions::conjunction_more))]
-    fn conjunction_more<'a>(
-        &self,
-        tokens: &'a [Lexeme],
-    ) -> Result<(Expr, &'a [Lexeme]), SyntaxError>
+    fn conjunction_more(&self, tokens: &mut &[Lexeme]) -> Result<Expr, SyntaxError>
         requires nests { Nests F.Fn self.now }
-        ensures { Reads self.now spec.conjunction_more tokens.now result }
+        ensures { Reads self.now spec.conjunction_more tokens.old tokens.new result }
     {
-        let (_, rest) = take(Sort::Word(Word::And), tokens)?;
-        self.negated_predicate(rest)
+        take(Sort::Word(Word::And), tokens)?;
+        self.negated_predicate(tokens)
     }
 
     /// The other operands of AND.
     #[tactic(auto, using(span_primary::proofs::Shrinking::loop_steps))]
-    fn conjunction_rest<'a>(
-        &self,
-        tokens: &'a [Lexeme],
-    ) -> Result<(Items<Expr>, &'a [Lexeme]), SyntaxError>
+    fn conjunction_rest(&self, tokens: &mut &[Lexeme]) -> Result<Items<Expr>, SyntaxError>
         requires nests { Nests F.Fn self.now }
-        ensures { ReadsEach self.now Part.ConjunctionMore spec.conjunction_more tokens.now result }
+        ensures { ReadsEach self.now Part.ConjunctionMore spec.conjunction_more tokens.old tokens.new result }
     {
         let mut found = Items::new(self.alloc);
-        let mut rest = tokens;
-        while goes_on(Part::ConjunctionMore, rest) {
-            let (next, after) = self.conjunction_more(rest)?;
+        while goes_on(Part::ConjunctionMore, tokens) {
+            let next = self.conjunction_more(tokens)?;
             found.push(next)?;
-            rest = after;
         }
-        Ok((found, rest))
+        Ok(found)
     }
 
     /// `conj`
     #[tactic(auto, unfolding(span_primary::specs::Expressions::conjunction))]
-    fn conjunction<'a>(&self, tokens: &'a [Lexeme]) -> Result<(Expr, &'a [Lexeme]), SyntaxError>
+    fn conjunction(&self, tokens: &mut &[Lexeme]) -> Result<Expr, SyntaxError>
         requires nests { Nests F.Fn self.now }
-        ensures { Reads self.now spec.conjunction tokens.now result }
+        ensures { Reads self.now spec.conjunction tokens.old tokens.new result }
     {
-        let (first, rest) = self.negated_predicate(tokens)?;
-        let ((first, more), rest) = pair_with(first, self.conjunction_rest(rest))?;
-        Ok((conjunction_of(self.alloc, first, more)?, rest))
+        let first = self.negated_predicate(tokens)?;
+        let (first, more) = keep_with(first, self.conjunction_rest(tokens))?;
+        Ok(conjunction_of(self.alloc, first, more)?)
     }
 
     /// OR and the operand after it.
     #[tactic(auto, unfolding(span_primary::specs::Expressions::expression_more))]
-    fn expression_more<'a>(&self, tokens: &'a [Lexeme]) -> Result<(Expr, &'a [Lexeme]), SyntaxError>
+    fn expression_more(&self, tokens: &mut &[Lexeme]) -> Result<Expr, SyntaxError>
         requires nests { Nests F.Fn self.now }
-        ensures { Reads self.now spec.expression_more tokens.now result }
+        ensures { Reads self.now spec.expression_more tokens.old tokens.new result }
     {
-        let (_, rest) = take(Sort::Word(Word::Or), tokens)?;
-        self.conjunction(rest)
+        take(Sort::Word(Word::Or), tokens)?;
+        self.conjunction(tokens)
     }
 
     /// The other operands of OR.
     #[tactic(auto, using(span_primary::proofs::Shrinking::loop_steps))]
-    fn expression_rest<'a>(
-        &self,
-        tokens: &'a [Lexeme],
-    ) -> Result<(Items<Expr>, &'a [Lexeme]), SyntaxError>
+    fn expression_rest(&self, tokens: &mut &[Lexeme]) -> Result<Items<Expr>, SyntaxError>
         requires nests { Nests F.Fn self.now }
-        ensures { ReadsEach self.now Part.ExpressionMore spec.expression_more tokens.now result }
+        ensures { ReadsEach self.now Part.ExpressionMore spec.expression_more tokens.old tokens.new result }
     {
         let mut found = Items::new(self.alloc);
-        let mut rest = tokens;
-        while goes_on(Part::ExpressionMore, rest) {
-            let (next, after) = self.expression_more(rest)?;
+        while goes_on(Part::ExpressionMore, tokens) {
+            let next = self.expression_more(tokens)?;
             found.push(next)?;
-            rest = after;
         }
-        Ok((found, rest))
+        Ok(found)
     }
 
     /// `expr`
     #[tactic(auto, unfolding(span_primary::specs::Expressions::expression))]
-    fn expression<'a>(&self, tokens: &'a [Lexeme]) -> Result<(Expr, &'a [Lexeme]), SyntaxError>
+    fn expression(&self, tokens: &mut &[Lexeme]) -> Result<Expr, SyntaxError>
         requires nests { Nests F.Fn self.now }
-        ensures { Reads self.now spec.expression tokens.now result }
+        ensures { Reads self.now spec.expression tokens.old tokens.new result }
     {
-        let (first, rest) = self.conjunction(tokens)?;
-        let ((first, more), rest) = pair_with(first, self.expression_rest(rest))?;
-        Ok((disjunction_of(self.alloc, first, more)?, rest))
+        let first = self.conjunction(tokens)?;
+        let (first, more) = keep_with(first, self.expression_rest(tokens))?;
+        Ok(disjunction_of(self.alloc, first, more)?)
     }
 }
 
 /// An expression, or what else a level asks for, with `left` openings left. This function alone recurses.
 #[tactic(auto, using(span_primary::proofs::Levels::level_steps))]
-fn read<'a>(
+fn read(
     alloc: Global,
     text: &[u8],
     left: usize,
     level: Level,
-    tokens: &'a [Lexeme],
-) -> Result<(Expr, &'a [Lexeme]), SyntaxError>
+    tokens: &mut &[Lexeme],
+) -> Result<Expr, SyntaxError>
     requires { left ≤ most_openings }
-    ensures { Gives result ((at level text.now left).read tokens.now) }
+    ensures { Gives (at level text.now left) tokens.old tokens.new result }
 {
     let reader = ExpressionReader {
         alloc,
@@ -350,17 +308,17 @@ fn read<'a>(
     }
 }
 
-/// An expression, with `left` openings left, and the rest.
+/// An expression, with `left` openings left. The cursor moves past it.
 ///
 /// The error is the first token with which no expression goes on, an opening where none is left, or out of memory.
-pub fn read_expression<'a>(
+pub fn read_expression(
     alloc: Global,
     text: &[u8],
     left: usize,
-    tokens: &'a [Lexeme],
-) -> Result<(Expr, &'a [Lexeme]), SyntaxError>
+    tokens: &mut &[Lexeme],
+) -> Result<Expr, SyntaxError>
     requires { left ≤ most_openings }
-    ensures { Gives result ((spec.expression text.now left (spec.after text.now left)).read tokens.now) }
+    ensures { Gives (spec.expression text.now left (spec.after text.now left)) tokens.old tokens.new result }
 {
     read(alloc, text, left, Level::Expression, tokens)
 }

@@ -6,7 +6,7 @@ use Rattle.span_schematext.specs.Declarations.{key_column_more}
 use Rattle.span_schematext.proofs.declaration.key_column_rest.Given as goal
 
 abbrev pub invariant-loop-alloc : goal.invariant-loop-alloc
-invariant-loop-alloc l = each_read (key_column_more l.text).read part.KeyColumnMore l.found l.rest ≡ each_read (key_column_more l.fn.text).read part.KeyColumnMore [] l.fn.tokens
+invariant-loop-alloc l = each_read (key_column_more l.text).read part.KeyColumnMore l.found l.tokens.now ≡ each_read (key_column_more l.fn.text).read part.KeyColumnMore [] l.fn.tokens.now
 
 abbrev pub decreases-loop-alloc : goal.decreases-loop-alloc
-decreases-loop-alloc l = length l.rest
+decreases-loop-alloc l = length l.tokens.now

@@ -4,8 +4,8 @@ use Rattle.span_primary.specs.Pieces.{each_read}
 use Rattle.span_parser.specs.Queries.{output_more}
 use Rattle.span_parser.proofs.clause.Clauses.output_rest.Given as goal
 
-abbrev pub invariant-loop-rest : goal.invariant-loop-rest
-invariant-loop-rest l = each_read (output_more l.self.text l.self.left).read part.OutputMore l.found l.rest ≡ each_read (output_more l.fn.self.text l.fn.self.left).read part.OutputMore [] l.fn.tokens
+abbrev pub invariant-loop-tokens : goal.invariant-loop-tokens
+invariant-loop-tokens l = each_read (output_more l.self.text l.self.left).read part.OutputMore l.found l.tokens.now ≡ each_read (output_more l.fn.self.text l.fn.self.left).read part.OutputMore [] l.fn.tokens.now
 
-abbrev pub decreases-loop-rest : goal.decreases-loop-rest
-decreases-loop-rest l = length l.rest
+abbrev pub decreases-loop-tokens : goal.decreases-loop-tokens
+decreases-loop-tokens l = length l.tokens.now

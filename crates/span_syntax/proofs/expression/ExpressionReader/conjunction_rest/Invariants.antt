@@ -4,8 +4,8 @@ use Rattle.span_primary.specs.Pieces.{each_read}
 use Rattle.span_primary.specs.Expressions.{after, conjunction_more}
 use Rattle.span_syntax.proofs.expression.ExpressionReader.conjunction_rest.Given as goal
 
-abbrev pub invariant-loop-rest : goal.invariant-loop-rest
-invariant-loop-rest g l = each_read (conjunction_more l.self.text l.self.left (after l.self.text l.self.left)).read part.ConjunctionMore l.found l.rest ≡ each_read (conjunction_more l.fn.self.text l.fn.self.left (after l.fn.self.text l.fn.self.left)).read part.ConjunctionMore [] l.fn.tokens
+abbrev pub invariant-loop-tokens : goal.invariant-loop-tokens
+invariant-loop-tokens g l = each_read (conjunction_more l.self.text l.self.left (after l.self.text l.self.left)).read part.ConjunctionMore l.found l.tokens.now ≡ each_read (conjunction_more l.fn.self.text l.fn.self.left (after l.fn.self.text l.fn.self.left)).read part.ConjunctionMore [] l.fn.tokens.now
 
-abbrev pub decreases-loop-rest : goal.decreases-loop-rest
-decreases-loop-rest g l = length l.rest
+abbrev pub decreases-loop-tokens : goal.decreases-loop-tokens
+decreases-loop-tokens g l = length l.tokens.now

@@ -1,5 +1,5 @@
 use Rattle.span_primary.proofs.Shrinking.{term_more_shrinks}
 use Rattle.span_syntax.proofs.expression.ExpressionReader.term_rest.Goals as goal
 
-pub loop-rest-smaller : goal.loop-rest-smaller
-loop-rest-smaller g c = (term_more_shrinks c.args.self.now.text c.args.self.now.left c.requires.nests.limited).falls c.loop-rest.rest.now c.in_ok-next.after.now c.in_ok-next.next c.in_ok-next.ensures
+pub loop-tokens-smaller : goal.loop-tokens-smaller
+loop-tokens-smaller g c = (term_more_shrinks c.args.self.now.text c.args.self.now.left c.requires.nests.limited).falls c.loop-tokens.tokens.now c.term_more.new.tokens.now c.in_ok-next.next c.in_ok-next.ensures
