@@ -6,18 +6,18 @@ use Rattle.span_query.specs.declared.query.SortKey.{SortKey}
 use Rattle.span_query.specs.Rows.{Row, Rows}
 use Rattle.span_query.specs.Sorting.{sorted}
 use Rattle.span_rows.specs.Columns.{distinct_at}
-use Rattle.span_algebra.specs.declared.source.Source.{Source}
-use Rattle.span_algebra.specs.declared.source.Source.TheVariants.{Lent, Made}
+use Rattle.span_algebra.specs.declared.source.SourceRows.{SourceRows}
+use Rattle.span_algebra.specs.declared.source.SourceRows.TheVariants.{Lent, Made}
 use Rattle.span_algebra.specs.declared.source.TableSource.{TableSource}
 use Rattle.span_algebra.specs.declared.source.TableSource.TheVariants as table
 use Rattle.span_groups.specs.Parts.{all_rows}
 
-abbrev pub source_rows : Source → List Row
+abbrev pub source_rows : SourceRows → List Row
 source_rows (Lent rows) = rows.now
 source_rows (Made rows) = rows
 
 -- These are the rows that are meant, or it is the fault; nothing is stated where memory ran out.
-abbrev pub GivesRows : Result Source Failure → Rows → Type 0
+abbrev pub GivesRows : Result SourceRows Failure → Rows → Type 0
 GivesRows (Ok source) o = o ≡ Some (source_rows source)
 GivesRows (Err Fault) o = o ≡ None
 GivesRows (Err OutOfMemory) o = Unit {0}

@@ -22,19 +22,19 @@ use std::marker::Model;
 
 /// Rows, lent or made.
 #[derive(Drop)]
-pub(crate) enum Source<'a> {
+pub(crate) enum SourceRows<'a> {
     Lent(&'a RowList),
     Made(RowList),
 }
 
-impl Source<'_> {
+impl SourceRows<'_> {
     /// The rows.
     pub(crate) fn rows(&self) -> &RowList
         ensures { result.now ≡ source_rows self.now }
     {
         match self {
-            Source::Lent(rows) => *rows,
-            Source::Made(rows) => rows,
+            SourceRows::Lent(rows) => *rows,
+            SourceRows::Made(rows) => rows,
         }
     }
 }
@@ -91,11 +91,11 @@ impl<'a> Tables<'a> {
     }
 
     /// The rows of the table with this number; the first has number 1. `Fault` where the table is one, or out of memory.
-    pub(crate) fn rows(&self, alloc: Global, number: usize) -> Result<Source<'_>, Failure>
+    pub(crate) fn rows(&self, alloc: Global, number: usize) -> Result<SourceRows<'_>, Failure>
         ensures { GivesRows result (spec.given self.now number) }
     {
         match numbered_source(self.sources.as_slice(), number) {
-            None => Ok(Source::Made(RowList::new(alloc))),
+            None => Ok(SourceRows::Made(RowList::new(alloc))),
             Some(TableSource::Fault) => Err(Failure::Fault),
             Some(TableSource::Parts(parts)) => Ok(source_of(alloc, parts.as_slice())?),
         }
@@ -232,11 +232,11 @@ fn lend_firsts_of<'a>(
 }
 
 /// The rows of parts, one after another. Those of the only part are lent.
-fn source_of<'a>(alloc: Global, parts: &[&'a PartRows]) -> Result<Source<'a>, AllocError>
+fn source_of<'a>(alloc: Global, parts: &[&'a PartRows]) -> Result<SourceRows<'a>, AllocError>
     ensures { IfOk result (λ source. source_rows source ≡ all_rows parts.now) }
 {
     match parts {
-        [part] => Ok(Source::Lent(part.rows())),
-        _ => Ok(Source::Made(join_parts(alloc, parts)?)),
+        [part] => Ok(SourceRows::Lent(part.rows())),
+        _ => Ok(SourceRows::Made(join_parts(alloc, parts)?)),
     }
 }

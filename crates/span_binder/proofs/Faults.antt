@@ -33,7 +33,7 @@ use Rattle.span_params.specs.Parameters.{parameter_named}
 use Rattle.span_typing.specs.declared.scope.Scope.{Scope}
 use Rattle.span_operators.specs.declared.typed.Typed.{Typed}
 use Rattle.span_operators.specs.declared.typed.TypedArm.{TypedArm}
-use Rattle.span_operators.specs.declared.typed.Chain.{Chain}
+use Rattle.span_operators.specs.declared.typed.TypedLinks.{TypedLinks}
 use Rattle.span_operators.specs.declared.typed.Mode.{Mode}
 use Rattle.span_operators.specs.declared.typed.Mode.TheVariants.{Rows, Groups}
 use Rattle.span_operators.specs.declared.function.CalledFunction.{CalledFunction}
@@ -273,7 +273,7 @@ condition_of_faults : (k : Option Kind) (x : Typed) → Faults (condition_of k x
 unfolding condition_of
 condition_of_faults k x = if_faults (are_conditions k x.kind) (Ok x.expr) (Err refusal.TypeMismatch) (tt {0}) mismatch
 
-append_link_faults : (c : Chain) (op : Operator) (x : Typed) → Faults (append_link c op x)
+append_link_faults : (c : TypedLinks) (op : Operator) (x : Typed) → Faults (append_link c op x)
 unfolding append_link
 append_link_faults c op x = then_faults (link_kind op c.kind x.kind) _ (link_kind_faults op c.kind x.kind) (λ k. tt {0})
 
@@ -331,7 +331,7 @@ membership_faults a os a_is all m =
 abbrev LinkFaults : Operator × Operand → Type 0
 LinkFaults l = OperandFaults l.1
 
-next_link_faults : (m : Mode) (c : Chain) (l : Operator × Operand) → LinkFaults l → StepFaults (next_link m c l)
+next_link_faults : (m : Mode) (c : TypedLinks) (l : Operator × Operand) → LinkFaults l → StepFaults (next_link m c l)
 next_link_faults m c l is = then_step (l.1 m) (λ x. from_result (append_link c l.0 x)) (is m) (λ x. result_step (append_link c l.0 x) (append_link_faults c l.0 x))
 
 links_faults : (k : Option Kind) (ls : List (Operator × Operand)) (m : Mode) → AllByRecursion LinkFaults ls → StepFaults (links k ls m)

@@ -81,7 +81,7 @@ fn only_table(leaf: &Leaf) -> Option<usize>
 
 /// The rows of a leaf on the rows that a snapshot lends, of the columns alone that its mask has, or the fault. `OutOfMemory`, where
 /// these are rows of the schema's tables.
-fn rows_given(
+fn give_rows(
     alloc: Global,
     schema: &Schema,
     leaf: &Leaf,
@@ -115,7 +115,7 @@ pub fn run_leaf(
         (IsPieceOf schema.now leaf.now snapshot.entry)
         (λ why. (why ≡ Refusal.OutOfMemory) ⊎ AreNoRows schema.now snapshot.entry) }
 {
-    let found = rows_given(alloc, schema, leaf, snapshot)?;
+    let found = give_rows(alloc, schema, leaf, snapshot)?;
     Ok(piece_of(alloc, leaf_use, found)?)
 }
 

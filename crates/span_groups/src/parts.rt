@@ -28,7 +28,7 @@ fn lend_all<'a>(alloc: Global, parts: &[&'a PartRows]) -> Result<Vec<&'a [Value]
 }
 
 /// The rows of the groups of parts, where these were made with the rows of each.
-fn groups_made(
+fn ready_groups(
     alloc: Global,
     grouping: &Grouping,
     parts: &[&PartRows],
@@ -57,7 +57,7 @@ pub fn groups_of(
 ) -> Result<RowList, Failure>
     ensures { Gives result (groups grouping.now (all_rows parts.now)) }
 {
-    if let Some(found) = groups_made(alloc, grouping, parts)? {
+    if let Some(found) = ready_groups(alloc, grouping, parts)? {
         return Ok(found);
     }
     let rows = lend_all(alloc, parts)?;

@@ -180,7 +180,7 @@ fn count_before(rows: &[(Key, MadeRow)], key: &Key) -> usize
 }
 
 // The row of a list at a key, by a search.
-fn row_found<'a>(rows: &'a [(Key, MadeRow)], key: &Key) -> Option<&'a MadeRow>
+fn search_row<'a>(rows: &'a [(Key, MadeRow)], key: &Key) -> Option<&'a MadeRow>
     requires { AreInKeyOrder rows.now }
     ensures { option_copied result ≡ made_at rows.now key.now }
 {
@@ -202,7 +202,7 @@ fn row_in<'a>(rows: &'a [(Key, MadeRow)], key: &Key) -> Option<&'a MadeRow>
 {
     match rows.last() {
         Some((last, row)) if key.cmp(last).is_eq() => Some(row),
-        _ => row_found(rows, key),
+        _ => search_row(rows, key),
     }
 }
 

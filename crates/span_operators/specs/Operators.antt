@@ -26,7 +26,7 @@ use Rattle.span_query.specs.declared.query.Function.TheVariants as function
 use Rattle.span_lexer.specs.LiteralValues.{text_of}
 use Rattle.span_operators.specs.declared.typed.Typed.{Typed}
 use Rattle.span_operators.specs.declared.typed.TypedArm.{TypedArm}
-use Rattle.span_operators.specs.declared.typed.Chain.{Chain}
+use Rattle.span_operators.specs.declared.typed.TypedLinks.{TypedLinks}
 use Rattle.span_operators.specs.declared.function.CalledFunction.{CalledFunction}
 use Rattle.span_operators.specs.declared.function.CalledFunction.TheVariants as called
 use Rattle.span_operators.specs.Kinds.{takes, common_kind, common_kind_of_all, or_int, text_kind}
@@ -109,7 +109,7 @@ link_kind Concat j k = and_then (common_kind j k) text_kind
 link_kind op j k = if takes kind.Int j && takes kind.Int k then Ok kind.Int else Err TypeMismatch
 
 -- a chain, one operator on
-unfoldable pub append_link : Chain → Operator → Typed → Result Chain Refusal
+unfoldable pub append_link : TypedLinks → Operator → Typed → Result TypedLinks Refusal
 append_link c op x =
     and_then (link_kind op c.kind x.kind)
     (λ k. Ok (record {
@@ -117,7 +117,7 @@ append_link c op x =
       links = c.links ++ (record { operator = operator_of op; operand = x.expr } ∷ []);
     }))
 
-unfoldable pub chain_of : Typed → Chain → Typed
+unfoldable pub chain_of : Typed → TypedLinks → Typed
 chain_of x c = record { expr = expr.Chain x.expr c.links; kind = c.kind }
 
 -- ---- choices

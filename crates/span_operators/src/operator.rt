@@ -7,7 +7,7 @@ ghost use Rattle.span_operators.specs.Operators.{append_link, chain_of};
 
 use super::kind::{common_kind, takes, text_kind};
 use super::step::{box_three, box_two, keep_if, pair_with};
-use super::typed::{Chain, Typed};
+use super::typed::{Typed, TypedLinks};
 use span_expr::expr::{Comparison, Expr, Link, Operator};
 use span_lexer::literal_value::text_of;
 use span_pattern::pattern::parts_of;
@@ -179,7 +179,11 @@ fn link_kind(
 
 /// A chain with one more operator.
 #[tactic(auto, unfolding(crate::specs::Operators::append_link))]
-pub fn append_link(chain: Chain, operator: tree::Operator, operand: Typed) -> Result<Chain, Refusal>
+pub fn append_link(
+    chain: TypedLinks,
+    operator: tree::Operator,
+    operand: Typed,
+) -> Result<TypedLinks, Refusal>
     ensures { Gives result (append_link chain operator operand) }
 {
     let kind = link_kind(operator, chain.kind, operand.kind);
@@ -189,7 +193,7 @@ pub fn append_link(chain: Chain, operator: tree::Operator, operand: Typed) -> Re
         operator: operator_of(operator),
         operand,
     })?;
-    Ok(Chain {
+    Ok(TypedLinks {
         kind: Some(kind),
         links,
     })
@@ -197,10 +201,10 @@ pub fn append_link(chain: Chain, operator: tree::Operator, operand: Typed) -> Re
 
 /// A chain after its first operand.
 #[tactic(auto, unfolding(crate::specs::Operators::chain_of))]
-pub fn chain_of(alloc: Global, first: Typed, chain: Chain) -> TypingResult
+pub fn chain_of(alloc: Global, first: Typed, chain: TypedLinks) -> TypingResult
     ensures { Gives result (Ok (chain_of first chain)) }
 {
-    let Chain { kind, links } = chain;
+    let TypedLinks { kind, links } = chain;
     Ok(Typed {
         expr: Expr::Chain(Boxed::new(alloc, first.expr)?, links),
         kind,

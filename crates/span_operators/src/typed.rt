@@ -19,7 +19,7 @@ pub struct TypedArm {
 
 /// The part of a chain after its first operand, and the type of the whole.
 #[derive(Debug, Drop)]
-pub struct Chain {
+pub struct TypedLinks {
     pub kind: Option<Kind>,
     pub links: Items<Link<Expr>>,
 }

@@ -2,7 +2,7 @@
 use super::answer::SchemaReports;
 use span_core::Refusal;
 use span_report::grammar::{schema_place, script_place};
-use span_report::place::Place;
+use span_report::place::InputPlace;
 use span_report::report::Report;
 use span_script::{QueryText, Refused, Reports};
 
@@ -32,7 +32,7 @@ impl<R: AllocGlobal + Eprint> Reports for Explanations<'_, R> {
             Some(QueryText { before, text }) => {
                 script_place(self.rt.alloc(), line, before, text, why)
             }
-            None => Place::WholeLine(line),
+            None => InputPlace::WholeLine(line),
         };
         let report = Report {
             program: PROGRAM,
@@ -51,7 +51,7 @@ impl<R: AllocGlobal + Eprint> SchemaReports for Explanations<'_, R> {
         }
         let place = match str::from_utf8(schema) {
             Ok(text) => schema_place(self.rt.alloc(), text, why),
-            Err(error) => Place::in_lines(schema, error.valid_up_to()),
+            Err(error) => InputPlace::in_lines(schema, error.valid_up_to()),
         };
         let report = Report {
             program: PROGRAM,

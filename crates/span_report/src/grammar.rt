@@ -2,9 +2,9 @@
 ghost use Rattle.std.specs.Prelude.{◌≡◌, ◌⊎◌};
 ghost use Rattle.span_grammar.specs.Judged.{IsRefused};
 ghost use Rattle.span_report.specs.Places.{in_line};
-ghost use Rattle.span_report.specs.declared.place.Place.{Place};
+ghost use Rattle.span_report.specs.declared.place.InputPlace.{InputPlace};
 
-use super::place::Place;
+use super::place::InputPlace;
 use span_grammar::judge::Goal;
 use span_querytext::parse::parse_select;
 use span_schematext::text::parse_tables;
@@ -20,35 +20,42 @@ fn has_place(why: Refusal) -> bool {
 }
 
 /// The byte at which a query is refused so. It is known only where the grammar does refuse the query so.
-pub fn query_place(alloc: Global, query: &str, why: Refusal) -> Place
-    ensures { (result ≡ Place.Unknown) ⊎ IsRefused Goal.Statement query.now why }
+pub fn query_place(alloc: Global, query: &str, why: Refusal) -> InputPlace
+    ensures { (result ≡ InputPlace.Unknown) ⊎ IsRefused Goal.Statement query.now why }
 {
     if !has_place(why) {
-        return Place::Unknown;
+        return InputPlace::Unknown;
     }
     match parse_select(alloc, query).err() {
-        Some(error) if error.refusal == why => Place::in_text(query, error.place),
-        _ => Place::Unknown,
+        Some(error) if error.refusal == why => InputPlace::in_text(query, error.place),
+        _ => InputPlace::Unknown,
     }
 }
 
 /// The line of a script in which a query is refused so, and the byte of this line, where the query is in the line after `before` bytes.
 /// The byte is known only where the grammar does refuse the query so.
-pub fn script_place(alloc: Global, line: usize, before: usize, query: &str, why: Refusal) -> Place
-    ensures { (at : Place) × (result ≡ in_line line before at) × ((at ≡ Place.Unknown) ⊎ IsRefused Goal.Statement query.now why) }
+pub fn script_place(
+    alloc: Global,
+    line: usize,
+    before: usize,
+    query: &str,
+    why: Refusal,
+) -> InputPlace
+    ensures { (at : InputPlace) × (result ≡ in_line line before at)
+        × ((at ≡ InputPlace.Unknown) ⊎ IsRefused Goal.Statement query.now why) }
 {
     query_place(alloc, query, why).in_line(line, before)
 }
 
 /// The line and byte at which a schema text is refused so. They are known only where the grammar does refuse the text so.
-pub fn schema_place(alloc: Global, text: &str, why: Refusal) -> Place
-    ensures { (result ≡ Place.Unknown) ⊎ IsRefused Goal.Schema text.now why }
+pub fn schema_place(alloc: Global, text: &str, why: Refusal) -> InputPlace
+    ensures { (result ≡ InputPlace.Unknown) ⊎ IsRefused Goal.Schema text.now why }
 {
     if !has_place(why) {
-        return Place::Unknown;
+        return InputPlace::Unknown;
     }
     match parse_tables(alloc, text).err() {
-        Some(error) if error.refusal == why => Place::in_lines(text.as_bytes(), error.place),
-        _ => Place::Unknown,
+        Some(error) if error.refusal == why => InputPlace::in_lines(text.as_bytes(), error.place),
+        _ => InputPlace::Unknown,
     }
 }

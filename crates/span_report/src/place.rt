@@ -7,7 +7,7 @@ use std::fmt;
 
 /// Where in an input the cause of a refusal is. Lines and bytes are counted from 1.
 #[derive(Clone, Copy, Debug, PartialEq, Eq)]
-pub enum Place {
+pub enum InputPlace {
     /// Not at one place, or the place is not known.
     Unknown,
     /// A byte of a text.
@@ -18,29 +18,29 @@ pub enum Place {
     Line(usize, usize),
 }
 
-impl Place {
+impl InputPlace {
     /// The place with this many bytes of the text before it.
-    pub fn in_text(text: &str, offset: usize) -> Place
-        ensures { result ≡ Place.Byte (min offset (length text.now) + 1) }
+    pub fn in_text(text: &str, offset: usize) -> InputPlace
+        ensures { result ≡ InputPlace.Byte (min offset (length text.now) + 1) }
     {
-        Place::Byte(offset.min(text.len()) + 1)
+        InputPlace::Byte(offset.min(text.len()) + 1)
     }
 
     /// The place with this many bytes of the file before it.
-    pub fn in_lines(file: &[u8], offset: usize) -> Place
+    pub fn in_lines(file: &[u8], offset: usize) -> InputPlace
         ensures { result ≡ place_after (take (min offset (length file.now)) file.now) }
     {
         let before = &file[..offset.min(file.len())];
-        Place::Line(line_after(before), byte_after(before))
+        InputPlace::Line(line_after(before), byte_after(before))
     }
 
     /// The place in a file of a place in a text, where the text is in this line of the file after `before` bytes.
-    pub fn in_line(self, line: usize, before: usize) -> Place
+    pub fn in_line(self, line: usize, before: usize) -> InputPlace
         ensures { result ≡ in_line line before self }
     {
         match self {
-            Place::Byte(byte) => Place::Line(line, before.saturating_add(byte)),
-            _ => Place::WholeLine(line),
+            InputPlace::Byte(byte) => InputPlace::Line(line, before.saturating_add(byte)),
+            _ => InputPlace::WholeLine(line),
         }
     }
 }
@@ -69,17 +69,17 @@ fn since_line_end(before: &[u8]) -> Option<usize>
     before.iter().rev().position(|byte| *byte == b'\n')
 }
 
-impl fmt::Display for Place {
+impl fmt::Display for InputPlace {
     ghost use Rattle.std.specs.Prelude.{Some};
 
     ghost output = { λ place. Some (place_text place) };
 
     fn fmt<W: fmt::Write>(&self, f: &mut fmt::Formatter<W>) -> fmt::Result {
         match *self {
-            Place::Unknown => Ok(()),
-            Place::Byte(byte) => write!(f, ", byte {byte}"),
-            Place::WholeLine(line) => write!(f, ", line {line}"),
-            Place::Line(line, byte) => write!(f, ", line {line}, byte {byte}"),
+            InputPlace::Unknown => Ok(()),
+            InputPlace::Byte(byte) => write!(f, ", byte {byte}"),
+            InputPlace::WholeLine(line) => write!(f, ", line {line}"),
+            InputPlace::Line(line, byte) => write!(f, ", line {line}, byte {byte}"),
         }
     }
 }

@@ -1,7 +1,7 @@
 //! Reports of refusals, as lines.
 ghost use Rattle.span_report.specs.Lines.{report_text};
 
-use super::place::Place;
+use super::place::InputPlace;
 use span_value::refusal::Refusal;
 use std::fmt;
 
@@ -11,7 +11,7 @@ pub struct Report<'a> {
     pub program: &'a str,
     /// What was refused: `query`, or the name of a file.
     pub input: &'a str,
-    pub place: Place,
+    pub place: InputPlace,
     pub refusal: Refusal,
 }
 

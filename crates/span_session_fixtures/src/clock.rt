@@ -92,7 +92,7 @@ impl Meeting {
     }
 
     /// How many scans have met another one.
-    pub fn met(&self) -> u64 {
+    pub fn meetings(&self) -> u64 {
         self.met.load(Ordering::SeqCst)
     }
 }

@@ -28,7 +28,7 @@ use Rattle.span_params.specs.Parameters.{with_parameter}
 use Rattle.span_typing.specs.declared.scope.Scope.{Scope}
 use Rattle.span_operators.specs.declared.typed.Typed.{Typed}
 use Rattle.span_operators.specs.declared.typed.TypedArm.{TypedArm}
-use Rattle.span_operators.specs.declared.typed.Chain.{Chain}
+use Rattle.span_operators.specs.declared.typed.TypedLinks.{TypedLinks}
 use Rattle.span_operators.specs.declared.typed.Mode.{Mode}
 use Rattle.span_operators.specs.declared.typed.Mode.TheVariants.{Rows, Groups}
 use Rattle.span_operators.specs.declared.function.CalledFunction.{CalledFunction}
@@ -154,10 +154,10 @@ module _ (scope : Scope) where
   abbrev SoundLink : Operator × Operand → Type 0
   SoundLink l = Sound l.1
 
-  abbrev ChainAt : Mode → Typed → List Kind → Chain → Type 0
+  abbrev ChainAt : Mode → Typed → List Kind → TypedLinks → Type 0
   ChainAt m x kinds c = IsChain (row_types scope m kinds) x c
 
-  next_link_sound : (m : Mode) (x : Typed) (c : Chain) (l : Operator × Operand) (kinds : List Kind) → SoundLink l → Always (ChainAt m x) kinds c → Keeps From (ChainAt m x) kinds (next_link m c l)
+  next_link_sound : (m : Mode) (x : Typed) (c : TypedLinks) (l : Operator × Operand) (kinds : List Kind) → SoundLink l → Always (ChainAt m x) kinds c → Keeps From (ChainAt m x) kinds (next_link m c l)
   next_link_sound m x c l kinds l_is c_is = then_keeps From (At m) (ChainAt m x) kinds (l.1 m) (λ y. from_result (append_link c l.0 y)) (l_is m kinds)
       (λ more y y_is. given_keeps From (ChainAt m x) (kinds ++ more) (append_link c l.0 y)
       (λ later. linked_right (row_types scope m ((kinds ++ more) ++ later)) x c l.0 y (later_on (ChainAt m x) kinds more c c_is later) (y_is later)))

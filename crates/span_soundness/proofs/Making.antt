@@ -22,7 +22,7 @@ use Rattle.span_query.specs.declared.query.Function.TheVariants as function
 use Rattle.span_lexer.specs.LiteralValues.{text_of}
 use Rattle.span_operators.specs.declared.typed.Typed.{Typed}
 use Rattle.span_operators.specs.declared.typed.TypedArm.{TypedArm}
-use Rattle.span_operators.specs.declared.typed.Chain.{Chain}
+use Rattle.span_operators.specs.declared.typed.TypedLinks.{TypedLinks}
 use Rattle.span_operators.specs.declared.function.CalledFunction.{CalledFunction}
 use Rattle.span_operators.specs.declared.function.CalledFunction.TheVariants as called
 use Rattle.span_operators.specs.Kinds.{takes, common_kind, common_kind_of_all, or_int, text_kind}
@@ -129,13 +129,13 @@ module _ (types : List Kind) where
       and_from (is_link_of k (link_type types l)) (list_all (is_link_of k) (map (link_type types) (links ++ link ∷ []))) parts.0 (one_more k links link parts.1 is)
 
   -- a chain so far, after its first operand
-  abbrev pub IsChain : Typed → Chain → Type 0
+  abbrev pub IsChain : Typed → TypedLinks → Type 0
   IsChain x c = (wanted : Kind) → takes wanted c.kind ≡ true → is_of types (expr.Chain x.expr c.links) wanted ≡ true
 
-  abbrev chain_on : Chain → TreeOperator → Typed → Kind → Chain
+  abbrev chain_on : TypedLinks → TreeOperator → Typed → Kind → TypedLinks
   chain_on c op y k = record { kind = Some k; links = c.links ++ (record { operator = operator_of op; operand = y.expr } ∷ []) }
 
-  chain_longer : (x : Typed) (c : Chain) (op : TreeOperator) (y : Typed) (k : Kind) → IsChain x c → IsTyped types y → Linked op c.kind y.kind k → is_of types (expr.Chain x.expr (c.links ++ (record { operator = operator_of op; operand = y.expr } ∷ []))) k ≡ true
+  chain_longer : (x : Typed) (c : TypedLinks) (op : TreeOperator) (y : Typed) (k : Kind) → IsChain x c → IsTyped types y → Linked op c.kind y.kind k → is_of types (expr.Chain x.expr (c.links ++ (record { operator = operator_of op; operand = y.expr } ∷ []))) k ≡ true
   chain_longer x c op y k c_is y_is linked_is =
       let link : Link Expr = record { operator = operator_of op; operand = y.expr } in
       let parts : (is_of types x.expr k ≡ true) × (list_all (is_link_of k) (map (link_type types) c.links) ≡ true) = and_parts (is_of types x.expr k) (list_all (is_link_of k) (map (link_type types) c.links)) (sym (chain_is types x.expr c.links k) ∙ c_is k linked_is.1) in
@@ -143,7 +143,7 @@ module _ (types : List Kind) where
       ∙ and_from (is_of types x.expr k) (list_all (is_link_of k) (map (link_type types) (c.links ++ (link ∷ [])))) parts.0
       (one_more k c.links link parts.1 (and_from (is_operand (operator_of op) k) (is_of types y.expr k) linked_is.0 (y_is k linked_is.2)))
 
-  pub linked_right : (x : Typed) (c : Chain) (op : TreeOperator) (y : Typed) → IsChain x c → IsTyped types y → Made (IsChain x) (append_link c op y)
+  pub linked_right : (x : Typed) (c : TypedLinks) (op : TreeOperator) (y : Typed) → IsChain x c → IsTyped types y → Made (IsChain x) (append_link c op y)
   unfolding append_link
   linked_right x c op y c_is y_is = then_made (Linked op c.kind y.kind) (IsChain x) (link_kind op c.kind y.kind) (λ k. Ok (chain_on c op y k)) (linked_kind_right op c.kind y.kind)
       (λ k linked_is. λ wanted t. subst (λ (z : Kind). is_of types (expr.Chain x.expr (c.links ++ (record { operator = operator_of op; operand = y.expr } ∷ []))) z ≡ true) (same_kind k wanted t) (chain_longer x c op y k c_is y_is linked_is))
@@ -151,7 +151,7 @@ module _ (types : List Kind) where
   pub first_of_chain : (x : Typed) → IsTyped types x → IsChain x (record { kind = x.kind; links = [] })
   first_of_chain x x_is = λ wanted t. chain_is types x.expr [] wanted ∙ and_from (is_of types x.expr wanted) true (x_is wanted t) refl
 
-  pub chained_right : (x : Typed) (c : Chain) → IsChain x c → IsTyped types (chain_of x c)
+  pub chained_right : (x : Typed) (c : TypedLinks) → IsChain x c → IsTyped types (chain_of x c)
   unfolding chain_of
   chained_right x c c_is = c_is
 

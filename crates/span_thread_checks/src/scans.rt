@@ -69,7 +69,7 @@ fn check_scans<J: Naming + Send + Sync, R: Threads + Wait + Sync>(
     expect_eq(cut, Ok(1), "the slot that a cut at 100 makes")?;
     expect_eq(low, Ok(true), "the user of slot 0 is found")?;
     expect_eq(high, Ok(true), "the user of slot 1 is found")?;
-    expect_eq(gate.met(), 2, "how many scans have met another one")
+    expect_eq(gate.meetings(), 2, "how many scans have met another one")
 }
 
 // Each session reads a slot of its own, on a thread of its own.

@@ -75,7 +75,7 @@ fn check_queries<J: Naming + Send + Sync, R: Threads + Wait + Sync>(
     let gate = Meeting::new();
     let met = ask_by(rt, alloc, db, &clock, &gate, me, Bound::Strong, 2);
     expect_uids(met, &[1, 200], "the users by two workers")?;
-    expect_eq(gate.met(), 2, "how many scans have met another one")?;
+    expect_eq(gate.meetings(), 2, "how many scans have met another one")?;
     let before = clock.readings();
     let one = ask_by(rt, alloc, db, &clock, &OpenGate, me, Bound::Strong, 1);
     expect_uids(one, &[1, 200], "the users by one worker")?;

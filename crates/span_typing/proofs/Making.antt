@@ -8,7 +8,7 @@ use Rattle.span_query.specs.declared.query.Aggregate.{Aggregate}
 use Rattle.span_query.specs.declared.query.Function.{Function}
 use Rattle.span_operators.specs.declared.typed.Typed.{Typed}
 use Rattle.span_operators.specs.declared.typed.TypedArm.{TypedArm}
-use Rattle.span_operators.specs.declared.typed.Chain.{Chain}
+use Rattle.span_operators.specs.declared.typed.TypedLinks.{TypedLinks}
 use Rattle.span_operators.specs.declared.typed.Mode.{Mode}
 use Rattle.span_operators.specs.declared.typed.Mode.TheVariants.{Rows}
 use Rattle.span_typing.specs.declared.scope.Scope.{Scope}
@@ -36,7 +36,7 @@ pub member_made : (a : Operand) (os : List Operand) (m : Mode) (g0 g1 g2 : List 
 unfolding membership
 member_made a os m g0 g1 g2 l n r h k e = made_of_two (a m) (λ x. each os m) in_list g0 g1 g2 l n r h (λ x q. k) e
 
-pub chain_made : (a : Operand) (ls : List (Operator × Operand)) (m : Mode) (g0 g1 g2 : List Aggregate) (l : Result Typed Refusal) (x : Typed) (n : Result Chain Refusal) (r : Result Typed Refusal) → Leaves l g1 (a m g0) → l ≡ Ok x → Leaves n g2 (links x.kind ls m g1) → Gives r (and_then l (λ x. and_then n (λ c. Ok (chain_of x c)))) → Leaves r g2 (chain a ls m g0)
+pub chain_made : (a : Operand) (ls : List (Operator × Operand)) (m : Mode) (g0 g1 g2 : List Aggregate) (l : Result Typed Refusal) (x : Typed) (n : Result TypedLinks Refusal) (r : Result Typed Refusal) → Leaves l g1 (a m g0) → l ≡ Ok x → Leaves n g2 (links x.kind ls m g1) → Gives r (and_then l (λ x. and_then n (λ c. Ok (chain_of x c)))) → Leaves r g2 (chain a ls m g0)
 unfolding chain
 chain_made a ls m g0 g1 g2 l x n r h is k e = made_of_two (a m) (λ x. links x.kind ls m) (λ x c. Ok (chain_of x c)) g0 g1 g2 l n r h (λ y q. subst (λ (z : Typed). Leaves n g2 (links z.kind ls m g1)) (ok_same l x y is q) k) e
 

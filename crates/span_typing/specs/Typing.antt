@@ -23,7 +23,7 @@ use Rattle.span_params.specs.declared.params.Parameter.{Parameter}
 use Rattle.span_params.specs.Parameters.{parameter_named}
 use Rattle.span_operators.specs.declared.typed.Typed.{Typed}
 use Rattle.span_operators.specs.declared.typed.TypedArm.{TypedArm}
-use Rattle.span_operators.specs.declared.typed.Chain.{Chain}
+use Rattle.span_operators.specs.declared.typed.TypedLinks.{TypedLinks}
 use Rattle.span_operators.specs.declared.typed.Mode.{Mode}
 use Rattle.span_operators.specs.declared.typed.Mode.TheVariants.{Rows, Groups}
 use Rattle.span_typing.specs.declared.scope.Scope.{Scope}
@@ -107,11 +107,11 @@ all_true x es = of_kind (expr.And x.expr es) kind.Bool
 unfoldable pub some_true : Typed → List TypedExpr → Typed
 some_true x es = of_kind (expr.Or x.expr es) kind.Bool
 
-abbrev pub next_link : Mode → Chain → Operator × Operand → Finds Chain
+abbrev pub next_link : Mode → TypedLinks → Operator × Operand → Finds TypedLinks
 next_link m c l = l.1 m >>= (λ x. from_result (append_link c l.0 x))
 
 -- after an operand of this type; each operator is checked as it comes
-abbrev pub links : Option Kind → List (Operator × Operand) → Mode → Finds Chain
+abbrev pub links : Option Kind → List (Operator × Operand) → Mode → Finds TypedLinks
 links k ls m = fold_steps (next_link m) (record { kind = k; links = [] }) ls
 
 abbrev pub arm_typed : Typed → Typed → TypedArm

@@ -22,7 +22,7 @@ use span_operators::operator::{
     null_test, unary_minus,
 };
 use span_operators::step::{pair_with, push_result};
-use span_operators::typed::{Chain, Mode, Typed, TypedArm};
+use span_operators::typed::{Mode, Typed, TypedArm, TypedLinks};
 use span_params::params::Params;
 use span_query::query::Aggregate;
 use span_trees::tree;
@@ -291,14 +291,14 @@ impl Names<'_> {
         kind: Option<Kind>,
         links: &[tree::Link],
         found: &mut Seq<Aggregate>,
-    ) -> Result<Chain, Refusal>
+    ) -> Result<TypedLinks, Refusal>
         ensures { Leaves result found.new
             (spec.links kind
             (map (spec.link_typing self.entry.scope.now self.entry.params.now) links.now)
             mode
             found.old) }
     {
-        let mut chain = Chain {
+        let mut chain = TypedLinks {
             kind,
             links: Items::new(self.alloc),
         };

@@ -8,7 +8,7 @@ use Rattle.span_value.specs.declared.refusal.Refusal.TheVariants as refusal
 use Rattle.span_value.specs.Results.{and_then}
 use Rattle.span_operators.specs.declared.typed.Typed.{Typed}
 use Rattle.span_operators.specs.declared.typed.TypedArm.{TypedArm}
-use Rattle.span_operators.specs.declared.typed.Chain.{Chain}
+use Rattle.span_operators.specs.declared.typed.TypedLinks.{TypedLinks}
 use Rattle.span_operators.specs.Steps.{TypingStep, Leaves, append_step, from_result, ◌>>=◌}
 use Rattle.span_operators.specs.Operators.{unary_minus, logical_not, null_test, like_test, comparison_test, between, in_list, append_link, chain_of, case_of, match_of, apply_function}
 use Rattle.span_typing.specs.Typing.{Operand, typing, arm_typing, link_typing, condition, condition_of, next_link, arm, arm_typed, check_kind, compared_arm, all_true, some_true, aggregate}
@@ -71,11 +71,11 @@ chain-returns-in_err-first t c =
 
 pub chain-returns-in_err-first-2 : goal.chain-returns-in_err-first-2
 chain-returns-in_err-first-2 t c =
-    let whole = chain_made (typing c.args.self.scope.now c.args.self.params.now c.args.first.now) (map (link_typing c.args.self.scope.now c.args.self.params.now) c.args.links.now) c.args.mode c.args.found.now c.bind.new.found c.links.new.found c.bind.result c.in_ok-first.first c.links.result (Err c.in_err-first-2.field-0.0) c.bind.ensures c.in_ok-first.was c.links.ensures (refused_two (λ (x : Typed) (k : Chain). Ok (chain_of x k)) c.bind.result c.in_ok-first.first c.links.result c.pair_with.result c.in_err-first-2.field-0.0 c.in_ok-first.was c.pair_with.ensures c.in_err-first-2.was) in
+    let whole = chain_made (typing c.args.self.scope.now c.args.self.params.now c.args.first.now) (map (link_typing c.args.self.scope.now c.args.self.params.now) c.args.links.now) c.args.mode c.args.found.now c.bind.new.found c.links.new.found c.bind.result c.in_ok-first.first c.links.result (Err c.in_err-first-2.field-0.0) c.bind.ensures c.in_ok-first.was c.links.ensures (refused_two (λ (x : Typed) (k : TypedLinks). Ok (chain_of x k)) c.bind.result c.in_ok-first.first c.links.result c.pair_with.result c.in_err-first-2.field-0.0 c.in_ok-first.was c.pair_with.ensures c.in_err-first-2.was) in
     search (rules, whole)
 
 pub chain-returns : goal.chain-returns
-chain-returns t c = chain_made (typing c.args.self.scope.now c.args.self.params.now c.args.first.now) (map (link_typing c.args.self.scope.now c.args.self.params.now) c.args.links.now) c.args.mode c.args.found.now c.bind.new.found c.links.new.found c.bind.result c.in_ok-first.first c.links.result c.chain_of.result c.bind.ensures c.in_ok-first.was c.links.ensures (given_two (λ (x : Typed) (k : Chain). Ok (chain_of x k)) c.bind.result c.in_ok-first.first c.links.result c.pair_with.result c.in_ok-first-2.first c.in_ok-first-2.chain c.chain_of.result c.in_ok-first.was c.pair_with.ensures c.in_ok-first-2.was c.chain_of.ensures)
+chain-returns t c = chain_made (typing c.args.self.scope.now c.args.self.params.now c.args.first.now) (map (link_typing c.args.self.scope.now c.args.self.params.now) c.args.links.now) c.args.mode c.args.found.now c.bind.new.found c.links.new.found c.bind.result c.in_ok-first.first c.links.result c.chain_of.result c.bind.ensures c.in_ok-first.was c.links.ensures (given_two (λ (x : Typed) (k : TypedLinks). Ok (chain_of x k)) c.bind.result c.in_ok-first.first c.links.result c.pair_with.result c.in_ok-first-2.first c.in_ok-first-2.chain c.chain_of.result c.in_ok-first.was c.pair_with.ensures c.in_ok-first-2.was c.chain_of.ensures)
 
 pub conjunction-returns-in_err-first : goal.conjunction-returns-in_err-first
 conjunction-returns-in_err-first t c =
@@ -351,20 +351,20 @@ links-bind-operand-requires t c =
 
 pub links-loop-link-preserved : goal.links-loop-link-preserved
 links-loop-link-preserved t c =
-    let step : Chain → Operator × Operand → TypingStep (List Aggregate) Chain = next_link c.args.mode in
-    let turn = made_of ((typing c.args.self.scope.now c.args.self.params.now c.link-item.result.operand) c.args.mode) (append_link c.loop-link.chain c.link-item.result.operator) c.loop-link.found c.bind-operand.new.found c.bind-operand.result c.append_link.result c.bind-operand.ensures (given_with (λ (k : Chain) (x : Typed). append_link k c.link-item.result.operator x) c.loop-link.chain c.bind-operand.result c.pair_with.result c.in_ok-so_far.so_far c.in_ok-so_far.operand c.append_link.result c.pair_with.ensures c.in_ok-so_far.was c.append_link.ensures) in
+    let step : TypedLinks → Operator × Operand → TypingStep (List Aggregate) TypedLinks = next_link c.args.mode in
+    let turn = made_of ((typing c.args.self.scope.now c.args.self.params.now c.link-item.result.operand) c.args.mode) (append_link c.loop-link.chain c.link-item.result.operator) c.loop-link.found c.bind-operand.new.found c.bind-operand.result c.append_link.result c.bind-operand.ensures (given_with (λ (k : TypedLinks) (x : Typed). append_link k c.link-item.result.operator x) c.loop-link.chain c.bind-operand.result c.pair_with.result c.in_ok-so_far.so_far c.in_ok-so_far.operand c.append_link.result c.pair_with.ensures c.in_ok-so_far.was c.append_link.ensures) in
     taken step (link_typing c.args.self.scope.now c.args.self.params.now) c.args.links.now c.loop-link.link-index c.link-item.result c.loop-link.chain c.in_ok-chain.chain c.loop-link.found c.bind-operand.new.found _ c.append_link.result c.loop-link-test.true c.link-item.is c.loop-link.invariant turn c.in_ok-chain.was
 
 pub links-returns-in_err-chain : goal.links-returns-in_err-chain
 links-returns-in_err-chain t c =
-    let step : Chain → Operator × Operand → TypingStep (List Aggregate) Chain = next_link c.args.mode in
-    let turn = made_of ((typing c.args.self.scope.now c.args.self.params.now c.link-item.result.operand) c.args.mode) (append_link c.loop-link.chain c.link-item.result.operator) c.loop-link.found c.bind-operand.new.found c.bind-operand.result c.append_link.result c.bind-operand.ensures (given_with (λ (k : Chain) (x : Typed). append_link k c.link-item.result.operator x) c.loop-link.chain c.bind-operand.result c.pair_with.result c.in_ok-so_far.so_far c.in_ok-so_far.operand c.append_link.result c.pair_with.ensures c.in_ok-so_far.was c.append_link.ensures) in
+    let step : TypedLinks → Operator × Operand → TypingStep (List Aggregate) TypedLinks = next_link c.args.mode in
+    let turn = made_of ((typing c.args.self.scope.now c.args.self.params.now c.link-item.result.operand) c.args.mode) (append_link c.loop-link.chain c.link-item.result.operator) c.loop-link.found c.bind-operand.new.found c.bind-operand.result c.append_link.result c.bind-operand.ensures (given_with (λ (k : TypedLinks) (x : Typed). append_link k c.link-item.result.operator x) c.loop-link.chain c.bind-operand.result c.pair_with.result c.in_ok-so_far.so_far c.in_ok-so_far.operand c.append_link.result c.pair_with.ensures c.in_ok-so_far.was c.append_link.ensures) in
     let whole = refused step (link_typing c.args.self.scope.now c.args.self.params.now) c.args.links.now c.loop-link.link-index c.link-item.result c.loop-link.chain c.in_err-chain.field-0.0 c.loop-link.found c.bind-operand.new.found c.bind-operand.new.found _ c.append_link.result c.loop-link-test.true c.link-item.is c.loop-link.invariant turn c.in_err-chain.was in
     search (rules, whole)
 
 pub links-returns-in_err-so_far : goal.links-returns-in_err-so_far
 links-returns-in_err-so_far t c =
-    let step : Chain → Operator × Operand → TypingStep (List Aggregate) Chain = next_link c.args.mode in
+    let step : TypedLinks → Operator × Operand → TypingStep (List Aggregate) TypedLinks = next_link c.args.mode in
     let turn = made_of ((typing c.args.self.scope.now c.args.self.params.now c.link-item.result.operand) c.args.mode) (append_link c.loop-link.chain c.link-item.result.operator) c.loop-link.found c.bind-operand.new.found c.bind-operand.result (Err c.in_err-so_far.field-0.0) c.bind-operand.ensures (refused_with (append_link c.loop-link.chain c.link-item.result.operator) c.loop-link.chain c.bind-operand.result c.pair_with.result c.in_err-so_far.field-0.0 c.pair_with.ensures c.in_err-so_far.was) in
     let whole = refused step (link_typing c.args.self.scope.now c.args.self.params.now) c.args.links.now c.loop-link.link-index c.link-item.result c.loop-link.chain c.in_err-so_far.field-0.0 c.loop-link.found c.bind-operand.new.found c.bind-operand.new.found _ (Err c.in_err-so_far.field-0.0) c.loop-link-test.true c.link-item.is c.loop-link.invariant turn refl in
     search (rules, whole)

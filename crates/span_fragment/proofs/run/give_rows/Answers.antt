@@ -8,7 +8,7 @@ use Rattle.span_rowreader.specs.Entries.{AreNoRows}
 use Rattle.span_tablescan.specs.Given.{IsGivenOn}
 use Rattle.span_rowreader.specs.Longest.{HaveShortKeys}
 use Rattle.span_tablescan.proofs.ShortKeys.{found_on_all, refused_on_all}
-use Rattle.span_fragment.proofs.run.rows_given.Goals as goal
+use Rattle.span_fragment.proofs.run.give_rows.Goals as goal
 
 pub returns-clause-ok : goal.returns-clause-ok
 returns-clause-ok c =

@@ -3,7 +3,7 @@ use Rattle.std.specs.Ordering.{is_eq}
 use Rattle.std.proofs.lemmas.Bool.{ltb-true, ltb-false}
 use Rattle.std.proofs.lemmas.Option.{slice_get_read, slice_get_within}
 use Rattle.span_maderows.proofs.MadeRows.{place_some, place_none, other_key}
-use Rattle.span_maderows.proofs.ordered.row_found.Goals as goal
+use Rattle.span_maderows.proofs.ordered.search_row.Goals as goal
 
 pub returns-in_default : goal.returns-in_default
 returns-in_default c =
