@@ -28,7 +28,7 @@ def used_imports(imports, body):
     words = set(re.findall(r"\[\]|(?<![\w'-]\.)[\w'-]+|[^\w\s(){};,.\[\]]+", code) + re.split(r"[\s(){};,]+", code))
 
     def is_used(name):
-        return all(piece in words for piece in name.split(" as ")[-1].split("◌") if piece)
+        return all(phrase in words for phrase in name.split(" as ")[-1].split("◌") if phrase)
 
     found = []
     for line in lines_of(imports):

@@ -2,7 +2,7 @@
 
 The rules are read from docs/SQL.md. They are rewritten a little, so that one token decides each choice (`rewrite`), and then each
 expression in them becomes a part. NAMES below says how each part is called: an expression that has no name there, or a name whose
-expression docs/SQL.md does not have, is an error. tools/grammar_tables.py and tools/grammar_pieces.py write files from what is found.
+expression docs/SQL.md does not have, is an error. tools/grammar_tables.py and tools/grammar_phrases.py write files from what is found.
 """
 import os
 import re

@@ -1,5 +1,5 @@
 //! The clauses of queries, read from tokens: a function for each rule.
-ghost use Rattle.span_primary.specs.Pieces.{Gives, each};
+ghost use Rattle.span_primary.specs.Phrases.{Gives, each};
 ghost use Rattle.span_parser.specs.Queries as spec;
 ghost use Rattle.span_parser.specs.QueryTexts.{Reads, ReadsEach};
 

@@ -1,4 +1,4 @@
--- A piece is read as the grammar's theory reads its part, and built.
+-- A phrase is read as the grammar's theory reads its part, and built.
 use Rattle.std.proofs.Common.{◌≡◌, ℕ, zero, suc, Bool, true, false, List, [], ◌∷◌, ◌++◌, length, refl, sym, ap, subst, ◌∙◌, Ok, Err, append_assoc}
 use Rattle.std.proofs.Math.Dec.{eqb-suc-zero}
 use Rattle.std.proofs.lemmas.List.{append-nil}
@@ -14,16 +14,16 @@ use Rattle.span_grammar.specs.declared.grammar.Shape.TheVariants as shape
 use Rattle.span_grammar.specs.Rules.{is_of, Rule, Then, Or, Many, Open, Tree, Leaf, Pair, Left, Right, End, More, Nest, Answer, Read, Wrong, Deep, bind, starts, read_many, one, parse}
 use Rattle.span_grammar.specs.Shapes.{shape_of, part_inside}
 use Rattle.span_grammar.specs.Grammar.{inside, rule_of, nothing_rule}
-use Rattle.span_primary.specs.Pieces.{token_of, first_of, second_of, nested_of, either_of, each_of, ReadResult, and_then, token_read, enter_read, read_times, each_read, Piece, token, nothing, ◌<$>◌, ◌>>=◌, either, each, pair_with, opening, to_read_result}
+use Rattle.span_primary.specs.Phrases.{token_of, first_of, second_of, nested_of, either_of, each_of, ReadResult, and_then, token_read, enter_read, read_times, each_read, Phrase, token, nothing, ◌<$>◌, ◌>>=◌, either, each, pair_with, opening, to_read_result}
 use Rattle.span_grammar.proofs.Shaped.{IsShaped, shaped, inside_is}
 
-pub record Good {A : Type 0} (n : ℕ) (r : Rule) (x : Piece A) : Type 0 where
+pub record Good {A : Type 0} (n : ℕ) (r : Rule) (x : Phrase A) : Type 0 where
   pub is : (ts : List Lexeme) → x.read ts ≡ to_read_result x.of (parse inside n r ts)
 
 rule_is : (p : Part) (s : Shape) → s ≡ shape_of p → IsShaped (rule_of p) s
 rule_is p s h = subst (IsShaped (rule_of p)) (sym h) (shaped p)
 
-by_rule : {A : Type 0} (n : ℕ) (p : Part) (r : Rule) (x : Piece A) → rule_of p ≡ r → Good n r x → Good n (rule_of p) x
+by_rule : {A : Type 0} (n : ℕ) (p : Part) (r : Rule) (x : Phrase A) → rule_of p ≡ r → Good n r x → Good n (rule_of p) x
 by_rule n p r x h g = subst (λ (v : Rule). Good n v x) (sym h) g
 
 -- ---- tokens and nothing
@@ -50,15 +50,15 @@ map_at f of (Read x k) = refl
 map_at f of (Wrong k) = refl
 map_at f of (Deep k) = refl
 
-pub map_good : {A B : Type 0} {n : ℕ} {r : Rule} (f : A → B) (x : Piece A) → Good n r x → Good n r (f <$> x)
+pub map_good : {A B : Type 0} {n : ℕ} {r : Rule} (f : A → B) (x : Phrase A) → Good n r x → Good n r (f <$> x)
 map_good {B = B} {n = n} {r = r} f x g = record { is = λ ts. ap (λ (o : ReadResult _). and_then o (λ v k. let w : ReadResult B = Ok (f v, k) in w)) (g.is ts) ∙ map_at f x.of (parse inside n r ts) }
 
-pub beside_good : {A B : Type 0} {n : ℕ} {r : Rule} (v : A) (x : Piece B) → Good n r x → Good n r (pair_with v x)
+pub beside_good : {A B : Type 0} {n : ℕ} {r : Rule} (v : A) (x : Phrase B) → Good n r x → Good n r (pair_with v x)
 beside_good v x g = map_good (λ w. (v, w)) x g
 
 -- ---- one after the other
 
-module _ {A B : Type 0} (n : ℕ) (a b : Rule) (x : Piece A) (f : A → Piece B) (gx : Good n a x) (gf : (v : A) → Good n b (f v)) where
+module _ {A B : Type 0} (n : ℕ) (a b : Rule) (x : Phrase A) (f : A → Phrase B) (gx : Good n a x) (gf : (v : A) → Good n b (f v)) where
   second_at : (t : Tree) (s : Answer) → to_read_result (f (x.of t)).of s ≡ to_read_result (x >>= f).of (bind s (λ y k2. Read (Pair t y) k2))
   unfolding to_read_result first_of second_of
   second_at t (Read y k) = refl
@@ -74,7 +74,7 @@ module _ {A B : Type 0} (n : ℕ) (a b : Rule) (x : Piece A) (f : A → Piece B)
   then_is : Good n (Then a b) (x >>= f)
   then_is = record { is = λ ts. ap (λ (o : ReadResult A). and_then o (λ v k. (f v).read k)) (gx.is ts) ∙ first_at (parse inside n a ts) }
 
-pub then_good : {A B : Type 0} (n : ℕ) (p a b : Part) → shape.Then a b ≡ shape_of p → (x : Piece A) (f : A → Piece B) → Good n (rule_of a) x → ((v : A) → Good n (rule_of b) (f v)) → Good n (rule_of p) (x >>= f)
+pub then_good : {A B : Type 0} (n : ℕ) (p a b : Part) → shape.Then a b ≡ shape_of p → (x : Phrase A) (f : A → Phrase B) → Good n (rule_of a) x → ((v : A) → Good n (rule_of b) (f v)) → Good n (rule_of p) (x >>= f)
 then_good n p a b h x f gx gf = by_rule n p (Then (rule_of a) (rule_of b)) (x >>= f) (rule_is p (shape.Then a b) h) (then_is n (rule_of a) (rule_of b) x f gx gf)
 
 -- ---- one or the other
@@ -95,7 +95,7 @@ or_at : {A : Type 0} (f : Tree → A) (b : Bool) (o p : ReadResult A) (s t : Ans
 or_at f true o p s t h i = h
 or_at f false o p s t h i = i
 
-pub or_good : {A : Type 0} (n : ℕ) (p a b : Part) → shape.Or a b ≡ shape_of p → (x y : Piece A) → Good n (rule_of a) x → Good n (rule_of b) y → Good n (rule_of p) (either a x y)
+pub or_good : {A : Type 0} (n : ℕ) (p a b : Part) → shape.Or a b ≡ shape_of p → (x y : Phrase A) → Good n (rule_of a) x → Good n (rule_of b) y → Good n (rule_of p) (either a x y)
 or_good n p a b h x y gx gy = by_rule n p (Or (rule_of a) (rule_of b)) (either a x y) (rule_is p (shape.Or a b) h) (record {
   is = λ ts. or_at (either_of x.of y.of) (starts (rule_of a) ts) (x.read ts) (y.read ts) (bind (parse inside n (rule_of a) ts) (λ t k. Read (Left t) k)) (bind (parse inside n (rule_of b) ts) (λ t k. Read (Right t) k))
       (gx.is ts ∙ left_at x.of y.of (parse inside n (rule_of a) ts)) (gy.is ts ∙ right_at x.of y.of (parse inside n (rule_of b) ts));
@@ -107,7 +107,7 @@ abbrev onto : {A : Type 0} → List A → ReadResult (List A) → ReadResult (Li
 onto found (Ok p) = Ok (found ++ p.0, p.1)
 onto found (Err e) = Err e
 
-module _ {A : Type 0} (n : ℕ) (a : Part) (x : Piece A) (gx : Good n (rule_of a) x) where
+module _ {A : Type 0} (n : ℕ) (a : Part) (x : Phrase A) (gx : Good n (rule_of a) x) where
   abbrev manies : ℕ → List Lexeme → Answer
   manies m ts = read_many (λ us. parse inside n (rule_of a) us) (rule_of a) m ts
 
@@ -149,7 +149,7 @@ module _ {A : Type 0} (n : ℕ) (a : Part) (x : Piece A) (gx : Good n (rule_of a
   unfolding each_read
   each_is = record { is = λ ts. turns_is (length ts) [] ts ∙ onto_nil (to_read_result (each_of x.of) (manies (length ts) ts)) }
 
-pub many_good : {A : Type 0} (n : ℕ) (p a : Part) → shape.Many a ≡ shape_of p → (x : Piece A) → Good n (rule_of a) x → Good n (rule_of p) (each a x)
+pub many_good : {A : Type 0} (n : ℕ) (p a : Part) → shape.Many a ≡ shape_of p → (x : Phrase A) → Good n (rule_of a) x → Good n (rule_of p) (each a x)
 many_good n p a h x g = by_rule n p (Many (rule_of a)) (each a x) (rule_is p (shape.Many a) h) (each_is n a x g)
 
 -- ---- after an opening
@@ -160,7 +160,7 @@ nest_at of t (Read x k) = refl
 nest_at of t (Wrong k) = refl
 nest_at of t (Deep k) = refl
 
-module _ {A : Type 0} (s : Sort) (l : Place) (x : Piece A) where
+module _ {A : Type 0} (s : Sort) (l : Place) (x : Phrase A) where
   abbrev entered : ℕ → Bool → Lexeme → List Lexeme → ReadResult A
   entered n b t ts = and_then (and_then (if b then Ok (t, ts) else Err (fault.Syntax (length (t ∷ ts)))) (λ u k. if n == 0 then Err (fault.TooDeep (length (t ∷ ts))) else Ok (u, k))) (λ u k. x.read k)
 
@@ -185,6 +185,6 @@ module _ {A : Type 0} (s : Sort) (l : Place) (x : Piece A) where
   open_is zero g (t ∷ ts) = shut_at (is_of s t) t ts
   open_is (suc n) g (t ∷ ts) = in_at n (g n refl) (is_of s t) t ts
 
-pub open_good : {A : Type 0} (n : ℕ) (p : Part) (s : Sort) (l : Place) → shape.Open s l ≡ shape_of p → (x : Piece A) → ((m : ℕ) → n ≡ suc m → Good m (rule_of (part_inside l)) x) → Good n (rule_of p) (opening n s x)
+pub open_good : {A : Type 0} (n : ℕ) (p : Part) (s : Sort) (l : Place) → shape.Open s l ≡ shape_of p → (x : Phrase A) → ((m : ℕ) → n ≡ suc m → Good m (rule_of (part_inside l)) x) → Good n (rule_of p) (opening n s x)
 open_good n p s l h x g = by_rule n p (Open s l) (opening n s x) (rule_is p (shape.Open s l) h)
     (record { is = open_is s l x n (λ m e. subst (λ (v : Rule). Good m v x) (inside_is l) (g m e)) })

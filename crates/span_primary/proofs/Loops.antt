@@ -1,4 +1,4 @@
--- Reading a piece any number of times, turn by turn.
+-- Reading a phrase any number of times, turn by turn.
 use Rattle.std.proofs.Common.{◌≡◌, ℕ, zero, suc, ◌<◌, ◌≤◌, Bool, true, false, List, [], ◌∷◌, ◌++◌, length, refl, ap, ◌∙◌, arith, Ok, Err}
 use Rattle.std.specs.Prelude.{if◌then◌else◌}
 use Rattle.std.proofs.lemmas.Bool.{cond-true, cond-false}
@@ -7,7 +7,7 @@ use Rattle.span_primary.specs.declared.fault.SyntaxError.{SyntaxError}
 use Rattle.span_grammar.specs.declared.grammar.Part.{Part}
 use Rattle.span_grammar.specs.Rules.{starts}
 use Rattle.span_grammar.specs.Grammar.{rule_of}
-use Rattle.span_primary.specs.Pieces.{ReadResult, and_then, read_times, each_read}
+use Rattle.span_primary.specs.Phrases.{ReadResult, and_then, read_times, each_read}
 
 -- it takes a token at least
 pub record Shrinks {A : Type 0} (f : List Lexeme → ReadResult A) : Type 0 where

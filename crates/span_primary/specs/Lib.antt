@@ -1,4 +1,4 @@
-pub mod Pieces
+pub mod Phrases
 pub mod Expressions
 pub mod Reading
 pub mod Nests

@@ -8,18 +8,18 @@ use Rattle.span_trees.specs.declared.tree.Expr.{Expr}
 use Rattle.span_primary.specs.declared.reader.Level.{Level}
 use Rattle.span_primary.specs.declared.reader.Level.TheVariants as level
 use Rattle.span_grammar.specs.Rules.{most_openings}
-use Rattle.span_primary.specs.Pieces.{Piece, Gives}
+use Rattle.span_primary.specs.Phrases.{Phrase, Gives}
 use Rattle.span_primary.specs.Expressions.{Inner, after, expression, negated_predicate, signed_primary}
 use Rattle.span_primary.specs.Reading.{Reading, Cursor, Move}
 
 -- what is after an opening, by its level
-abbrev pub inner_at : Level → Inner → Piece Expr
+abbrev pub inner_at : Level → Inner → Phrase Expr
 inner_at level.Expression inner = inner.expression
 inner_at level.Negated inner = inner.negated_predicate
 inner_at level.Signed inner = inner.signed_primary
 
 -- the same with n openings left
-abbrev pub at : Level → List ℕ → ℕ → Piece Expr
+abbrev pub at : Level → List ℕ → ℕ → Phrase Expr
 at level.Expression text n = expression text n (after text n)
 at level.Negated text n = negated_predicate text n (after text n)
 at level.Signed text n = signed_primary text n (after text n)

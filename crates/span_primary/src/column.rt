@@ -1,6 +1,6 @@
 //! Columns, by their names, and which way they are sorted.
 ghost use Rattle.std.specs.Prelude.{◌≡◌};
-ghost use Rattle.span_primary.specs.Pieces.{Gives};
+ghost use Rattle.span_primary.specs.Phrases.{Gives};
 ghost use Rattle.span_primary.specs.Expressions as spec;
 
 use super::fault::SyntaxError;

@@ -1,5 +1,5 @@
 //! Operators, by their tokens.
-ghost use Rattle.span_primary.specs.Pieces.{Gives};
+ghost use Rattle.span_primary.specs.Phrases.{Gives};
 ghost use Rattle.span_primary.specs.Expressions as spec;
 
 use super::fault::SyntaxError;

@@ -6,7 +6,7 @@ ghost use Rattle.std.specs.Str.Lossy.{utf8_lossy};
 ghost use Rattle.span_grammar.specs.declared.grammar.Part;
 ghost use Rattle.span_grammar.specs.Rules.{starts};
 ghost use Rattle.span_grammar.specs.Grammar.{rule_of};
-ghost use Rattle.span_primary.specs.Pieces.{Gives, token, opening_token};
+ghost use Rattle.span_primary.specs.Phrases.{Gives, token, opening_token};
 ghost use Rattle.span_grammar.specs.Classes as classes;
 ghost use Rattle.span_primary.specs.Expressions as spec;
 
@@ -28,7 +28,7 @@ pub fn next_is(sort: Sort, tokens: &[Lexeme]) -> bool
 }
 
 /// Takes the next token, if it is of a sort.
-#[tactic(auto, unfolding(crate::specs::Pieces::token_read))]
+#[tactic(auto, unfolding(crate::specs::Phrases::token_read))]
 pub fn take(sort: Sort, tokens: &mut &[Lexeme]) -> Result<Lexeme, SyntaxError>
     ensures { Gives (token sort) tokens.old tokens.new result }
 {
@@ -42,7 +42,7 @@ pub fn take(sort: Sort, tokens: &mut &[Lexeme]) -> Result<Lexeme, SyntaxError>
 }
 
 /// Takes the next token, if it is an opening of a sort and an opening is left.
-#[tactic(auto, unfolding(crate::specs::Pieces::enter_read))]
+#[tactic(auto, unfolding(crate::specs::Phrases::enter_read))]
 pub fn enter(left: usize, sort: Sort, tokens: &mut &[Lexeme]) -> Result<Lexeme, SyntaxError>
     ensures read { Gives (opening_token left sort) tokens.old tokens.new result }
     ensures deeper { IfOk result (λ x. 0 < left) }

@@ -7,7 +7,7 @@ use Rattle.span_grammar.specs.declared.grammar.Part.{Part}
 use Rattle.span_primary.specs.declared.fault.SyntaxError.{SyntaxError}
 use Rattle.span_parser.specs.declared.tree.Query.{Query}
 use Rattle.span_grammar.specs.Rules.{most_openings}
-use Rattle.span_primary.specs.Pieces.{Piece, Gives, each}
+use Rattle.span_primary.specs.Phrases.{Phrase, Gives, each}
 use Rattle.span_primary.specs.Reading.{Reading, Cursor, Move}
 use Rattle.span_parser.specs.Queries.{query, nested_query}
 
@@ -16,13 +16,13 @@ abbrev pub ReadsNested : {F : Type 0} → Reading F → Move Query
 ReadsNested r = Gives (nested_query r.text r.left)
 
 module _ {F A : Type 0} (r : Reading F) where
-  -- the tokens were read as the piece says
-  abbrev pub ReadsQuery : (List ℕ → ℕ → Piece Query → Piece A) → Move A
-  ReadsQuery piece = Gives (piece r.text r.left (nested_query r.text r.left))
+  -- the tokens were read as the phrase says
+  abbrev pub ReadsQuery : (List ℕ → ℕ → Phrase Query → Phrase A) → Move A
+  ReadsQuery phrase = Gives (phrase r.text r.left (nested_query r.text r.left))
 
-  -- the same of the piece, which is the part, any number of times
-  abbrev pub ReadsEachQuery : Part → (List ℕ → ℕ → Piece Query → Piece A) → Move (List A)
-  ReadsEachQuery a piece = Gives (each a (piece r.text r.left (nested_query r.text r.left)))
+  -- the same of the phrase, which is the part, any number of times
+  abbrev pub ReadsEachQuery : Part → (List ℕ → ℕ → Phrase Query → Phrase A) → Move (List A)
+  ReadsEachQuery a phrase = Gives (each a (phrase r.text r.left (nested_query r.text r.left)))
 
 -- the arguments of a call: the allocator, the text, the number of openings left and the cursor
 abbrev Arguments : Type 0

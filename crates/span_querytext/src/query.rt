@@ -3,7 +3,7 @@
 //! As with expressions, a single function recurses, after the parenthesis of a derived table.
 ghost use Rattle.std.specs.Prelude.{◌<◌, ◌≤◌};
 ghost use Rattle.span_grammar.specs.Rules.{most_openings};
-ghost use Rattle.span_primary.specs.Pieces.{Gives};
+ghost use Rattle.span_primary.specs.Phrases.{Gives};
 ghost use Rattle.span_parser.specs.Queries as spec;
 ghost use Rattle.span_querytext.specs.Subqueries.{NestsQueries, ReadsNested, ReadsQuery, ReadsEachQuery};
 

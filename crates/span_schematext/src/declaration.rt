@@ -1,7 +1,7 @@
 //! Declarations of tables, read from tokens: a function for each rule.
 ghost use Rattle.std.specs.Prelude.{◌≡◌, ◌<◌, ◌≤◌, ◌-◌, ◌∷◌, IfOk};
 ghost use Rattle.span_grammar.specs.Rules.{most_openings};
-ghost use Rattle.span_primary.specs.Pieces.{Gives, each};
+ghost use Rattle.span_primary.specs.Phrases.{Gives, each};
 ghost use Rattle.span_schematext.specs.Declarations as spec;
 
 use span_grammar::class::{Context, Lexeme, Sort};

@@ -15,7 +15,7 @@ use Rattle.span_grammar.specs.Texts.{HasTree, IsWrong, IsTooDeep}
 use Rattle.span_grammar.specs.Grammar.{inside}
 use Rattle.span_grammar.specs.Goals.{goal_part, goal_rule}
 use Rattle.span_grammar.specs.Judged.{HasItems, lexemes_in, IsTokenRefusal, IsRefused}
-use Rattle.span_primary.specs.Pieces.{Piece, to_read_result}
+use Rattle.span_primary.specs.Phrases.{Phrase, to_read_result}
 use Rattle.span_syntax.specs.Parsed.{ParsesAs, GivesToEnd, require_end, at_end, read_to_end, refusal_of, Reports, Refuses, IsOrOutOfMemory}
 use Rattle.span_grammar.proofs.Whole.{whole, Right, answered, tree_answered, deep_answered, wrong_answered}
 use Rattle.span_grammar.proofs.Ending.{ends, inside_ends}
@@ -38,11 +38,11 @@ used_more x (t ∷ k) z = refl
 
 pub ruleset used_steps = (used_none, used_more)
 
-pub whole_then : {A : Type 0} (x : Piece A) (ts k : List Lexeme) (v : A) (r : Result A SyntaxError) → x.read ts ≡ Ok (v, k) → GivesToEnd r (require_end v k) → GivesToEnd r (read_to_end x ts)
+pub whole_then : {A : Type 0} (x : Phrase A) (ts k : List Lexeme) (v : A) (r : Result A SyntaxError) → x.read ts ≡ Ok (v, k) → GivesToEnd r (require_end v k) → GivesToEnd r (read_to_end x ts)
 unfolding read_to_end
 whole_then x ts k v r h g = subst (GivesToEnd r) (sym (ap at_end h)) g
 
-pub whole_err : {A : Type 0} (x : Piece A) (ts : List Lexeme) (e : SyntaxError) → x.read ts ≡ Err e → read_to_end x ts ≡ Err e
+pub whole_err : {A : Type 0} (x : Phrase A) (ts : List Lexeme) (e : SyntaxError) → x.read ts ≡ Err e → read_to_end x ts ≡ Err e
 unfolding read_to_end
 whole_err x ts e h = ap at_end h
 
@@ -68,12 +68,12 @@ used_at of (Read x (t ∷ k)) = refl
 used_at of (Wrong k) = refl
 used_at of (Deep k) = refl
 
-module _ {A : Type 0} (g : Goal) (piece : Piece A) (is_good : Good most_openings (goal_rule g) piece) (ts : List Lexeme) where
+module _ {A : Type 0} (g : Goal) (phrase : Phrase A) (is_good : Good most_openings (goal_rule g) phrase) (ts : List Lexeme) where
   abbrev rule : Rule
   rule = goal_rule g
 
   abbrev of : Tree → A
-  of = piece.of
+  of = phrase.of
 
   abbrev run : Answer
   run = whole (parse inside most_openings rule ts)
@@ -84,7 +84,7 @@ module _ {A : Type 0} (g : Goal) (piece : Piece A) (is_good : Good most_openings
   right : Answers run
   right = answered inside st wide inside_ends good rule (ends (goal_part g)) (goal_good g) ts
 
-  read_is : read_to_end piece ts ≡ answer of run
+  read_is : read_to_end phrase ts ≡ answer of run
   unfolding read_to_end
   read_is = ap at_end (is_good.is ts) ∙ used_at of (parse inside most_openings rule ts)
 
@@ -93,10 +93,10 @@ module _ {A : Type 0} (g : Goal) (piece : Piece A) (is_good : Good most_openings
   value_at q (Wrong k) h r = absurd cc
   value_at q (Deep k) h r = absurd cc
 
-  pub value_read : (q : A) → read_to_end piece ts ≡ Ok q → (x : Tree) × HasTree inside rule ts x × (q ≡ of x)
+  pub value_read : (q : A) → read_to_end phrase ts ≡ Ok q → (x : Tree) × HasTree inside rule ts x × (q ≡ of x)
   value_read q h = value_at q run (sym read_is ∙ h) right
 
-  pub value_all : (x : Tree) → HasTree inside rule ts x → read_to_end piece ts ≡ Ok (of x)
+  pub value_all : (x : Tree) → HasTree inside rule ts x → read_to_end phrase ts ≡ Ok (of x)
   value_all x h = read_is ∙ ap (answer of) (tree_answered inside st wide inside_ends good rule (ends (goal_part g)) (goal_good g) ts x h)
 
   fault_at : (f : SyntaxError) (s : Answer) → answer of s ≡ Err f → Answers s → IsTokenRefusal g ts (refusal_of f)
@@ -104,13 +104,13 @@ module _ {A : Type 0} (g : Goal) (piece : Piece A) (is_good : Good most_openings
   fault_at f (Wrong k) h r = subst (λ (v : SyntaxError). IsTokenRefusal g ts (refusal_of v)) (err_is {X = A} (fault.Syntax (length k)) f h) r
   fault_at f (Deep k) h r = subst (λ (v : SyntaxError). IsTokenRefusal g ts (refusal_of v)) (err_is {X = A} (fault.TooDeep (length k)) f h) r
 
-  pub fault_read : (f : SyntaxError) → read_to_end piece ts ≡ Err f → IsTokenRefusal g ts (refusal_of f)
+  pub fault_read : (f : SyntaxError) → read_to_end phrase ts ≡ Err f → IsTokenRefusal g ts (refusal_of f)
   fault_read f h = fault_at f run (sym read_is ∙ h) right
 
-  pub wrong_all : IsWrong inside rule ts → (k : List Lexeme) × (read_to_end piece ts ≡ Err (fault.Syntax (length k)))
+  pub wrong_all : IsWrong inside rule ts → (k : List Lexeme) × (read_to_end phrase ts ≡ Err (fault.Syntax (length k)))
   wrong_all w = let a = wrong_answered inside st wide inside_ends good rule (ends (goal_part g)) (goal_good g) ts w in (a.0, read_is ∙ ap (answer of) a.1)
 
-  pub deep_all : IsTooDeep inside rule ts → (k : List Lexeme) × (read_to_end piece ts ≡ Err (fault.TooDeep (length k)))
+  pub deep_all : IsTooDeep inside rule ts → (k : List Lexeme) × (read_to_end phrase ts ≡ Err (fault.TooDeep (length k)))
   deep_all w = let a = deep_answered inside st wide inside_ends good rule (ends (goal_part g)) (goal_good g) ts w in (a.0, read_is ∙ ap (answer of) a.1)
 
 pub reports : {A : Type 0} (o : Result A SyntaxError) (f : SyntaxError) (e : ReadError) → (f ≢ fault.OutOfMemory → o ≡ Err f) → e.refusal ≡ refusal_of f → Reports (let r : Result A ReadError = Err e in r) o
@@ -126,24 +126,24 @@ not_both {X = X} o x f h i = let j : (let r : Result X SyntaxError = Ok x in r) 
 same_fault : {X : Type 0} (o : Result X SyntaxError) (f g : SyntaxError) → o ≡ Err f → o ≡ Err g → f ≡ g
 same_fault {X = X} o f g h i = err_is {X = X} f g (sym h ∙ i)
 
-module _ {A : Type 0} (g : Goal) (piece : Piece A) (is_good : Good most_openings (goal_rule g) piece) (text : List ℕ) (is : List Item) (made : HasItems text is) where
+module _ {A : Type 0} (g : Goal) (phrase : Phrase A) (is_good : Good most_openings (goal_rule g) phrase) (text : List ℕ) (is : List Item) (made : HasItems text is) where
   abbrev found : Result A SyntaxError
-  found = read_to_end piece (lexemes_in text is)
+  found = read_to_end phrase (lexemes_in text is)
 
-  pub text_value : (r : Result A ReadError) → Reports r found → IfOk r (λ q. ParsesAs g piece.of text q)
-  text_value (Ok q) h = let t = value_read g piece is_good (lexemes_in text is) q h in record { items = is; made = made; tree = t.0; has = t.1; is = t.2 }
+  pub text_value : (r : Result A ReadError) → Reports r found → IfOk r (λ q. ParsesAs g phrase.of text q)
+  text_value (Ok q) h = let t = value_read g phrase is_good (lexemes_in text is) q h in record { items = is; made = made; tree = t.0; has = t.1; is = t.2 }
   text_value (Err e) h = tt
 
-  has_here : (q : A) (t : ParsesAs g piece.of text q) → found ≡ Ok q
+  has_here : (q : A) (t : ParsesAs g phrase.of text q) → found ≡ Ok q
   has_here q t =
       let P : List Lexeme → Type 0 = λ w. HasTree inside (goal_rule g) w t.tree in
-      value_all g piece is_good (lexemes_in text is) t.tree (subst P (same_lexemes text t.items is t.made made) t.has) ∙ ap (λ (v : A). let o : Result A SyntaxError = Ok v in o) (sym t.is)
+      value_all g phrase is_good (lexemes_in text is) t.tree (subst P (same_lexemes text t.items is t.made made) t.has) ∙ ap (λ (v : A). let o : Result A SyntaxError = Ok v in o) (sym t.is)
 
   -- a text has one value at most
-  pub one_value : (x y : A) → ParsesAs g piece.of text x → ParsesAs g piece.of text y → x ≡ y
+  pub one_value : (x y : A) → ParsesAs g phrase.of text x → ParsesAs g phrase.of text y → x ≡ y
   one_value x y s t = ok_is x y (sym (has_here x s) ∙ has_here y t)
 
-  pub text_value_all : (r : Result A ReadError) → Reports r found → (q : A) → ParsesAs g piece.of text q → IsOrOutOfMemory r q
+  pub text_value_all : (r : Result A ReadError) → Reports r found → (q : A) → ParsesAs g phrase.of text q → IsOrOutOfMemory r q
   text_value_all (Ok x) h q t = ok_is x q (sym h ∙ has_here q t)
   text_value_all (Err e) (inl m) q t = m
   text_value_all (Err e) (inr f) q t = absurd (not_both found q f.0 (has_here q t) f.1)
@@ -152,7 +152,7 @@ module _ {A : Type 0} (g : Goal) (piece : Piece A) (is_good : Good most_openings
   text_refused (Ok x) h = tt
   text_refused (Err e) (inl m) = subst (λ (v : Refusal). IsRefused g text v) (sym m) tt
   text_refused (Err e) (inr f) =
-      subst (λ (v : Refusal). IsRefused g text v) (sym f.2) (judged_refused g text is (refusal_of f.0) made (fault_read g piece is_good (lexemes_in text is) f.0 f.1))
+      subst (λ (v : Refusal). IsRefused g text v) (sym f.2) (judged_refused g text is (refusal_of f.0) made (fault_read g phrase is_good (lexemes_in text is) f.0 f.1))
 
   refuses_at : (r : Result A ReadError) → Reports r found → (f : SyntaxError) → found ≡ Err f → Refuses r (refusal_of f)
   refuses_at (Ok x) h f i = not_both found x f h i
@@ -164,17 +164,17 @@ module _ {A : Type 0} (g : Goal) (piece : Piece A) (is_good : Good most_openings
   text_refused_all r h refusal.BadToken n i = absurd (made_not text refusal.BadToken is i n made)
   text_refused_all r h refusal.Syntax n i =
       let P : List Lexeme → Type 0 = λ w. IsWrong inside (goal_rule g) w in
-      let a = wrong_all g piece is_good (lexemes_in text is) (subst P (same_lexemes text i.0 is i.1 made) i.2) in
+      let a = wrong_all g phrase is_good (lexemes_in text is) (subst P (same_lexemes text i.0 is i.1 made) i.2) in
       refuses_at r h (fault.Syntax (length a.0)) a.1
   text_refused_all r h refusal.TooDeep n i =
       let P : List Lexeme → Type 0 = λ w. IsTooDeep inside (goal_rule g) w in
-      let a = deep_all g piece is_good (lexemes_in text is) (subst P (same_lexemes text i.0 is i.1 made) i.2) in
+      let a = deep_all g phrase is_good (lexemes_in text is) (subst P (same_lexemes text i.0 is i.1 made) i.2) in
       refuses_at r h (fault.TooDeep (length a.0)) a.1
   text_refused_all r h refusal.OutOfMemory n i = absurd (n refl)
   text_refused_all r h _ n i = absurd i
 
   -- a text that has a value is not refused
-  pub value_not_refused : (v : A) → ParsesAs g piece.of text v → (why : Refusal) → why ≢ refusal.OutOfMemory → IsRefused g text why → ⊥
+  pub value_not_refused : (v : A) → ParsesAs g phrase.of text v → (why : Refusal) → why ≢ refusal.OutOfMemory → IsRefused g text why → ⊥
   value_not_refused v t why n i = text_refused_all (Ok v) (has_here v t) why n i
 
 -- ---- texts that have no tokens

@@ -17,7 +17,7 @@ use Rattle.span_grammar.specs.Texts.{HasTree}
 use Rattle.span_grammar.specs.Grammar.{inside}
 use Rattle.span_grammar.specs.Goals.{goal_rule}
 use Rattle.span_grammar.specs.Judged.{HasItems, lexemes_in}
-use Rattle.span_primary.specs.Pieces.{Piece, ReadResult}
+use Rattle.span_primary.specs.Phrases.{Phrase, ReadResult}
 
 -- the text has a tree, and the value is that of the tree
 pub record ParsesAs {A : Type 0} (g : Goal) (of : Tree → A) (text : List ℕ) (value : A) : Type 0 where
@@ -36,7 +36,7 @@ abbrev pub at_end : {A : Type 0} → ReadResult A → Result A SyntaxError
 at_end (Ok p) = require_end p.0 p.1
 at_end (Err e) = Err e
 
-unfoldable pub read_to_end : {A : Type 0} → Piece A → List Lexeme → Result A SyntaxError
+unfoldable pub read_to_end : {A : Type 0} → Phrase A → List Lexeme → Result A SyntaxError
 read_to_end x ts = at_end (x.read ts)
 
 -- what a function returned, unless memory ran out

@@ -3,7 +3,7 @@
 //! Each function is given the function that reads after an opening: so only one recurses, no deeper than openings may be nested.
 ghost use Rattle.std.specs.Prelude.{◌≤◌};
 ghost use Rattle.span_grammar.specs.Rules.{most_openings};
-ghost use Rattle.span_primary.specs.Pieces.{Gives};
+ghost use Rattle.span_primary.specs.Phrases.{Gives};
 ghost use Rattle.span_primary.specs.Expressions as spec;
 ghost use Rattle.span_primary.specs.Nests.{Nests, at};
 ghost use Rattle.span_primary.specs.Reading.{Reads, ReadsEach};

@@ -1,6 +1,6 @@
 use Rattle.std.proofs.Common.{◌≡◌, [], length}
 use Rattle.span_grammar.specs.declared.grammar.Part.TheVariants as part
-use Rattle.span_primary.specs.Pieces.{each_read}
+use Rattle.span_primary.specs.Phrases.{each_read}
 use Rattle.span_parser.specs.Queries.{union_more, nested_query}
 use Rattle.span_querytext.proofs.query.QueryReader.union_rest.Given as goal
 

@@ -1,6 +1,6 @@
 use Rattle.std.proofs.Common.{◌≡◌, [], length}
 use Rattle.span_grammar.specs.declared.grammar.Part.TheVariants as part
-use Rattle.span_primary.specs.Pieces.{each_read}
+use Rattle.span_primary.specs.Phrases.{each_read}
 use Rattle.span_primary.specs.Expressions.{after, term_more}
 use Rattle.span_syntax.proofs.expression.ExpressionReader.term_rest.Given as goal
 

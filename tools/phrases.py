@@ -1,6 +1,6 @@
-"""How the parsers put pieces together, and the lemma that a piece reads as the grammar's rule of a part.
+"""How the parsers put phrases together, and the lemma that a phrase reads as the grammar's rule of a part.
 
-A piece is a parser of span_primary's specs/Pieces.antt. A definition there is made of pieces as the part is made of parts: what is said here
+A phrase is a parser of span_primary's specs/Phrases.antt. A definition there is made of phrases as the part is made of parts: what is said here
 must fit the shape of the part, or the tool stops.
 """
 import re
@@ -8,7 +8,7 @@ from collections import namedtuple
 
 from grammar import sort_term, stop
 
-Piece = namedtuple("Piece", "kind arguments")
+Phrase = namedtuple("Phrase", "kind arguments")
 
 
 def word(name):
@@ -23,21 +23,21 @@ def context(name):
     return sort_term(("Context", name))
 
 
-# the pieces
+# the phrases
 
 def token(sort):
     """One token of a sort."""
-    return Piece("token", (sort,))
+    return Phrase("token", (sort,))
 
 
 def nothing(value):
     """No token, and a value."""
-    return Piece("nothing", (value,))
+    return Phrase("nothing", (value,))
 
 
-def apply(function, piece):
-    """A function of what a piece reads."""
-    return Piece("apply", (function, piece))
+def apply(function, phrase):
+    """A function of what a phrase reads."""
+    return Phrase("apply", (function, phrase))
 
 
 def constant(value, sort):
@@ -46,43 +46,43 @@ def constant(value, sort):
 
 
 def then(first, name, second):
-    """A piece, whose value is called so in the one that follows."""
-    return Piece("then", (first, name, second))
+    """A phrase, whose value is called so in the one that follows."""
+    return Phrase("then", (first, name, second))
 
 
 def after(first, *others):
-    """Pieces in a row, of which the last has the value."""
+    """Phrases in a row, of which the last has the value."""
     return then(first, "_", after(*others)) if others else first
 
 
-def either(*pieces):
-    """The first of some pieces that can begin with the token that comes."""
-    return pieces[0] if len(pieces) == 1 else Piece("either", (pieces[0], either(*pieces[1:])))
+def either(*phrases):
+    """The first of some phrases that can begin with the token that comes."""
+    return phrases[0] if len(phrases) == 1 else Phrase("either", (phrases[0], either(*phrases[1:])))
 
 
-def option(piece):
-    """A piece or nothing."""
-    return either(apply("Some", piece), nothing("None"))
+def option(phrase):
+    """A phrase or nothing."""
+    return either(apply("Some", phrase), nothing("None"))
 
 
-def each(piece):
-    """A piece any number of times."""
-    return Piece("each", (piece,))
+def each(phrase):
+    """A phrase any number of times."""
+    return Phrase("each", (phrase,))
 
 
-def opening(piece):
-    """An opening token, and a piece one deeper."""
-    return Piece("opening", (piece,))
+def opening(phrase):
+    """An opening token, and a phrase one deeper."""
+    return Phrase("opening", (phrase,))
 
 
-def beside(value, piece):
-    """A value that was read before, and what a piece reads."""
-    return Piece("beside", (value, piece))
+def beside(value, phrase):
+    """A value that was read before, and what a phrase reads."""
+    return Phrase("beside", (value, phrase))
 
 
 def proved(definition, proof, name=None):
-    """A piece that has a name, and the proof that it reads as its part's rule. The name is a lemma's, or a sort's for one token."""
-    return Piece("proved", (definition, proof, name))
+    """A phrase that has a name, and the proof that it reads as its part's rule. The name is a lemma's, or a sort's for one token."""
+    return Phrase("proved", (definition, proof, name))
 
 
 # Definitions whose lemma is not called as they are.
@@ -104,7 +104,7 @@ SHAPES = {"token": "One", "nothing": "Empty", "then": "Then", "either": "Or", "e
 
 
 class Writer:
-    """Writes pieces and their lemmas, over the parts of the grammar."""
+    """Writes phrases and their lemmas, over the parts of the grammar."""
 
     def __init__(self, grammar):
         self.grammar = grammar
@@ -112,7 +112,7 @@ class Writer:
 
     def misfit(self, part, reader):
         """Stops: the tables do not fit the grammar."""
-        stop(f"the part {part} is not read by {reader}: docs/SQL.md has changed, and so must the tables of tools/grammar_pieces.py")
+        stop(f"the part {part} is not read by {reader}: docs/SQL.md has changed, and so must the tables of tools/grammar_phrases.py")
 
     def require_known(self, part, name):
         """Stops where a definition that has a lemma, or a sort of tokens, is not of this part."""
@@ -122,7 +122,7 @@ class Writer:
             self.misfit(part, name)
 
     def operands(self, kind, part, sort=None):
-        """The operands of a part, whose shape must be a piece's of this kind."""
+        """The operands of a part, whose shape must be a phrase's of this kind."""
         if part not in self.grammar.parts and part not in self.grammar.tokens:
             self.misfit(part, "anything, since there is none")
         shape, operands = self.grammar.shape(part)
@@ -130,9 +130,9 @@ class Writer:
             self.misfit(part, f"{kind} {sort or ''}".strip())
         return operands
 
-    def definition(self, piece, part, depth):
-        """A piece that reads a part, with a number of openings left."""
-        kind, arguments = piece
+    def definition(self, phrase, part, depth):
+        """A phrase that reads a part, with a number of openings left."""
+        kind, arguments = phrase
         if kind in ("token", "nothing"):
             return f"({kind} {arguments[0]})"
         if kind == "proved":
@@ -150,9 +150,9 @@ class Writer:
             return f"({texts[0]} >>= (λ {arguments[1]}. {texts[1]}))"
         return f"({kind} {self.grammar.part_term(operands[0])} {' '.join(texts)})"
 
-    def proof(self, piece, part, depth):
-        """That a piece reads a part as the grammar's rule of it, with a number of openings left."""
-        kind, arguments = piece
+    def proof(self, phrase, part, depth):
+        """That a phrase reads a part as the grammar's rule of it, with a number of openings left."""
+        kind, arguments = phrase
         if kind == "proved":
             self.require_known(part, arguments[2])
             return f"({arguments[1]})"
@@ -166,15 +166,15 @@ class Writer:
             inside, sort = self.grammar.places[operands[1]], sort_term(operands[0])
             return (f"(open_good {depth} part.{part} {sort} place.{operands[1]} refl {self.definition(arguments[0], inside, depth)} "
                     f"(λ m e. {self.proof(arguments[0], inside, 'm')}))")
-        pieces = arguments[::2] if kind == "then" else arguments
-        texts = [self.definition(*both, depth) for both in zip(pieces, operands)] + [self.proof(*both, depth) for both in zip(pieces, operands)]
+        phrases = arguments[::2] if kind == "then" else arguments
+        texts = [self.definition(*both, depth) for both in zip(phrases, operands)] + [self.proof(*both, depth) for both in zip(phrases, operands)]
         if kind == "then":
             texts[1::2] = [f"(λ {arguments[1]}. {text})" for text in texts[1::2]]
         lemma = {"then": "then_good", "either": "or_good", "each": "many_good"}[kind]
         return " ".join([f"({lemma} {depth} part.{part}"] + [self.grammar.part_term(one) for one in operands] + ["refl"] + texts) + ")"
 
-    def lemma(self, applied, name, part, piece, arguments="", of=None, indent="  "):
-        """The lemma that a definition, which is this piece applied so, reads as the rule of the part. It is `of`, or else `name`."""
+    def lemma(self, applied, name, part, phrase, arguments="", of=None, indent="  "):
+        """The lemma that a definition, which is this phrase applied so, reads as the rule of the part. It is `of`, or else `name`."""
         self.part_of[name] = part
         of, name = of or name, LEMMAS.get(name, name)
         names = " ".join(re.findall(r"\((\w+) :", arguments))
@@ -182,7 +182,7 @@ class Writer:
         rule = f"{arguments} → " if arguments else ""
         return f"""{indent}pub {name}_good : {rule}Good n (rule_of part.{part}) ({definition})
 {indent}unfolding {of} shape_of part_inside
-{indent}{' '.join(filter(None, [name + '_good', names]))} = {self.proof(piece, part, 'n')[1:-1]}
+{indent}{' '.join(filter(None, [name + '_good', names]))} = {self.proof(phrase, part, 'n')[1:-1]}
 
 """
 

@@ -1,11 +1,11 @@
 #!/usr/bin/env python3
-"""Writes what span_primary, span_parser and span_schematext prove of their pieces, part by part, from the grammar in docs/SQL.md.
+"""Writes what span_primary, span_parser and span_schematext prove of their phrases, part by part, from the grammar in docs/SQL.md.
 
-    tools/grammar_pieces.py            writes the files
-    tools/grammar_pieces.py --check    writes nothing, and names the files that are not what would be written; status 1 where there are any
+    tools/grammar_phrases.py            writes the files
+    tools/grammar_phrases.py --check    writes nothing, and names the files that are not what would be written; status 1 where there are any
 
 The tables below say how each definition of specs/Expressions.antt, specs/Queries.antt and specs/Declarations.antt is put together: its name,
-its part of the grammar, and its pieces. They must fit the parts that tools/grammar.py reads. Nothing rests on these tools: what they write
+its part of the grammar, and its phrases. They must fit the parts that tools/grammar.py reads. Nothing rests on these tools: what they write
 is proved as if it were written by hand.
 """
 import sys
@@ -15,7 +15,7 @@ sys.dont_write_bytecode = True
 import generated
 import grammar as source
 from generated import lines, lines_of
-from pieces import (Writer, after, apply, beside, constant, context, each, either, nothing, opening, option, proved, reference, sign, then,
+from phrases import (Writer, after, apply, beside, constant, context, each, either, nothing, opening, option, proved, reference, sign, then,
                     token, word)
 
 def module(title, imports, body):
@@ -37,7 +37,7 @@ use Rattle.span_grammar.specs.declared.grammar.Place.TheVariants as place
 RULES = """
 use Rattle.span_grammar.specs.Shapes.{shape_of, part_inside}
 use Rattle.span_grammar.specs.Grammar.{rule_of}
-use Rattle.span_primary.specs.Pieces.{Piece, token, nothing, ◌<$>◌, ◌>>=◌, either, each, pair_with, opening}
+use Rattle.span_primary.specs.Phrases.{Phrase, token, nothing, ◌<$>◌, ◌>>=◌, either, each, pair_with, opening}
 """
 
 GOOD = """
@@ -52,13 +52,13 @@ def spelling(sort):
     return proved(f"spelling text {sort}", f"spelling_good text n {sort}", sort)
 
 
-def closing(piece):
-    """A piece, and a parenthesis that closes."""
-    return then(piece, "x", proved("close_parenthesis x", "closing_good m x"))
+def closing(phrase):
+    """A phrase, and a parenthesis that closes."""
+    return then(phrase, "x", proved("close_parenthesis x", "closing_good m x"))
 
 
 def first_and(first, more):
-    """A piece, and one any number of times: the list of both."""
+    """A phrase, and one any number of times: the list of both."""
     return then(first, "first", apply("(λ more. first ∷ more)", each(more)))
 
 
@@ -144,7 +144,7 @@ def signs(writer):
 
 INSIDE = """-- ---- what is inside an opening
 
-module _ (n : ℕ) (p : Piece Expr) (gp : Good n (rule_of part.Expression) p) where
+module _ (n : ℕ) (p : Phrase Expr) (gp : Good n (rule_of part.Expression) p) where
 """
 
 
@@ -323,7 +323,7 @@ use Rattle.span_grammar.specs.declared.grammar.Part.TheVariants as part
 use Rattle.span_grammar.specs.Rules.{Answer, Read, Wrong, Deep, Tree, most_openings, is_nullable, parse}
 use Rattle.span_grammar.specs.Shapes.{shape_of}
 use Rattle.span_grammar.specs.Grammar.{inside, rule_of}
-use Rattle.span_primary.specs.Pieces.{Piece, ReadResult, to_read_result}
+use Rattle.span_primary.specs.Phrases.{Phrase, ReadResult, to_read_result}
 use Rattle.span_primary.specs.Expressions.{after, list_more, when, term_more, sum_more, conjunction_more, expression_more}
 use Rattle.span_primary.proofs.Good.{Good}
 use Rattle.span_grammar.proofs.Repeated.{repeated_full}
@@ -345,7 +345,7 @@ read_at of v k (Read t j) h = (t, ap (Read t) (rest_is (of t) v j k h))
 read_at of v k (Wrong j) h = absurd cc
 read_at of v k (Deep j) h = absurd cc
 
-pub shrinking : {A : Type 0} (n : ℕ) (p a : Part) (x : Piece A) → is_nullable (rule_of a) ≡ false → n ≤ most_openings → Good n (rule_of a) x → Shrinks x.read
+pub shrinking : {A : Type 0} (n : ℕ) (p a : Part) (x : Phrase A) → is_nullable (rule_of a) ≡ false → n ≤ most_openings → Good n (rule_of a) x → Shrinks x.read
 shrinking n p a x full le g = record { falls = λ ts k v h. let r = read_at x.of v k (parse inside n (rule_of a) ts) (sym (g.is ts) ∙ h) in shrinks n a full le ts k r.0 r.1 }
 
 """
@@ -490,7 +490,7 @@ def query_clauses(writer):
 
 
 SUBQUERIES = """  -- what is a query one opening deeper is read so, where there is one left
-  module _ (inner : Piece Query) (good_inside : (m : ℕ) → n ≡ suc m → Good m (rule_of part.Query) inner) where
+  module _ (inner : Phrase Query) (good_inside : (m : ℕ) → n ≡ suc m → Good m (rule_of part.Query) inner) where
 """
 
 
@@ -573,7 +573,7 @@ use Rattle.span_schema.specs.declared.table.Parent.{Parent}
 use Rattle.span_grammar.specs.declared.class.Context.TheVariants as context
 """ + PARTS + """
 use Rattle.span_grammar.specs.declared.grammar.Shape.TheVariants as shape
-""" + RULES.replace("Piece, ", "").replace(", pair_with, opening}", "}") + """
+""" + RULES.replace("Phrase, ", "").replace(", pair_with, opening}", "}") + """
 use Rattle.span_primary.specs.Expressions.{direction}
 """ + GOOD.replace(" beside_good,", "") + """
 use Rattle.span_primary.proofs.Expressing.{direction_good}
@@ -720,7 +720,7 @@ def invariants_antt(name, part, has_depth):
     now, before = ("l.text l.left", "l.fn.text l.fn.left") if has_depth else ("l.text", "l.fn.text")
     return f"""use Rattle.std.proofs.Common.{{◌≡◌, [], length}}
 use Rattle.span_grammar.specs.declared.grammar.Part.TheVariants as part
-use Rattle.span_primary.specs.Pieces.{{each_read}}
+use Rattle.span_primary.specs.Phrases.{{each_read}}
 use Rattle.span_schematext.specs.Declarations.{{{name}_more}}
 use Rattle.span_schematext.proofs.declaration.{name}_rest.Given as goal
 
@@ -764,4 +764,4 @@ def text_of_files():
 
 
 if __name__ == "__main__":
-    sys.exit(generated.main("tools/grammar_pieces.py", text_of_files))
+    sys.exit(generated.main("tools/grammar_phrases.py", text_of_files))

@@ -1,4 +1,4 @@
--- Pieces of the grammar: the value of a derivation by a rule, and how it is read, one token ahead.
+-- Phrases of the grammar: the value of a derivation by a rule, and how it is read, one token ahead.
 use Rattle.std.specs.Prelude.{◌≡◌, ◌≢◌, ℕ, zero, suc, ◌==◌, List, [], ◌∷◌, ◌++◌, length, Option, Some, None, Result, Ok, Err, if◌then◌else◌}
 use denote.Ref.{Bor}
 use Rattle.span_grammar.specs.declared.class.Lexeme.{Lexeme}
@@ -56,7 +56,7 @@ unfoldable pub enter_read : ℕ → Sort → List Lexeme → ReadResult Lexeme
 enter_read left s ts =
     and_then (token_read s ts) (λ t k. if left == 0 then Err (fault.TooDeep (length ts)) else Ok (t, k))
 
--- after what was read: a piece, which is the part, as long as it can begin, at most n times
+-- after what was read: a phrase, which is the part, as long as it can begin, at most n times
 unfoldable pub read_times : {A : Type 0} → (List Lexeme → ReadResult A) → Part → ℕ → List A → List Lexeme
     → ReadResult (List A)
 read_times f a zero found ts = Ok (found, ts)
@@ -68,24 +68,24 @@ unfoldable pub each_read : {A : Type 0} → (List Lexeme → ReadResult A) → P
     → ReadResult (List A)
 each_read f a found ts = read_times f a (length ts) found ts
 
--- ---- pieces
+-- ---- phrases
 
-pub record Piece (A : Type 0) : Type 0 where
+pub record Phrase (A : Type 0) : Type 0 where
   pub of : Tree → A
   pub read : List Lexeme → ReadResult A
 
-abbrev pub token : Sort → Piece Lexeme
+abbrev pub token : Sort → Phrase Lexeme
 token s = record { of = token_of; read = token_read s }
 
-abbrev pub nothing : {A : Type 0} → A → Piece A
+abbrev pub nothing : {A : Type 0} → A → Phrase A
 nothing a = record { of = λ x. a; read = λ ts. Ok (a, ts) }
 
 infixr 11 ◌<$>◌
-abbrev pub ◌<$>◌ : {A B : Type 0} → (A → B) → Piece A → Piece B
+abbrev pub ◌<$>◌ : {A B : Type 0} → (A → B) → Phrase A → Phrase B
 f <$> p = record { of = λ x. f (p.of x); read = λ ts. and_then (p.read ts) (λ x k. Ok (f x, k)) }
 
 infixl 10 ◌>>=◌
-abbrev pub ◌>>=◌ : {A B : Type 0} → Piece A → (A → Piece B) → Piece B
+abbrev pub ◌>>=◌ : {A B : Type 0} → Phrase A → (A → Phrase B) → Phrase B
 p >>= f =
     record {
       of = λ x. (f (p.of (first_of x))).of (second_of x);
@@ -93,43 +93,43 @@ p >>= f =
     }
 
 infixl 10 ◌>>◌
-abbrev pub ◌>>◌ : {A B : Type 0} → Piece A → Piece B → Piece B
+abbrev pub ◌>>◌ : {A B : Type 0} → Phrase A → Phrase B → Phrase B
 p >> q = p >>= (λ x. q)
 
 -- the first, which is the part, where it can begin with what comes, else the second
-abbrev pub either : {A : Type 0} → Part → Piece A → Piece A → Piece A
+abbrev pub either : {A : Type 0} → Part → Phrase A → Phrase A → Phrase A
 either a p q = record { of = either_of p.of q.of; read = λ ts. if starts (rule_of a) ts then p.read ts else q.read ts }
 
--- the piece or nothing
-abbrev pub optional : {A : Type 0} → Part → Piece A → Piece (Option A)
+-- the phrase or nothing
+abbrev pub optional : {A : Type 0} → Part → Phrase A → Phrase (Option A)
 optional a p = either a (Some <$> p) (nothing None)
 
--- the piece, which is the part, any number of times
-abbrev pub each : {A : Type 0} → Part → Piece A → Piece (List A)
+-- the phrase, which is the part, any number of times
+abbrev pub each : {A : Type 0} → Part → Phrase A → Phrase (List A)
 each a p = record { of = each_of p.of; read = λ ts. each_read p.read a [] ts }
 
--- what was read before, and a piece after it
-abbrev pub pair_with : {A B : Type 0} → A → Piece B → Piece (A × B)
+-- what was read before, and a phrase after it
+abbrev pub pair_with : {A B : Type 0} → A → Phrase B → Phrase (A × B)
 pair_with x p = record { of = λ t. (x, p.of t); read = λ ts. and_then (p.read ts) (λ y k. Ok ((x, y), k)) }
 
 -- an opening token, with `left` openings left
-abbrev pub opening_token : ℕ → Sort → Piece Lexeme
+abbrev pub opening_token : ℕ → Sort → Phrase Lexeme
 opening_token left s = record { of = token_of; read = enter_read left s }
 
 -- the same, and what is after it
-abbrev pub opening : {A : Type 0} → ℕ → Sort → Piece A → Piece A
+abbrev pub opening : {A : Type 0} → ℕ → Sort → Phrase A → Phrase A
 opening left s p =
     record { of = λ x. p.of (nested_of x); read = λ ts. and_then (enter_read left s ts) (λ t k. p.read k) }
 
--- ---- the result of the grammar's reading, as a result of a piece
+-- ---- the result of the grammar's reading, as a result of a phrase
 
 unfoldable pub to_read_result : {A : Type 0} → (Tree → A) → Answer → ReadResult A
 to_read_result f (Read x k) = Ok (f x, k)
 to_read_result f (Wrong k) = Err (fault.Syntax (length k))
 to_read_result f (Deep k) = Err (fault.TooDeep (length k))
 
--- what a function returned whose cursor stood at `before`, and now stands at `after`: what the piece reads, unless memory
+-- what a function returned whose cursor stood at `before`, and now stands at `after`: what the phrase reads, unless memory
 -- ran out; after an error nothing is said of the cursor
-abbrev pub Gives : {A : Type 0} → Piece A → Bor (List Lexeme) → Bor (List Lexeme) → Result A SyntaxError → Type 0
+abbrev pub Gives : {A : Type 0} → Phrase A → Bor (List Lexeme) → Bor (List Lexeme) → Result A SyntaxError → Type 0
 Gives p before after (Ok x) = p.read before.now ≡ Ok (x, after.now)
 Gives p before after (Err e) = e ≢ fault.OutOfMemory → p.read before.now ≡ Err e
