@@ -251,12 +251,6 @@ module _ (k : Kind) (row : List Value) (place : ℕ) (fits : Fits k (column_of r
   column_between a low high (Some p) None h ea el eh = tt {0}
   column_between a low high (Some p) (Some l) None ea el eh = tt {0}
   column_between a low high (Some p) (Some l) (Some h) ea el eh = of_test (p == place) refl where
-    above : Outcome
-    above = outcomes.strict (compare_values comparison.AtLeast) (val row a) (val row low)
-
-    below : Outcome
-    below = outcomes.strict (compare_values comparison.AtMost) (val row a) (val row high)
-
     of_test : (t : Bool) → (p == place) ≡ t → AreRefusedOut (between (val row a) (val row low) (val row high)) (if t then (range.AtLeast, l) ∷ (range.AtMost, h) ∷ [] else [])
     of_test false same = tt {0}
     of_test true same = (
@@ -394,9 +388,6 @@ module _ (k : Kind) (row : List Value) (place low high : ℕ) (fits : Fits k (co
   in_both : (xs ys : List KeyBound) → is_in_bounds (filter (λ (b : KeyBound). is_of_type k b.1) (xs ++ ys)) (column_of row place) ≡ (is_in_bounds (filter (λ (b : KeyBound). is_of_type k b.1) xs) (column_of row place) && is_in_bounds (filter (λ (b : KeyBound). is_of_type k b.1) ys) (column_of row place))
   in_both [] ys = refl
   in_both (b ∷ xs) ys = of_type (is_of_type k b.1) (in_both xs ys) where
-    fs : List KeyBound → List KeyBound
-    fs l = filter (λ (b : KeyBound). is_of_type k b.1) l
-
     and_assoc : (a b c : Bool) → (a && (b && c)) ≡ ((a && b) && c)
     and_assoc true b c = refl
     and_assoc false b c = refl

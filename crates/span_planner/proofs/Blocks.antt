@@ -256,9 +256,6 @@ module _ (schema : List Table) (tables : List ℕ) (w : ℕ → List Row) (f0 f 
       → (first_rows filter all at rows >>= run_where filter (top_items before rest)) ≡ run_where filter (joined_items rest) rows
   after_first given rs filter all rest total keeps wide before at agrees rows rows_wide =
       of_cases filter (have_total_ons (map planned_join all)) refl total rows_wide (λ next next_wide. rest_same given rs filter all rest total keeps wide before at agrees next next_wide) where
-        IsSame : Option Expr → Type 0
-        IsSame w' = (next : List Row) → (have_total_ons (map planned_join all) ≡ true → AreOfWidth at next) → run_where w' (top_items before rest) next ≡ run_where w' (joined_items rest) next
-
         of_cases : (w' : Option Expr) (b : Bool) → have_total_ons (map planned_join all) ≡ b → (b ≡ true → AreTotal (joined_items rest)) → (b ≡ true → AreOfWidth at rows)
             → ((next : List Row) → (have_total_ons (map planned_join all) ≡ true → AreOfWidth at next) → run_where w' (top_items before rest) next ≡ run_where w' (joined_items rest) next)
             → (filter_where (all_true (conjuncts_on 0 at (if b then where_conjuncts w' else []))) rows >>= run_where w' (top_items before rest)) ≡ run_where w' (joined_items rest) rows
