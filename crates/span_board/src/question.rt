@@ -9,7 +9,7 @@ use span_journal::journal::Journal;
 use span_machine::query::OpenQuery;
 use span_params::params::Params;
 
-/// Whether the journal has this query open with this text and these parameters.
+/// Whether the journal has this query open with this query text and these parameters.
 pub fn is_asked(journal: &Journal, query: u64, text: &str, params: &Params) -> bool
     ensures { result ≡ true
         → (q : OpenQuery)
@@ -23,7 +23,7 @@ pub fn is_asked(journal: &Journal, query: u64, text: &str, params: &Params) -> b
     }
 }
 
-/// Whether the open query was asked with this text and these parameters.
+/// Whether the open query was asked with this query text and these parameters.
 fn is_question(question: &OpenQuery, text: &str, params: &Params) -> bool
     ensures { result ≡ true → (question.now.text ≡ text.now) × (question.now.params ≡ params.now) }
 {

@@ -183,7 +183,7 @@ module _ (schema other : List Table) (table here : TableId) (views : List (List 
 
   -- ---- queries
 
-  -- where an open query was asked with this text and these parameters, its leaves are those of the plan of what they are understood as
+  -- where an open query was asked with this query text and these parameters, its leaves are those of the plan of what they are understood as
   pub own_leaf : (text : List ℕ) (params : List Parameter) (query place : ℕ) (leaf : Leaf)
       → ((q : OpenQuery) × (find (is_query query) (machine_of j).queries ≡ Some q) × (q.text ≡ text) × (q.params ≡ params)) → IsLeafOf schema text params place leaf
       → ((t : List ℕ) (ps : List Parameter) (u v : Result Statement Refusal) → Understands schema t ps u → Understands schema t ps v → u ≡ v)

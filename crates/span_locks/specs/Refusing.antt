@@ -45,7 +45,7 @@ pub record IsFault (schema : List Table) (text : List ℕ) (params : List Parame
   pub made : tables schema commits s ≡ Ok db
   pub meant : means schema statement.query statement.leaves db ≡ None
 
--- what was taken was asked with this text and these parameters, at s, and the query above the leaves gives a fault on its pieces
+-- what was taken was asked with this query text and these parameters, at s, and the query above the leaves gives a fault on its pieces
 pub record IsFaultOf (taken : Taken) (text : List ℕ) (params : List Parameter) (s : ℕ) : Type 0 where
   pub text_is : taken.text ≡ text
   pub params_are : taken.params ≡ params

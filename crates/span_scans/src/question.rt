@@ -79,7 +79,7 @@ pub(crate) fn copy_question(
     Ok((text, params))
 }
 
-/// Whether what was taken was asked with this text and these parameters, at this timestamp.
+/// Whether what was taken was asked with this query text and these parameters, at this timestamp.
 fn is_of(taken: &Taken, text: &str, params: &Params, s: u64) -> bool
     ensures { result ≡ true → (taken.now.text ≡ text.now) × (taken.now.params ≡ params.now) × (taken.now.s ≡ s) }
 {

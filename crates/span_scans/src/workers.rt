@@ -35,7 +35,7 @@ pub trait Gate {
 /// A query that is open, with its plan.
 #[derive(Drop)]
 pub struct PlannedQuery<'a> {
-    /// Its text.
+    /// Its query text.
     pub text: &'a str,
     /// Its parameters.
     pub params: &'a Params,
