@@ -28,4 +28,3 @@ pub mod RootCodes
 pub mod ValueLaws
 pub mod KeyTables
 pub mod Once
-pub mod Fronts
