@@ -1,7 +1,6 @@
 //! Where the mutations of a transaction lie, and the slots where it is prepared.
 ghost use Rattle.std.specs.Prelude.{◌≡◌, ◌≤◌, ◌<◌, length, IfSome};
 ghost use Rattle.std.specs.List.{list_any};
-ghost use Rattle.span_machine.specs.Limits.{most_slots};
 ghost use Rattle.span_machine.specs.Machine.{holds, root_at};
 ghost use Rattle.span_machine.specs.Pieces.{machine_of};
 ghost use Rattle.span_board.specs.Places.{IsNext};
@@ -13,16 +12,8 @@ use span_mutate::mutation::CheckedMutation;
 use span_schema::schema::Schema;
 use span_transactions::slots::MOST_SLOTS;
 
-/// How many slots there may be.
-pub const SLOTS: usize = MOST_SLOTS;
-
-/// The limit is the one that the machine's definition names.
-pub fn limit_is_stated()
-    ensures { SLOTS ≡ most_slots }
-{}
-
 /// The slots where a transaction is prepared, by number.
-pub type PreparedAt = [bool; SLOTS];
+pub type PreparedAt = [bool; MOST_SLOTS];
 
 /// The lowest slot from this one on where mutations of the transaction lie. None where there is none, or no such transaction.
 pub fn next_with_mutations(

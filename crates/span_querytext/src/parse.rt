@@ -71,7 +71,10 @@ pub fn parse_select(alloc: Global, text: &str) -> Result<Query, ReadError>
     ensures read { IfOk result (λ query. IsQuery text.now query) }
     ensures read_all { (query : Query) → IsQuery text.now query → IsOrOutOfMemory result query }
     ensures refused { IfErr result (λ why. IsRefused Goal.Statement text.now why.refusal) }
-    ensures refused_all { (why : Refusal) → why ≢ Refusal.OutOfMemory → IsRefused Goal.Statement text.now why → Refuses result why }
+    ensures refused_all { (why : Refusal)
+        → why ≢ Refusal.OutOfMemory
+        → IsRefused Goal.Statement text.now why
+        → Refuses result why }
 {
     match tokens(alloc, text) {
         Ok(found) => query_of(alloc, text.as_bytes(), found.as_slice()),

@@ -7,11 +7,11 @@ use crate::locks::Locks;
 use crate::question::leaf_at;
 use crate::scan_queue::ScanQueue;
 use span_board::board::Naming;
-use span_board::places::SLOTS;
 use span_columns::leaf::{Leaf, Plan};
 use span_fragment::run::{LeafUse, leaf_use};
 use span_journal::journal::Gap;
 use span_params::params::Params;
+use span_transactions::slots::MOST_SLOTS;
 use span_truetime::clock::Clock;
 use span_truetime::interval::Interval;
 use span_value::refusal::Refusal;
@@ -72,7 +72,7 @@ impl<J: Naming + Send + Sync> Locks<J> {
         ensures { IfErr result (IsUnscanned J.schema) }
     {
         let mut scanned = 0;
-        for _ in 0..SLOTS {
+        for _ in 0..MOST_SLOTS {
             let used = self.count_slots(rt);
             if used <= scanned {
                 break;

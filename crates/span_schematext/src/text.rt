@@ -73,7 +73,10 @@ pub fn parse_tables(alloc: Global, text: &str) -> Result<Seq<Table>, ReadError>
     ensures read { IfOk result (λ found. AreTables text.now found) }
     ensures read_all { (found : List Declared) → AreTables text.now found → IsOrOutOfMemory result found }
     ensures refused { IfErr result (λ why. IsRefused Goal.Schema text.now why.refusal) }
-    ensures refused_all { (why : Refusal) → why ≢ Refusal.OutOfMemory → IsRefused Goal.Schema text.now why → Refuses result why }
+    ensures refused_all { (why : Refusal)
+        → why ≢ Refusal.OutOfMemory
+        → IsRefused Goal.Schema text.now why
+        → Refuses result why }
 {
     match tokens_of(alloc, text) {
         Ok(found) => tables_of(alloc, text.as_bytes(), found.as_slice()),
@@ -89,7 +92,10 @@ pub fn parse_schema(alloc: Global, text: &str) -> Result<Schema, Refusal>
     ensures read { IfOk result (λ schema. IsSchemaText text.now schema) }
     ensures read_all { (found : List Declared) → IsSchemaText text.now found → IsSchemaOrOutOfMemory result found }
     ensures refused { IfErr result (λ why. IsSchemaRefused text.now why) }
-    ensures refused_all { (why : Refusal) → why ≢ Refusal.OutOfMemory → IsSchemaRefused text.now why → RefusesSchema result why }
+    ensures refused_all { (why : Refusal)
+        → why ≢ Refusal.OutOfMemory
+        → IsSchemaRefused text.now why
+        → RefusesSchema result why }
 {
     match parse_tables(alloc, text) {
         Ok(found) => Schema::new(alloc, found.into_vec()),

@@ -1,14 +1,13 @@
 //! How a database begins. A result's type can't depend on which table a call has made, so there are two phases: first the table, then
 //! the database and its sessions under a name of that table.
 ghost use Rattle.std.specs.Prelude.{◌≡◌, ◌++◌, ◌∷◌, [], IfOk, length};
-ghost use Rattle.span_board.specs.declared.places.TheConstants.{SLOTS};
+ghost use Rattle.span_transactions.specs.declared.slots.TheConstants.{MOST_SLOTS};
 ghost use Rattle.span_board.specs.Rule.{newcomers, nothing_known, holders, clients};
 ghost use Rattle.span_board.specs.declared.board.Role.TheVariants.{Keeper};
 
 use crate::db::Db;
 use atomic_table::{Badge, Table};
 use span_board::board::{Board, Change, DbSeat, Law, Meet, Naming, View};
-use span_board::places::SLOTS;
 use span_board::session::Session;
 use span_journal::journal::Journal;
 use span_locks::journal::LockedJournal;
@@ -16,6 +15,7 @@ use span_locks::slot::LockedSlot;
 use span_scans::locks::Locks;
 use span_schema::schema::Schema;
 use span_shard::shard::Shard;
+use span_transactions::slots::MOST_SLOTS;
 use std::alloc::{AllocError, Global};
 use std::marker::{Model, PhantomData};
 use std::sync::Mutex;
@@ -33,7 +33,7 @@ pub struct UnnamedDb {
 impl Model for UnnamedDb {
     ghost use Rattle.std.specs.Prelude.{◌≡◌, []};
     ghost use Rattle.atomic_table.specs.Seated.{table_id_coded};
-    ghost use Rattle.span_board.specs.declared.places.TheConstants.{SLOTS};
+    ghost use Rattle.span_transactions.specs.declared.slots.TheConstants.{MOST_SLOTS};
     ghost use Rattle.span_board.specs.Rule.{Named, opening_roles};
 
     ghost Value = { Named };
@@ -41,7 +41,7 @@ impl Model for UnnamedDb {
     ghost view = { λ o. record { table = o.table.shared.table_id; schema = o.schema; sessions = o.sessions } };
 
     ghost invariant = { λ o. (o.first.table_id ≡ o.table.shared.table_id)
-        × (o.first.me ≡ (opening_roles o.sessions SLOTS, []))
+        × (o.first.me ≡ (opening_roles o.sessions MOST_SLOTS, []))
         × (o.table.shared.table_id.words ≡ 1) };
 }
 
@@ -51,7 +51,7 @@ impl UnnamedDb {
         ensures schema { IfOk result (λ opened. opened.schema ≡ schema) }
         ensures sessions { IfOk result (λ opened. opened.sessions ≡ sessions) }
     {
-        let (table, first) = Table::of_words(alloc, &[0], &(sessions, SLOTS))?;
+        let (table, first) = Table::of_words(alloc, &[0], &(sessions, MOST_SLOTS))?;
         Ok(UnnamedDb {
             table,
             first,
@@ -101,7 +101,7 @@ fn journal_of<J: Naming>(
     badge: Badge<View>,
 ) -> Result<LockedJournal<J>, AllocError>
     requires at { badge.table_id ≡ J.table }
-    requires keeper { badge.views ≡ (Keeper (nothing_known SLOTS) ∷ []) ∷ [] }
+    requires keeper { badge.views ≡ (Keeper (nothing_known MOST_SLOTS) ∷ []) ∷ [] }
 {
     board.schema.meets_rules();
     match Journal::new(board.alloc) {
@@ -117,15 +117,15 @@ fn slots_of<J: Naming>(
     sessions: u64,
 ) -> Result<(Vec<Mutex<LockedSlot<J>>>, DbSeat), AllocError>
     requires at { first.table_id ≡ J.table }
-    requires roles { first.me ≡ (holders 0 SLOTS ++ clients 0 sessions, []) }
+    requires roles { first.me ≡ (holders 0 MOST_SLOTS ++ clients 0 sessions, []) }
     ensures at { IfOk result (λ r. r.1.table_id ≡ J.table) }
     ensures roles { IfOk result (λ r. r.1.me ≡ (clients 0 sessions, [])) }
-    ensures count { IfOk result (λ r. length r.0.items ≡ SLOTS) }
+    ensures count { IfOk result (λ r. length r.0.items ≡ MOST_SLOTS) }
 {
     let _ = sessions;
     let mut first = first;
     let mut slots = Vec::new(board.alloc);
-    for number in 0..SLOTS {
+    for number in 0..MOST_SLOTS {
         let seat = board.table.shared.split_seat::<Meet>(&mut first);
         let shard = Shard::new(board.alloc);
         slots.push(Mutex::new(LockedSlot::new(number, shard, seat)))?;

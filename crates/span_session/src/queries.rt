@@ -5,6 +5,7 @@ ghost use Rattle.span_truetime.specs.declared.interval.Interval.{Interval};
 ghost use Rattle.span_locks.specs.Answers.{IsAnswered};
 ghost use Rattle.span_locks.specs.Refusing.{IsQueryRefusal, IsUnscanned, IsUnfinished};
 ghost use Rattle.span_board.specs.Rule.{Sees};
+ghost use Rattle.span_session.specs.Limits.{most_workers};
 
 use crate::db::Db;
 use span_board::board::Naming;
@@ -23,6 +24,11 @@ use std::thread::Threads;
 
 /// The greatest number of workers of one query.
 pub const MOST_WORKERS: usize = 64;
+
+/// The number is the one that the definitions name.
+pub fn limit_is_stated()
+    ensures { MOST_WORKERS ≡ most_workers }
+{}
 
 /// What a query is answered.
 #[derive(Debug, Drop)]
