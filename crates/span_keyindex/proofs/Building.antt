@@ -66,7 +66,7 @@ module _ (a b low high : ℕ) (da : IsDigits a low) (db : IsDigits b high) (from
     | inr le ↦ le
     | inl lt ↦ elim (cases_lt 0 low) [
       | inr none ↦ absurd (let z : a ≡ 0 = da.none (omega arith) in omega arith)
-      | inl some ↦ absurd (let p : 2 ^ suc b ≡ 2 ^ b * 2 = pow-suc 2 b in let q = pow_mono (omega arith) in let r = da.most some in let s = db.above in omega arith)
+      | inl some ↦ absurd (let p : 2 ^ suc b ≡ 2 ^ b * 2 = pow-suc 2 b in let q = pow_mono {i = suc b} {j = a} (omega arith) in let r = da.most some in let s = db.above in omega arith)
     ]
   ]
 
@@ -75,7 +75,7 @@ module _ (a b low high : ℕ) (da : IsDigits a low) (db : IsDigits b high) (from
     | inr le ↦ le
     | inl lt ↦ elim (cases_lt 0 high) [
       | inr none ↦ absurd (let z : b ≡ 0 = db.none (omega arith) in omega arith)
-      | inl some ↦ absurd (let p : 2 ^ suc a ≡ 2 ^ a * 2 = pow-suc 2 a in let p2 : 2 ^ suc (suc a) ≡ 2 ^ suc a * 2 = pow-suc 2 (suc a) in let q = pow_mono (omega arith) in let r = db.most some in let s = da.above in omega arith)
+      | inl some ↦ absurd (let p : 2 ^ suc a ≡ 2 ^ a * 2 = pow-suc 2 a in let p2 : 2 ^ suc (suc a) ≡ 2 ^ suc a * 2 = pow-suc 2 (suc a) in let q = pow_mono {i = suc (suc a)} {j = b} (omega arith) in let r = db.most some in let s = da.above in omega arith)
     ]
   ]
 

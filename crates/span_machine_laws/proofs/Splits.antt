@@ -91,7 +91,7 @@ split_place (c ∷ cs) (suc slot) lower upper b (suc i) h = elim (split_place cs
   | inl e ↦ inl (ap suc e.0, e.1)
   | inr rest ↦ (elim rest [
     | inl e ↦ inr (inl (ap suc e.0, e.1))
-    | inr e ↦ inr (inr (e.0, λ same. e.1 (suc_inj same)))
+    | inr e ↦ inr (inr (e.0, λ same. e.1 (suc_inj {m = i} {n = slot} same)))
   ])
 ]
 

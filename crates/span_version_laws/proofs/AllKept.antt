@@ -83,7 +83,7 @@ set_place (y ∷ ys) zero (suc j) v x h = inr (h, λ e. cc)
 set_place (y ∷ ys) (suc i) zero v x h = inr (h, λ e. cc)
 set_place (y ∷ ys) (suc i) (suc j) v x h = elim (set_place ys i j v x h) [
   | inl e ↦ inl (ap suc e.0, e.1)
-  | inr e ↦ inr (e.0, λ same. e.1 (suc_inj same))
+  | inr e ↦ inr (e.0, λ same. e.1 (suc_inj {m = j} {n = i} same))
 ]
 
 pub all_kept_set : (schema : List Table) (m n : Machine) (shards : List (List KeyVersions)) (i : ℕ) (ds : List KeyVersions) → length n.slots ≡ length m.slots → AreKept schema n i ds
@@ -117,7 +117,7 @@ cut_place (y ∷ ys) (suc i) (suc j) v w x h = elim (cut_place ys i j v w x h) [
   | inl e ↦ inl (ap suc e.0, e.1)
   | inr other ↦ (elim other [
     | inl e ↦ inr (inl (ap suc e.0, e.1))
-    | inr e ↦ inr (inr (e.0, λ same. e.1 (suc_inj same)))
+    | inr e ↦ inr (inr (e.0, λ same. e.1 (suc_inj {m = j} {n = i} same)))
   ])
 ]
 
