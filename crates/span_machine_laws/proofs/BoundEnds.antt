@@ -23,7 +23,12 @@ use Rattle.span_keycode.proofs.Codes.{decides-column, plain_bytes}
 use Rattle.span_keycode.proofs.RangeLaws.{mark, IsAtBound, code_less, code_equal, code_greater, after_less, after_equal, after_greater, mark_less, mark_more, top}
 use Rattle.span_keycode.proofs.RootRows.{RootSplit, root_split}
 use Rattle.span_keycode.proofs.FamilyRanges.{turned_bytes, null_first}
-use Rattle.span_machine_laws.proofs.Ends.{first_less}
+
+-- bytes whose first differ are below one another by these alone
+pub first_less : (t u : ℕ) (xs ys zs : List ℕ) (o : Ordering) → nat_cmp t u ≡ o → o ≢ Equal → is_lt (byte_order (t ∷ xs) (u ∷ zs)) ≡ is_lt (byte_order (t ∷ ys) (u ∷ zs))
+first_less t u xs ys zs Less e off = ap (λ (o : Ordering). is_lt (ordering_then o (byte_order xs zs))) e ∙ sym (ap (λ (o : Ordering). is_lt (ordering_then o (byte_order ys zs))) e)
+first_less t u xs ys zs Equal e off = absurd (off refl)
+first_less t u xs ys zs Greater e off = ap (λ (o : Ordering). is_lt (ordering_then o (byte_order xs zs))) e ∙ sym (ap (λ (o : Ordering). is_lt (ordering_then o (byte_order ys zs))) e)
 
 -- ---- a key whose first column's coding is k, whatever follows
 

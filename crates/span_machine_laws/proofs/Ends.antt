@@ -25,7 +25,7 @@ use Rattle.span_maderows.proofs.Bytes.{begins_front, front_begins}
 use Rattle.span_shard.specs.Rows.{code_of}
 use Rattle.span_leaves.proofs.Bounding.{fits_type}
 use Rattle.span_machine.specs.Slots.{IsCodedRoot, root_code}
-use Rattle.span_machine_laws.proofs.BoundEnds.{below_start, below_end}
+use Rattle.span_machine_laws.proofs.BoundEnds.{below_start, below_end, first_less}
 use Rattle.span_machine_laws.proofs.CodedRoots.{first_and_rest, coded_root_of}
 use Rattle.span_machine_laws.proofs.FirstColumns.{first_of_family}
 use Rattle.span_machine_laws.proofs.Pieces.{IsBoundEnd, IsEnd, AreEnds}
@@ -47,12 +47,6 @@ less_by p q o d rest =
     ap (λ (l : List ℕ). is_lt (byte_order (p ++ rest) l)) (sym (append-nil q)) ∙ ap is_lt (d.at rest [])
     ∙ then_less o rest
     ∙ sym (ap is_lt (d.at [] [])) ∙ ap (λ (l : List ℕ). is_lt (byte_order l (q ++ []))) (append-nil p) ∙ ap (λ (l : List ℕ). is_lt (byte_order p l)) (append-nil q)
-
--- bytes whose first differ are below one another by these alone
-pub first_less : (t u : ℕ) (xs ys zs : List ℕ) (o : Ordering) → nat_cmp t u ≡ o → o ≢ Equal → is_lt (byte_order (t ∷ xs) (u ∷ zs)) ≡ is_lt (byte_order (t ∷ ys) (u ∷ zs))
-first_less t u xs ys zs Less e off = ap (λ (o : Ordering). is_lt (ordering_then o (byte_order xs zs))) e ∙ sym (ap (λ (o : Ordering). is_lt (ordering_then o (byte_order ys zs))) e)
-first_less t u xs ys zs Equal e off = absurd (off refl)
-first_less t u xs ys zs Greater e off = ap (λ (o : Ordering). is_lt (ordering_then o (byte_order xs zs))) e ∙ sym (ap (λ (o : Ordering). is_lt (ordering_then o (byte_order ys zs))) e)
 
 -- ---- codings of root rows
 
