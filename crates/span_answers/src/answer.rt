@@ -9,7 +9,7 @@ ghost use Rattle.span_command.specs.Device.{risen};
 ghost use Rattle.span_answers.specs.declared.answer.TheConstants.{MOST_KEPT};
 
 use itoa::Buffer;
-use span_command::device::Output;
+use span_command::device::OutputDevice;
 use span_core::database::Core;
 use span_core::slot::SlotView;
 use span_core::{Refusal, Reply};
@@ -72,7 +72,7 @@ impl Answers {
     }
 
     /// Writes the answers out. `OutputFault` where the device failed: then a beginning of them was written.
-    pub fn write_to<O: Output>(&mut self, output: &mut O) -> Result<(), Refusal>
+    pub fn write_to<O: OutputDevice>(&mut self, output: &mut O) -> Result<(), Refusal>
         ensures written { OnOk result
             ((self.new ≡ []) × Appends (O.written output.old) (O.written output.new) self.old) }
         ensures ok { OnOk result (O.failures output.new ≡ O.failures output.old) }
@@ -349,7 +349,7 @@ fn hex_digit(half: u8) -> u8
 
 /// Writes all the bytes. `OutputFault` where the device failed: then a front of them was written.
 #[tactic(auto, using(crate::proofs::Written::wrote_none, crate::proofs::Written::wrote_rest, crate::proofs::Written::wrote_to_end))]
-fn write_all<O: Output>(bytes: &[u8], output: &mut O) -> Result<(), Refusal>
+fn write_all<O: OutputDevice>(bytes: &[u8], output: &mut O) -> Result<(), Refusal>
     ensures written { OnOk result (Appends (O.written output.old) (O.written output.new) bytes.now) }
     ensures ok { OnOk result (O.failures output.new ≡ O.failures output.old) }
     ensures err { IfErr result

@@ -18,7 +18,7 @@ pub fn limit_is_stated()
 {}
 
 /// What a script is read from.
-pub trait Input {
+pub trait InputDevice {
     // How often a read failed.
     ghost failures: { Self → ℕ };
 
@@ -35,7 +35,7 @@ pub trait Input {
 }
 
 /// What answers are written to.
-pub trait Output {
+pub trait OutputDevice {
     // How often a write failed.
     ghost failures: { Self → ℕ };
 
@@ -81,7 +81,7 @@ impl<R> Counted<R> {
     }
 }
 
-impl<R: Read> Input for Counted<R> {
+impl<R: Read> InputDevice for Counted<R> {
     ghost failures = { λ c. c.failures };
 
     ghost remaining = { λ c. remaining_input c.bytes (R.remaining c.device) };
@@ -99,7 +99,7 @@ impl<R: Read> Input for Counted<R> {
     }
 }
 
-impl<W: Write> Output for Counted<W> {
+impl<W: Write> OutputDevice for Counted<W> {
     ghost failures = { λ c. c.failures };
 
     ghost written = { λ c. W.contents c.device };

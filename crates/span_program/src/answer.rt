@@ -9,7 +9,7 @@ use span_core::database::Core;
 use span_core::{Refusal, Schema};
 use span_schematext::text::parse_schema;
 use span_script::run::run as run_script;
-use span_script::{Input, Output, Reports};
+use span_script::{InputDevice, OutputDevice, Reports};
 use std::alloc::Global;
 use std::mem;
 
@@ -31,7 +31,7 @@ pub trait SchemaReports {
 ///
 /// `Fault::Memory` where memory runs out for the schema, for a line or an answer, `Fault::Input` and `Fault::Output` where a device failed:
 /// what was written is then a beginning of the answers.
-pub fn answer<I: Input, O: Output, R: Reports + SchemaReports>(
+pub fn answer<I: InputDevice, O: OutputDevice, R: Reports + SchemaReports>(
     alloc: Global,
     schema: &[u8],
     input: &mut I,
@@ -74,7 +74,7 @@ pub fn read_schema(alloc: Global, bytes: &[u8]) -> Result<Schema, Refusal>
 
 /// Runs a script over a new database of the schema. The database is not released: the process ends next, and its memory goes back as a whole,
 /// where the release of each row takes a twentieth of a load's time.
-fn answer_script<I: Input, O: Output, R: Reports>(
+fn answer_script<I: InputDevice, O: OutputDevice, R: Reports>(
     alloc: Global,
     schema: Schema,
     input: &mut I,
@@ -93,7 +93,11 @@ fn answer_script<I: Input, O: Output, R: Reports>(
 }
 
 /// Writes the answer to a refused schema. `OutputFault` where the device failed, else `OutOfMemory`.
-fn refuse_schema<O: Output>(alloc: Global, why: Refusal, output: &mut O) -> Result<(), Refusal>
+fn refuse_schema<O: OutputDevice>(
+    alloc: Global,
+    why: Refusal,
+    output: &mut O,
+) -> Result<(), Refusal>
     ensures ok { OnOk result (O.failures output.new ≡ O.failures output.old) }
     ensures err { IfErr result (λ why. (why ≡ Refusal.OutOfMemory)
         ⊎ ((why ≡ Refusal.OutputFault) × (O.failures output.new ≡ risen (O.failures output.old)))) }

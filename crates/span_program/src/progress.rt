@@ -3,7 +3,7 @@ ghost use Rattle.std.specs.Prelude.{◌≡◌, ◌==◌, IfSome, count_by, lengt
 ghost use Rattle.span_program.specs.Counts.{counted};
 
 use span_core::Refusal;
-use span_script::Input;
+use span_script::InputDevice;
 use std::fmt;
 use std::rt::Clock;
 use std::time::{Duration, Instant};
@@ -147,7 +147,7 @@ impl<'a, I, R> Watched<'a, I, R> {
     }
 }
 
-impl<I: Input, R: Eprint + Clock> Input for Watched<'_, I, R> {
+impl<I: InputDevice, R: Eprint + Clock> InputDevice for Watched<'_, I, R> {
     ghost failures = { λ w. I.failures w.input };
 
     ghost remaining = { λ w. I.remaining w.input };

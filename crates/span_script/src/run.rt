@@ -8,7 +8,7 @@ ghost use Rattle.span_script.specs.Scripts.{IsAnswerText};
 use super::lines::{finish, take_line};
 use super::report::{Reports, query_of};
 use span_answers::answer::Answers;
-use span_command::device::{Input, Output};
+use span_command::device::{InputDevice, OutputDevice};
 use span_command::line::{Line, Lines};
 use span_core::database::Core;
 use span_steps::refused::Refused;
@@ -22,7 +22,7 @@ use std::alloc::Global;
 /// A refused command is answered `refused N` and reported, and the script goes on. `InputFault` and `OutputFault` where
 /// a device failed, `OutOfMemory` where memory runs out for a line or an answer: what was written is then a beginning
 /// of the answers to the lines that were read.
-pub fn run<I: Input, O: Output, R: Reports>(
+pub fn run<I: InputDevice, O: OutputDevice, R: Reports>(
     alloc: Global,
     input: &mut I,
     output: &mut O,
@@ -62,7 +62,7 @@ pub fn run<I: Input, O: Output, R: Reports>(
 
 /// Takes the next line, for which more of the script is read where none is ready; what was answered is written before.
 /// False where the script has ended.
-fn take_next<I: Input, O: Output>(
+fn take_next<I: InputDevice, O: OutputDevice>(
     lines: &mut Lines,
     input: &mut I,
     answers: &mut Answers,
@@ -107,7 +107,7 @@ fn report_one<R: Reports>(reports: &mut R, refused: Refused, line: Option<Line<'
 }
 
 /// Writes what was answered, where it is time to.
-fn write_many<O: Output>(answers: &mut Answers, output: &mut O) -> Result<(), Refusal>
+fn write_many<O: OutputDevice>(answers: &mut Answers, output: &mut O) -> Result<(), Refusal>
     ensures written { OnOk result (Keeps
         (append_known (O.written output.old) answers.old)
         (append_known (O.written output.new) answers.new)) }

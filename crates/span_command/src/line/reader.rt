@@ -6,7 +6,7 @@ ghost use Rattle.span_command.specs.Device.{risen};
 ghost use Rattle.span_command.specs.Unread.{held, Advances, HoldsSame, IsReady, IsStillToCome, IsTaken, ReadsAs, TakesNext};
 
 use super::{LONGEST_LINE, Line, Lines};
-use crate::device::Input;
+use crate::device::InputDevice;
 use memchr::memchr;
 use span_value::refusal::Refusal;
 use std::alloc::Global;
@@ -58,7 +58,7 @@ impl Lines {
 
     /// Reads once more: more bytes are held, or the input has ended. `InputFault` where the device failed, `OutOfMemory` where the buffer
     /// can't grow; what was held is then held still.
-    pub fn read<I: Input>(&mut self, input: &mut I) -> Result<(), Refusal>
+    pub fn read<I: InputDevice>(&mut self, input: &mut I) -> Result<(), Refusal>
         ensures to_come { (text : List ℕ)
             → IsStillToCome self.old (I.remaining input.old) text
             → IsStillToCome self.new (I.remaining input.new) text }
@@ -174,7 +174,11 @@ impl Lines {
 }
 
 /// Reads once into the buffer, after a front that stays.
-fn read_after<I: Input>(input: &mut I, buffer: &mut Vec<u8>, front: usize) -> Result<usize, Refusal>
+fn read_after<I: InputDevice>(
+    input: &mut I,
+    buffer: &mut Vec<u8>,
+    front: usize,
+) -> Result<usize, Refusal>
     requires { front < vec_len buffer.old }
     ensures front { take front buffer.new.items ≡ take front buffer.old.items }
     ensures fits { IfOk result (λ n. front + n ≤ vec_len buffer.new) }
@@ -190,7 +194,7 @@ fn read_after<I: Input>(input: &mut I, buffer: &mut Vec<u8>, front: usize) -> Re
 }
 
 /// Reads once into the bytes after a front that stays.
-fn read_at<I: Input>(input: &mut I, buffer: &mut [u8], front: usize) -> Result<usize, Refusal>
+fn read_at<I: InputDevice>(input: &mut I, buffer: &mut [u8], front: usize) -> Result<usize, Refusal>
     requires { front < length buffer.old }
     ensures front { take front buffer.new ≡ take front buffer.old }
     ensures fits { IfOk result (λ n. front + n ≤ length buffer.new) }

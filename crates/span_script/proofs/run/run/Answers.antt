@@ -22,7 +22,7 @@ loop-preserved g c =
       so_far = λ script known.
           let so = before.so_far script known in
           one_so_far _ _ script _ _ _ _ _ _ _ _ _ _ _ _ _ _ _ _ _ _ so
-          (if_more c.take_next.new.lines (g.I.Input.remaining c.take_next.new.input) so.rest c.in_ok-take_next.field-0 more (c.in_ok-take_next.ensures.next so.rest so.to_come)) c.line-line.ensures
+          (if_more c.take_next.new.lines (g.I.InputDevice.remaining c.take_next.new.input) so.rest c.in_ok-take_next.field-0 more (c.in_ok-take_next.ensures.next so.rest so.to_come)) c.line-line.ensures
           c.in_ok-take_next.ensures.written before.same_schema c.in_ok-refused-2.ensures.exact c.in_ok-write_many.ensures.written;
     }
 
@@ -32,6 +32,6 @@ returns-then-not-branch-clause-answered g c =
     on_ok_weaker c.write_to.result (λ wrote script known.
     let so = c.loop.invariant.so_far script known in
     all_answered _ _ script _ _ _ _ _ _ _ _ _ _ _ so
-    (if_no_more c.take_next.new.lines (g.I.Input.remaining c.take_next.new.input) so.rest c.in_ok-take_next.field-0 ended (c.in_ok-take_next.ensures.next so.rest so.to_come))
+    (if_no_more c.take_next.new.lines (g.I.InputDevice.remaining c.take_next.new.input) so.rest c.in_ok-take_next.field-0 ended (c.in_ok-take_next.ensures.next so.rest so.to_come))
     c.in_ok-take_next.ensures.written c.in_ok-refused.ensures.exact wrote.1)
     c.write_to.ensures.written

@@ -27,9 +27,9 @@ invariant_of-self g c =
 pub returns-in_err-count-clause-to_come : goal.returns-in_err-count-clause-to_come
 returns-in_err-count-clause-to_come g c =
     let lines = c.reserve_capacity.new.self in
-    let before = g.I.Input.remaining c.args.input.now in
+    let before = g.I.InputDevice.remaining c.args.input.now in
     λ text stood.
-    failed lines.is_cut lines.has_ended lines.buffer.items c.read_after.new.buffer.items lines.start lines.end text before (g.I.Input.remaining c.read_after.new.input)
+    failed lines.is_cut lines.has_ended lines.buffer.items c.read_after.new.buffer.items lines.start lines.end text before (g.I.InputDevice.remaining c.read_after.new.input)
     c.read_after.ensures.front c.in_err-count.ensures.kept
     (with_capacity c.args.self.now c.let_go.new.self c.move_to_front.new.self lines before text c.let_go.ensures c.move_to_front.ensures c.reserve_capacity.ensures.same stood)
 
@@ -49,16 +49,16 @@ invariant_of-self-then-count-eq0 g c =
 pub returns-then-count-eq0-clause-to_come : goal.returns-then-count-eq0-clause-to_come
 returns-then-count-eq0-clause-to_come g c =
     let lines = c.reserve_capacity.new.self in
-    let before = g.I.Input.remaining c.args.input.now in
+    let before = g.I.InputDevice.remaining c.args.input.now in
     λ text stood.
     came lines.is_cut lines.has_ended true lines.buffer.items c.read_after.new.buffer.items lines.start lines.end c.in_ok-count.count lines.end text before
-    (g.I.Input.remaining c.read_after.new.input) c.read_after.ensures.front (omega (arith, lines.in_order, lines.searched_within)) (omega (arith, c.if-count-eq0.true))
+    (g.I.InputDevice.remaining c.read_after.new.input) c.read_after.ensures.front (omega (arith, lines.in_order, lines.searched_within)) (omega (arith, c.if-count-eq0.true))
     c.in_ok-count.ensures.bytes (λ ended. inl (c.in_ok-count.ensures.end c.if-count-eq0.true))
     (with_capacity c.args.self.now c.let_go.new.self c.move_to_front.new.self lines before text c.let_go.ensures c.move_to_front.ensures c.reserve_capacity.ensures.same stood)
 
 pub returns-then-count-eq0-clause-advances : goal.returns-then-count-eq0-clause-advances
 returns-then-count-eq0-clause-advances g c =
-    ends (g.I.Input.remaining c.args.input.now) (g.I.Input.remaining c.read_after.new.input)
+    ends (g.I.InputDevice.remaining c.args.input.now) (g.I.InputDevice.remaining c.read_after.new.input)
     (take c.in_ok-count.count (drop c.reserve_capacity.new.self.end c.read_after.new.buffer.items)) c.in_ok-count.ensures.bytes
 
 pub invariant_of-self-2 : goal.invariant_of-self-2
@@ -76,10 +76,10 @@ invariant_of-self-2 g c =
 pub returns-clause-to_come : goal.returns-clause-to_come
 returns-clause-to_come g c =
     let lines = c.reserve_capacity.new.self in
-    let before = g.I.Input.remaining c.args.input.now in
+    let before = g.I.InputDevice.remaining c.args.input.now in
     λ text stood.
     came lines.is_cut lines.has_ended lines.has_ended lines.buffer.items c.read_after.new.buffer.items lines.start lines.end c.in_ok-count.count (lines.end + c.in_ok-count.count) text before
-    (g.I.Input.remaining c.read_after.new.input) c.read_after.ensures.front (omega (arith, lines.in_order, lines.searched_within)) refl
+    (g.I.InputDevice.remaining c.read_after.new.input) c.read_after.ensures.front (omega (arith, lines.in_order, lines.searched_within)) refl
     c.in_ok-count.ensures.bytes (λ ended. inr ended)
     (with_capacity c.args.self.now c.let_go.new.self c.move_to_front.new.self lines before text c.let_go.ensures c.move_to_front.ensures c.reserve_capacity.ensures.same stood)
 
@@ -90,5 +90,5 @@ returns-clause-advances g c =
     let count = c.in_ok-count.count in
     let enough : count ≤ length (drop lines.end buffer.items) = omega (arith, length-drop lines.end buffer.items, c.in_ok-count.ensures.fits, buffer.ok) in
     let some : 0 < length (take count (drop lines.end buffer.items)) = omega (arith, length-take-le count (drop lines.end buffer.items) enough, c.if-count-eq0.false) in
-    goes_on lines.has_ended (g.I.Input.remaining c.args.input.now) (g.I.Input.remaining c.read_after.new.input)
+    goes_on lines.has_ended (g.I.InputDevice.remaining c.args.input.now) (g.I.InputDevice.remaining c.read_after.new.input)
     (take count (drop lines.end buffer.items)) c.in_ok-count.ensures.bytes some
