@@ -1,7 +1,7 @@
 //! Tests of sessions, each of them one call: what it does is in span_session_checks and span_thread_checks.
 //!
-//! A crate with tests is a program: what it makes of the types below it is proved once more for it, and it is compiled. So all tests of sessions
-//! are here, and nothing else is.
+//! A crate with tests is a program, which is compiled: so there is one for all tests of sessions, and nothing else is in
+//! it. That the types below are dropped safely is proved in each of the two libraries once more.
 #![tactic(auto)]
 
 #[cfg(test)]
