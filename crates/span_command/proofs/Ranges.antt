@@ -81,10 +81,10 @@ cut_at_lf xs s m e o l w ten =
     ∙ ap (λ (w : List ℕ). slice_range xs s m ++ w) (first_byte xs m e l w ∙ ap (λ (b : ℕ). b ∷ slice_range xs (m + 1) e) ten)
 
 -- an LF that is in a list is one of its bytes
-pub stands_in : (front back : List ℕ) → Contains (front ++ 10 ∷ back) 10
-stands_in [] back = (zero, omega arith, refl)
-stands_in (x ∷ front) back =
-    let later = stands_in front back in
+pub occurs_in : (front back : List ℕ) → Contains (front ++ 10 ∷ back) 10
+occurs_in [] back = (zero, omega arith, refl)
+occurs_in (x ∷ front) back =
+    let later = occurs_in front back in
     (suc later.0, omega (arith, later.1), later.2)
 
 -- an LF is in no list that has none

@@ -4,7 +4,7 @@ use Rattle.std.specs.Io.KnownBytes.{Consumes, Keeps, IsAtEnd}
 use Rattle.span_command.specs.declared.line.Lines.{Lines}
 use Rattle.span_command.specs.Texts.{HasNoLf, NextLine}
 use Rattle.span_command.specs.Unread.{held, Advances, TakesNext, IsTooLong, IsGone, HasParts, IsStillToCome, IsKept, HoldsSame}
-use Rattle.span_command.proofs.Ranges.{none_in_both, joined, same_front, cut_at_lf, stands_in, not_in}
+use Rattle.span_command.proofs.Ranges.{none_in_both, joined, same_front, cut_at_lf, occurs_in, not_in}
 
 -- what a step does to the parts of the text it does for any bytes that are known to be still to come
 pub each : (known : Option (List ℕ)) (P Q : List ℕ → Type 0) → ((rest : List ℕ) → P rest → Q rest) → IsSomeAnd known P → IsSomeAnd known Q
@@ -68,7 +68,7 @@ remains is_cut ended held text (Some xs) (Some ys) kept s = subst (λ (rest : Li
 pub came : (is_cut ended ended_now : Bool) (xs ys : List ℕ) (s e n f : ℕ) (text : List ℕ) (old new : Option (List ℕ)) → take e ys ≡ take e xs → s ≤ e → f ≡ e + n
     → Consumes old new (take n (drop e ys)) → (ended_now ≡ true → IsAtEnd new ⊎ (ended ≡ true))
     → IsSomeAnd old (λ rest. HasParts is_cut ended (slice_range xs s e) rest text) → IsSomeAnd new (λ rest. HasParts is_cut ended_now (slice_range ys s f) rest text)
-came is_cut ended ended_now xs ys s e n f text old new front o place bytes last stood =
+came is_cut ended ended_now xs ys s e n f text old new front o place bytes last was_to_come =
     let long : (e + n) - e ≡ n = omega arith in
     let parts : slice_range ys s f ≡ slice_range xs s e ++ take n (drop e ys) =
     ap (slice_range ys s) place
@@ -76,14 +76,14 @@ came is_cut ended ended_now xs ys s e n f text old new front o place bytes last 
     ∙ ap (λ (w : List ℕ). w ++ slice_range ys e (e + n)) (same_front ys xs e s e front (omega arith))
     ∙ ap (λ (k : ℕ). slice_range xs s e ++ take k (drop e ys)) long in
     subst (λ (held : List ℕ). IsSomeAnd new (λ rest. HasParts is_cut ended_now held rest text)) (sym parts)
-    (grows is_cut ended ended_now (slice_range xs s e) (take n (drop e ys)) text old new bytes last stood)
+    (grows is_cut ended ended_now (slice_range xs s e) (take n (drop e ys)) text old new bytes last was_to_come)
 
 -- a read that failed took nothing
 pub failed : (is_cut ended : Bool) (xs ys : List ℕ) (s e : ℕ) (text : List ℕ) (old new : Option (List ℕ)) → take e ys ≡ take e xs → Keeps old new
     → IsSomeAnd old (λ rest. HasParts is_cut ended (slice_range xs s e) rest text) → IsSomeAnd new (λ rest. HasParts is_cut ended (slice_range ys s e) rest text)
-failed is_cut ended xs ys s e text old new front kept stood =
+failed is_cut ended xs ys s e text old new front kept was_to_come =
     subst (λ (held : List ℕ). IsSomeAnd new (λ rest. HasParts is_cut ended held rest text)) (same_front xs ys e s e (sym front) (omega arith))
-    (remains is_cut ended (slice_range xs s e) text old new kept stood)
+    (remains is_cut ended (slice_range xs s e) text old new kept was_to_come)
 
 -- the searched front of a buffer stays as it was
 pub still_none : (xs ys : List ℕ) (s m e : ℕ) → take e ys ≡ take e xs → m ≤ e → HasNoLf (slice_range xs s m) → HasNoLf (slice_range ys s m)
@@ -192,7 +192,7 @@ none_held lines h =
 pub lf_held : (old new : Lines) → HoldsSame old new → new.searched < new.end → slice_index new.buffer.items new.searched ≡ 10 → Contains (held old) 10
 lf_held old new same l ten =
     subst (λ (w : List ℕ). Contains w 10) (sym (cut_there new l ten) ∙ same.held)
-    (stands_in (slice_range new.buffer.items new.start new.searched) (slice_range new.buffer.items (new.searched + 1) new.end))
+    (occurs_in (slice_range new.buffer.items new.start new.searched) (slice_range new.buffer.items (new.searched + 1) new.end))
 
 -- none is held where none was found
 pub no_lf_held : (old new : Lines) → HoldsSame old new → new.end ≤ new.searched → Contains (held old) 10 → ⊥

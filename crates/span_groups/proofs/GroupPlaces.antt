@@ -17,10 +17,10 @@ pub record IsGroupPlace (g : Grouping) (row : Row) (keys new : List Row) (states
   pub within : at < length new
 
 module _ (g : Grouping) (row : Row) (keys new : List Row) (states : List AggregateState) (step : AreInStep g keys states) (is : new ≡ with_new keys (columns_at g.keys row))
-    (at : ℕ) (place : at ≡ place_of keys (columns_at g.keys row)) (is_new : Bool) (told : is_new ≡ not (contains_row keys (columns_at g.keys row))) where
+    (at : ℕ) (place : at ≡ place_of keys (columns_at g.keys row)) (is_new : Bool) (is_right : is_new ≡ not (contains_row keys (columns_at g.keys row))) where
   pub place_of_known : is_new ≡ false → IsGroupPlace g row keys new states states at
   place_of_known stays =
-      let known : contains_row keys (columns_at g.keys row) ≡ true = known_of is_new (contains_row keys (columns_at g.keys row)) told stays in
+      let known : contains_row keys (columns_at g.keys row) ≡ true = known_of is_new (contains_row keys (columns_at g.keys row)) is_right stays in
       record {
         step = step_known g row keys new states step is at place known;
         place = place_has_group g row keys new states step is at place known;
@@ -29,7 +29,7 @@ module _ (g : Grouping) (row : Row) (keys new : List Row) (states : List Aggrega
 
   pub place_of_new : is_new ≡ true → (now : List AggregateState) → AreAdded g.aggregates states now → IsGroupPlace g row keys new states now at
   place_of_new comes now added =
-      let none : contains_row keys (columns_at g.keys row) ≡ false = new_of is_new (contains_row keys (columns_at g.keys row)) told comes in
+      let none : contains_row keys (columns_at g.keys row) ≡ false = new_of is_new (contains_row keys (columns_at g.keys row)) is_right comes in
       record {
         step = step_new g row keys new states step is at place none now added;
         place = place_new_group g row keys new states step is at place none now added;

@@ -128,8 +128,8 @@ to_read_result f (Read x k) = Ok (f x, k)
 to_read_result f (Wrong k) = Err (fault.Syntax (length k))
 to_read_result f (Deep k) = Err (fault.TooDeep (length k))
 
--- what a function returned whose cursor stood at `before`, and now stands at `after`: what the phrase reads, unless memory
--- ran out; after an error nothing is said of the cursor
+-- what a function returned whose cursor was at `before`, and now is at `after`: what the phrase reads, unless memory ran
+-- out; after an error nothing is stated of the cursor
 abbrev pub Gives : {A : Type 0} → Phrase A → Bor (List Lexeme) → Bor (List Lexeme) → Result A SyntaxError → Type 0
 Gives p before after (Ok x) = p.read before.now ≡ Ok (x, after.now)
 Gives p before after (Err e) = e ≢ fault.OutOfMemory → p.read before.now ≡ Err e

@@ -77,9 +77,9 @@ any_at p (x ∷ xs) y ys e = either (p x) refl (any_at p xs y ys e)
     either true is h = rw is refl
     either false is h = rw is h
 
-stands_twice : (before : List ℕ) (place : ℕ) (rest : List ℕ) → list_any (λ other. other == place) before ≡ true → NoneTwice (before ++ place ∷ rest) → ⊥
-stands_twice [] place rest had none = cc had
-stands_twice (first ∷ before) place rest had none = either (first == place) refl (λ h. stands_twice before place rest h none.1)
+occurs_twice : (before : List ℕ) (place : ℕ) (rest : List ℕ) → list_any (λ other. other == place) before ≡ true → NoneTwice (before ++ place ∷ rest) → ⊥
+occurs_twice [] place rest had none = cc had
+occurs_twice (first ∷ before) place rest had none = either (first == place) refl (λ h. occurs_twice before place rest h none.1)
   where
     either : (b : Bool) → (first == place) ≡ b → (list_any (λ other. other == place) before ≡ true → ⊥) → ⊥
     either true is later =
@@ -103,4 +103,4 @@ no_place columns names before rest name others h cut none places named = by none
     by (inl unnamed) = cc (unnamed, at.2)
     by (inr had) =
         let same : had.0 ≡ at.0 = cc (had.1, at.2) in
-        stands_twice before at.0 at.1 (rw same at had.2) (rw at.3 at named.1)
+        occurs_twice before at.0 at.1 (rw same at had.2) (rw at.3 at named.1)

@@ -52,6 +52,6 @@ unsorted [] = refl
 unsorted (row ∷ rows) = ap (insert_sorted (comes_before []) row) (unsorted rows) ∙ in_front row rows
 
 -- without keys nothing is sorted
-pub as_they_stood : (keys : List SortKey) (rows : List Row) → length keys ≡ 0 → sorted keys rows ≡ rows
-as_they_stood [] rows e = unsorted rows
-as_they_stood (key ∷ keys) rows e = absurd (omega arith)
+pub sorted_by_none : (keys : List SortKey) (rows : List Row) → length keys ≡ 0 → sorted keys rows ≡ rows
+sorted_by_none [] rows e = unsorted rows
+sorted_by_none (key ∷ keys) rows e = absurd (omega arith)

@@ -4,13 +4,13 @@ use Rattle.span_query.specs.Sorting.{sorted}
 use Rattle.span_sorting.specs.Codes.{IsCodedAs, uncoded}
 use Rattle.span_rows.specs.LentRows.{lent_rows}
 use Rattle.span_sorting.proofs.CodedRows.{sorted_by_codes}
-use Rattle.span_sorting.proofs.RowOrder.{as_they_stood}
+use Rattle.span_sorting.proofs.RowOrder.{sorted_by_none}
 use Rattle.span_sorting.proofs.sort.sort_rows.Goals as goal
 
 pub returns-then-is_empty : goal.returns-then-is_empty
 returns-then-is_empty c =
     let none : length c.args.keys.now ≡ 0 = search rules in
-    sym (as_they_stood c.args.keys.now (lent_rows c.args.rows.items) none)
+    sym (sorted_by_none c.args.keys.now (lent_rows c.args.rows.items) none)
 
 pub returns : goal.returns
 returns c =

@@ -8,8 +8,8 @@ use Rattle.span_command.proofs.line.Lines.read.Goals as goal
 with_capacity : (old less front wide : Lines) (known : Option (List ℕ)) (text : List ℕ)
     → ((known : Option (List ℕ)) (text : List ℕ) → IsStillToCome old known text → IsStillToCome less known text) → HoldsSame less front → HoldsSame front wide
     → IsStillToCome old known text → IsStillToCome wide known text
-with_capacity old less front wide known text gone moved grown stood =
-    stays front wide grown known text (stays less front moved known text (gone known text stood))
+with_capacity old less front wide known text gone moved grown was_to_come =
+    stays front wide grown known text (stays less front moved known text (gone known text was_to_come))
 
 pub invariant_of-self : goal.invariant_of-self
 invariant_of-self g c =
@@ -28,10 +28,10 @@ pub returns-in_err-count-clause-to_come : goal.returns-in_err-count-clause-to_co
 returns-in_err-count-clause-to_come g c =
     let lines = c.reserve_capacity.new.self in
     let before = g.I.InputDevice.remaining c.args.input.now in
-    λ text stood.
+    λ text was_to_come.
     failed lines.is_cut lines.has_ended lines.buffer.items c.read_after.new.buffer.items lines.start lines.end text before (g.I.InputDevice.remaining c.read_after.new.input)
     c.read_after.ensures.front c.in_err-count.ensures.kept
-    (with_capacity c.args.self.now c.let_go.new.self c.move_to_front.new.self lines before text c.let_go.ensures c.move_to_front.ensures c.reserve_capacity.ensures.same stood)
+    (with_capacity c.args.self.now c.let_go.new.self c.move_to_front.new.self lines before text c.let_go.ensures c.move_to_front.ensures c.reserve_capacity.ensures.same was_to_come)
 
 pub invariant_of-self-then-count-eq0 : goal.invariant_of-self-then-count-eq0
 invariant_of-self-then-count-eq0 g c =
@@ -50,11 +50,11 @@ pub returns-then-count-eq0-clause-to_come : goal.returns-then-count-eq0-clause-t
 returns-then-count-eq0-clause-to_come g c =
     let lines = c.reserve_capacity.new.self in
     let before = g.I.InputDevice.remaining c.args.input.now in
-    λ text stood.
+    λ text was_to_come.
     came lines.is_cut lines.has_ended true lines.buffer.items c.read_after.new.buffer.items lines.start lines.end c.in_ok-count.count lines.end text before
     (g.I.InputDevice.remaining c.read_after.new.input) c.read_after.ensures.front (omega (arith, lines.in_order, lines.searched_within)) (omega (arith, c.if-count-eq0.true))
     c.in_ok-count.ensures.bytes (λ ended. inl (c.in_ok-count.ensures.end c.if-count-eq0.true))
-    (with_capacity c.args.self.now c.let_go.new.self c.move_to_front.new.self lines before text c.let_go.ensures c.move_to_front.ensures c.reserve_capacity.ensures.same stood)
+    (with_capacity c.args.self.now c.let_go.new.self c.move_to_front.new.self lines before text c.let_go.ensures c.move_to_front.ensures c.reserve_capacity.ensures.same was_to_come)
 
 pub returns-then-count-eq0-clause-advances : goal.returns-then-count-eq0-clause-advances
 returns-then-count-eq0-clause-advances g c =
@@ -77,11 +77,11 @@ pub returns-clause-to_come : goal.returns-clause-to_come
 returns-clause-to_come g c =
     let lines = c.reserve_capacity.new.self in
     let before = g.I.InputDevice.remaining c.args.input.now in
-    λ text stood.
+    λ text was_to_come.
     came lines.is_cut lines.has_ended lines.has_ended lines.buffer.items c.read_after.new.buffer.items lines.start lines.end c.in_ok-count.count (lines.end + c.in_ok-count.count) text before
     (g.I.InputDevice.remaining c.read_after.new.input) c.read_after.ensures.front (omega (arith, lines.in_order, lines.searched_within)) refl
     c.in_ok-count.ensures.bytes (λ ended. inr ended)
-    (with_capacity c.args.self.now c.let_go.new.self c.move_to_front.new.self lines before text c.let_go.ensures c.move_to_front.ensures c.reserve_capacity.ensures.same stood)
+    (with_capacity c.args.self.now c.let_go.new.self c.move_to_front.new.self lines before text c.let_go.ensures c.move_to_front.ensures c.reserve_capacity.ensures.same was_to_come)
 
 pub returns-clause-advances : goal.returns-clause-advances
 returns-clause-advances g c =

@@ -12,10 +12,10 @@ returns-then-self-clause-next c =
     let front = slice_range bytes lines.start lines.searched in
     let back = slice_range bytes (lines.searched + 1) lines.end in
     let passed = c.pass.ensures in
-    λ known text ready stood.
+    λ known text ready was_to_come.
     takes_next lines c.pass.new.self lines.is_cut lines.has_ended front back known text passed.taken_is_cut passed.taken passed.held passed.whole passed.has_ended
     (λ rest. takes_first lines.is_cut lines.has_ended (held lines) front back rest text (cut_there lines c.if-self.true (c.search.ensures.found c.if-self.true)) lines.no_lf)
-    (stays c.args.self.now lines c.search.ensures.same known text stood)
+    (stays c.args.self.now lines c.search.ensures.same known text was_to_come)
 
 pub returns-then-self-clause-waits : goal.returns-then-self-clause-waits
 returns-then-self-clause-waits c =
@@ -24,7 +24,7 @@ returns-then-self-clause-waits c =
 pub returns-then-not-self-clause-next : goal.returns-then-not-self-clause-next
 returns-then-not-self-clause-next c =
     let same = c.search.ensures.same in
-    λ known text ready stood.
+    λ known text ready was_to_come.
     let never : ⊥ = ⊎_elim
     (λ some. no_lf_held c.args.self.now c.search.new.self same c.if-self.false some)
     (λ ended. true≢false (sym ended ∙ sym same.has_ended ∙ c.if-not-self.true)) ready in
@@ -41,9 +41,9 @@ returns-clause-next c =
       | else-self-2-via-else-self-2 w ↦ λ whole.
           omega (arith, length_of_range bytes lines.start lines.end (fits lines), w.if-self-2.false, lines.in_order, lines.searched_within)
     ] in
-    λ known text ready stood.
+    λ known text ready was_to_come.
     takes_next lines c.pass-2.new.self lines.is_cut true (held lines) [] known text passed.taken_is_cut (passed.taken ∙ ap (slice_range bytes lines.start) all)
     (passed.held ∙ nothing bytes lines.end) passed.whole (passed.has_ended ∙ c.if-not-self.false)
     (λ rest parts. takes_last lines.is_cut (held lines) rest text (none_held lines c.if-self.false) some
     (subst (λ (ended : Bool). HasParts lines.is_cut ended (held lines) rest text) c.if-not-self.false parts))
-    (stays c.args.self.now lines c.search.ensures.same known text stood)
+    (stays c.args.self.now lines c.search.ensures.same known text was_to_come)
