@@ -82,7 +82,8 @@ pub(crate) fn take_columns(
 ) -> Result<RowList, AllocError>
     ensures { IfOk result
         (λ part. part
-        ≡ map (columns_at order.now.columns.items) (limit_rows limit (sorted order.now.keys.items (lent_rows rows.entry.items)))) }
+        ≡ map (columns_at order.now.columns.items)
+        (limit_rows limit (sorted order.now.keys.items (lent_rows rows.entry.items)))) }
 {
     let (keys, columns) = (order.keys.as_slice(), order.columns.as_slice());
     order_columns(alloc, keys, limit, columns, rows)
@@ -96,7 +97,8 @@ pub(crate) fn take_columns_of(
     rows: &RowList,
 ) -> Result<RowList, AllocError>
     ensures { IfOk result
-        (λ part. part ≡ map (columns_at order.now.columns.items) (limit_rows limit (sorted order.now.keys.items rows.now))) }
+        (λ part. part
+        ≡ map (columns_at order.now.columns.items) (limit_rows limit (sorted order.now.keys.items rows.now))) }
 {
     let lent = lent_rows(alloc, rows)?;
     let part = take_columns(alloc, order, limit, lent)?;

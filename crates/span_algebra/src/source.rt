@@ -150,7 +150,8 @@ impl<'a> Tables<'a> {
         grouping: &Grouping,
     ) -> Result<Option<RowList>, Failure>
         ensures { MatchResult result
-            (λ found. IfSome found (λ rows. unless_fault (spec.given self.now number) (groups grouping.now) ≡ Some rows))
+            (λ found. IfSome found
+            (λ rows. unless_fault (spec.given self.now number) (groups grouping.now) ≡ Some rows))
             (λ why. Gives {A = List Row} (Err why) (unless_fault (spec.given self.now number) (groups grouping.now))) }
     {
         match numbered_source(self.sources.as_slice(), number) {
@@ -222,7 +223,8 @@ fn lend_firsts_of<'a>(
     columns: &[usize],
     parts: &[&'a PartRows],
 ) -> Result<Vec<&'a [Value]>, AllocError>
-    ensures { IfOk result (λ rows. distinct_at columns.now (lent_rows rows.items) ≡ distinct_at columns.now (all_rows parts.now)) }
+    ensures { IfOk result
+        (λ rows. distinct_at columns.now (lent_rows rows.items) ≡ distinct_at columns.now (all_rows parts.now)) }
 {
     let mut rows = Vec::new(alloc);
     for part in parts {

@@ -44,7 +44,11 @@ impl Model for StoredLinks {
 
     ghost Value = { Links };
 
-    ghost view = { λ s. record { left = link_of s.has_left s.left; right = link_of s.has_right s.right; balance = s.balance } };
+    ghost view = { λ s. record {
+      left = link_of s.has_left s.left;
+      right = link_of s.has_right s.right;
+      balance = s.balance;
+    } };
 }
 
 impl StoredLinks {

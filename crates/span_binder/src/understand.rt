@@ -29,7 +29,8 @@ pub fn understand(
 ) -> Result<Statement, Refusal>
     // Sound and complete: the result is what the query text is understood as, or out of memory.
     ensures understood { IfOk result (λ q. Understands schema.now text.now params.now (Ok q)) }
-    ensures refused { IfErr result (λ why. (why ≡ Refusal.OutOfMemory) ⊎ Understands schema.now text.now params.now (Err why)) }
+    ensures refused { IfErr result
+        (λ why. (why ≡ Refusal.OutOfMemory) ⊎ Understands schema.now text.now params.now (Err why)) }
     ensures all { (u : Result Statement Refusal)
         → Understands schema.now text.now params.now u
         → (result ≡ u) ⊎ (result ≡ Err Refusal.OutOfMemory) }

@@ -40,7 +40,8 @@ fn split_projection(
 /// The typed clauses of a block after its FROM. The error is the first in its select list, WHERE, GROUP BY and HAVING.
 #[tactic(auto, unfolding(crate::specs::Blocks::bind_parts))]
 fn bind_parts(names: Names<'_>, mode: Mode, tree: &tree::Block) -> Result<Parts, Refusal>
-    ensures { Gives result (spec.bind_parts names.entry.scope.now names.entry.params.now mode (spec.block_tail tree.now)) }
+    ensures { Gives result
+        (spec.bind_parts names.entry.scope.now names.entry.params.now mode (spec.block_tail tree.now)) }
 {
     let selected = select_list(names, mode, tree.outputs.as_slice())?;
     let (selected, filter) = keep_with(selected, filter_of(names, &tree.filter))?;

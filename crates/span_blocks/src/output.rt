@@ -183,7 +183,8 @@ fn project_value(
     alias: &Option<Spelling>,
     found: Seq<Aggregate>,
 ) -> Result<ProjectionSoFar, Refusal>
-    ensures { Gives result (spec.project_value names.entry.scope.now names.entry.params.now mode tree.now alias.now found) }
+    ensures { Gives result
+        (spec.project_value names.entry.scope.now names.entry.params.now mode tree.now alias.now found) }
 {
     let (typed, found) = bind_expr(names, mode, tree, found)?;
     let name = output_name(names.alloc, tree, alias);

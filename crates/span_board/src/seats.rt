@@ -30,7 +30,8 @@ pub fn grow<J: Naming>(
     ensures known { IsPrefix (seen_of seat.old.me.0) (known_at keeper.views).commits
         × (owned owner (seen_of seat.old.me.0) ≡ mine_of seat.old.me.0)
         × (owned owner (known_at keeper.views).commits ≡ mine_of seat.old.me.0) }
-    ensures client { seat.new.me ≡ (Client owner ((known_at keeper.views).commits ++ commit ∷ []) (mine_of seat.old.me.0 ++ commit ∷ []) ∷ [], []) }
+    ensures client { seat.new.me
+        ≡ (Client owner ((known_at keeper.views).commits ++ commit ∷ []) (mine_of seat.old.me.0 ++ commit ∷ []) ∷ [], []) }
     ensures keeper { result.views ≡ (Keeper (grown (known_at keeper.views) commit) ∷ []) ∷ [] }
 {
     let change = Change::Grown(commit);
@@ -92,7 +93,8 @@ pub fn restate<J: Naming>(
     ensures known { (versions_of seat.old.me.0 ≡ kept (known_at keeper.views) (number_of seat.old.me.0))
         × (number_of seat.old.me.0 < length (known_at keeper.views).slots) }
     ensures holder { seat.new.me ≡ (Holder (number_of seat.old.me.0) shard ∷ [], []) }
-    ensures keeper { result.0.views ≡ (Keeper (restated (known_at keeper.views) (number_of seat.old.me.0) shard) ∷ []) ∷ [] }
+    ensures keeper { result.0.views
+        ≡ (Keeper (restated (known_at keeper.views) (number_of seat.old.me.0) shard) ∷ []) ∷ [] }
     ensures shard { result.1 ≡ shard }
 {
     let shared = &board.table.shared;
@@ -117,11 +119,13 @@ pub fn restate_both<J: Naming>(
     requires next { next.old.me ≡ (Holder (number_of next.old.me.0) (versions_of next.old.me.0) ∷ [], []) }
     requires keeper { keeper.views ≡ (Keeper (known_at keeper.views) ∷ []) ∷ [] }
     ensures tables { (seat.new.table_id ≡ J.table) × (next.new.table_id ≡ J.table) × (result.0.table_id ≡ J.table) }
-    ensures room { number_of next.old.me.0 < length (restated (known_at keeper.views) (number_of seat.old.me.0) shard).slots }
+    ensures room { number_of next.old.me.0
+        < length (restated (known_at keeper.views) (number_of seat.old.me.0) shard).slots }
     ensures holder { seat.new.me ≡ (Holder (number_of seat.old.me.0) shard ∷ [], []) }
     ensures next { next.new.me ≡ (Holder (number_of next.old.me.0) part ∷ [], []) }
     ensures keeper { result.0.views
-        ≡ (Keeper (restated_twice (known_at keeper.views) (number_of seat.old.me.0) shard (number_of next.old.me.0) part) ∷ []) ∷ [] }
+        ≡ (Keeper (restated_twice (known_at keeper.views) (number_of seat.old.me.0) shard
+        (number_of next.old.me.0) part) ∷ []) ∷ [] }
     ensures shard { result.1 ≡ shard }
     ensures part { result.2 ≡ part }
 {

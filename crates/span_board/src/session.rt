@@ -24,9 +24,15 @@ impl<J: Naming> Model for Session<J> {
 
     ghost Value = { SessionHistory };
 
-    ghost view = { λ s. record { owner = s.owner; seen = seen_of s.seat.me.0; mine = mine_of s.seat.me.0; begun = s.begun.items } };
+    ghost view = { λ s. record {
+      owner = s.owner;
+      seen = seen_of s.seat.me.0;
+      mine = mine_of s.seat.me.0;
+      begun = s.begun.items;
+    } };
 
-    ghost invariant = { λ s. (s.seat.table_id ≡ J.table) × (s.seat.me ≡ (Client s.owner (seen_of s.seat.me.0) (mine_of s.seat.me.0) ∷ [], [])) };
+    ghost invariant = { λ s. (s.seat.table_id ≡ J.table)
+        × (s.seat.me ≡ (Client s.owner (seen_of s.seat.me.0) (mine_of s.seat.me.0) ∷ [], [])) };
 }
 
 impl<J: Naming> Session<J> {

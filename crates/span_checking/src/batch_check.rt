@@ -240,7 +240,8 @@ fn check_rows(
 ) -> Result<(), Refusal>
     requires { AreTypedMutations schema.now done.old.items }
     ensures checked { MatchResult result
-        (λ _. with_front done.old.items (checked_all schema.now (row_mutations heading.now rows.items)) ≡ Ok done.new.items)
+        (λ _. with_front done.old.items (checked_all schema.now (row_mutations heading.now rows.items))
+        ≡ Ok done.new.items)
         (λ why.
         (why ≡ Refusal.OutOfMemory)
         ⊎ (with_front done.old.items (checked_all schema.now (row_mutations heading.now rows.items)) ≡ Err why)) }

@@ -125,7 +125,8 @@ fn columns_named(
     ensures { IfOk result (λ c.
         (c.table ≡ number)
         × (c.places.items ≡ map (place_named (columns_of schema.now number)) names.now)
-        × (c.names.items ≡ map (λ p. name_of names.now (slice_get (columns_of schema.now number) p)) (other_places schema.now number))) }
+        × (c.names.items
+        ≡ map (λ p. name_of names.now (slice_get (columns_of schema.now number) p)) (other_places schema.now number))) }
 {
     let columns = schema.table(number).columns.as_slice();
     let places = places_named(alloc, columns, names)?;

@@ -64,7 +64,8 @@ fn add_item(
     mask: &mut Vec<bool>,
 ) -> Result<(), AllocError>
     ensures { OnOk result (mask.new.items
-        ≡ mask.old.items ++ spec.item_columns (masks_of leaves.now) (map_item (spec.narrow (masks_of leaves.now)) item.now)) }
+        ≡ mask.old.items
+        ++ spec.item_columns (masks_of leaves.now) (map_item (spec.narrow (masks_of leaves.now)) item.now)) }
 {
     match item {
         Item::Table(number) => mask.extend_from_slice(mask_of(leaves, *number)),
@@ -80,7 +81,8 @@ fn add_joins(
     mask: &mut Vec<bool>,
 ) -> Result<(), AllocError>
     ensures { OnOk result (mask.new.items
-        ≡ mask.old.items ++ flat_map (spec.join_columns (masks_of leaves.now)) (map (map_join (spec.narrow (masks_of leaves.now))) joins.now)) }
+        ≡ mask.old.items ++ flat_map (spec.join_columns (masks_of leaves.now))
+        (map (map_join (spec.narrow (masks_of leaves.now))) joins.now)) }
 {
     for join in joins {
         add_item(alloc, leaves, &join.item, mask)?;
@@ -262,7 +264,8 @@ fn narrow_joins(
     joins: &[Join<BoundQuery>],
 ) -> Result<Items<Join<BoundQuery>>, AllocError>
     ensures { IfOk result (λ found. found
-        ≡ map (spec.narrow_join (masks_of leaves.now) (rank mask.now)) (map (map_join (spec.narrow (masks_of leaves.now))) joins.now)) }
+        ≡ map (spec.narrow_join (masks_of leaves.now) (rank mask.now))
+        (map (map_join (spec.narrow (masks_of leaves.now))) joins.now)) }
 {
     let mut narrowed = Items::new(alloc);
     for join in joins {
@@ -303,7 +306,8 @@ fn narrow_blocks(
     blocks: &[Block<BoundQuery>],
 ) -> Result<Items<Block<BoundQuery>>, AllocError>
     ensures { IfOk result (λ found. found
-        ≡ map (spec.narrow_block (masks_of leaves.now)) (map (map_block (spec.narrow (masks_of leaves.now))) blocks.now)) }
+        ≡ map (spec.narrow_block (masks_of leaves.now))
+        (map (map_block (spec.narrow (masks_of leaves.now))) blocks.now)) }
 {
     let mut narrowed = Items::new(alloc);
     for block in blocks {

@@ -31,7 +31,8 @@ pub trait InputDevice {
         ensures bound { IfOk result (λ n. n ≤ length buffer.new) }
         ensures bytes { ReadConsumes (remaining self.old) (remaining self.new) result buffer.new }
         ensures ok { OnOk result (failures self.new ≡ failures self.old) }
-        ensures err { IfErr result (λ why. (why ≡ Refusal.InputFault) × (failures self.new ≡ risen (failures self.old))) };
+        ensures err { IfErr result
+            (λ why. (why ≡ Refusal.InputFault) × (failures self.new ≡ risen (failures self.old))) };
 }
 
 /// What answers are written to.
@@ -49,7 +50,8 @@ pub trait OutputDevice {
         ensures some { IfOk result (λ n. 0 < length bytes.now → 0 < n) }
         ensures bytes { WriteAppends (written self.old) (written self.new) result bytes.now }
         ensures ok { OnOk result (failures self.new ≡ failures self.old) }
-        ensures err { IfErr result (λ why. (why ≡ Refusal.OutputFault) × (failures self.new ≡ risen (failures self.old))) };
+        ensures err { IfErr result
+            (λ why. (why ≡ Refusal.OutputFault) × (failures self.new ≡ risen (failures self.old))) };
 }
 
 /// A reader or a writer of the standard library, with the count of its failures.

@@ -178,14 +178,16 @@ impl Core {
 
     fn begin(&mut self, alloc: Global, owner: u64, transaction: Transaction) -> Reply
         requires { AreTypedMutations self.old.schema transaction }
-        ensures steps { IsStep self.old.schema self.old.machine (step_of.Begin owner transaction) result self.new.machine }
+        ensures steps { IsStep self.old.schema self.old.machine
+            (step_of.Begin owner transaction) result self.new.machine }
         ensures schema { self.new.schema ≡ self.old.schema }
     {
         begin_reply(steps::begin(alloc, &self.schema, &mut self.journal, owner, transaction))
     }
 
     fn prepare(&mut self, alloc: Global, owner: u64, txn: u64, slot: usize) -> Reply
-        ensures steps { IsStep self.old.schema self.old.machine (step_of.Prepare owner txn slot) result self.new.machine }
+        ensures steps { IsStep self.old.schema self.old.machine
+            (step_of.Prepare owner txn slot) result self.new.machine }
         ensures schema { self.new.schema ≡ self.old.schema }
     {
         prepare_reply(steps::prepare(
@@ -207,7 +209,8 @@ impl Core {
         verdict: Verdict,
         interval: Interval,
     ) -> Reply
-        ensures steps { IsStep self.old.schema self.old.machine (step_of.Decide owner txn verdict interval) result self.new.machine }
+        ensures steps { IsStep self.old.schema self.old.machine
+            (step_of.Decide owner txn verdict interval) result self.new.machine }
         ensures schema { self.new.schema ≡ self.old.schema }
     {
         decide_reply(steps::decide(
@@ -222,7 +225,8 @@ impl Core {
     }
 
     fn apply(&mut self, owner: u64, txn: u64, slot: usize, interval: Interval) -> Reply
-        ensures steps { IsStep self.old.schema self.old.machine (step_of.Apply owner txn slot interval) result self.new.machine }
+        ensures steps { IsStep self.old.schema self.old.machine
+            (step_of.Apply owner txn slot interval) result self.new.machine }
         ensures schema { self.new.schema ≡ self.old.schema }
     {
         apply_reply(steps::apply(
@@ -237,7 +241,8 @@ impl Core {
     }
 
     fn advance(&mut self, slot: usize, interval: Interval) -> Reply
-        ensures steps { IsStep self.old.schema self.old.machine (step_of.Advance slot interval) result self.new.machine }
+        ensures steps { IsStep self.old.schema self.old.machine
+            (step_of.Advance slot interval) result self.new.machine }
         ensures schema { self.new.schema ≡ self.old.schema }
     {
         advance_reply(steps::advance(&self.schema, &mut self.journal, slot, interval))
@@ -258,7 +263,8 @@ impl Core {
         bound: Bound,
         interval: Interval,
     ) -> Reply
-        ensures steps { IsStep self.old.schema self.old.machine (step_of.Open text params bound interval) result self.new.machine }
+        ensures steps { IsStep self.old.schema self.old.machine
+            (step_of.Open text params bound interval) result self.new.machine }
         ensures schema { self.new.schema ≡ self.old.schema }
     {
         match understand(alloc, &self.schema, text.as_str(), &params) {
@@ -278,7 +284,8 @@ impl Core {
         interval: Interval,
     ) -> Reply
         requires { Understands self.old.schema text params (Ok statement) }
-        ensures steps { IsStep self.old.schema self.old.machine (step_of.Open text params bound interval) result self.new.machine }
+        ensures steps { IsStep self.old.schema self.old.machine
+            (step_of.Open text params bound interval) result self.new.machine }
         ensures schema { self.new.schema ≡ self.old.schema }
     {
         open_reply(steps::open(
@@ -301,7 +308,8 @@ impl Core {
         slot: usize,
         interval: Interval,
     ) -> Reply
-        ensures steps { IsStep self.old.schema self.old.machine (step_of.Scan query leaf slot interval) result self.new.machine }
+        ensures steps { IsStep self.old.schema self.old.machine
+            (step_of.Scan query leaf slot interval) result self.new.machine }
         ensures schema { self.new.schema ≡ self.old.schema }
     {
         scan_reply(steps::scan(

@@ -265,7 +265,8 @@ fn apply_link<'a>(
 ) -> EvalResult<'a>
     ensures value { (o : Outcome)
         → Gives operand.entry o
-        → Gives result (outcomes.strict (operators.apply_operator operator) (outcome.Val (owned_value so_far.entry)) o) }
+        → Gives result
+        (outcomes.strict (operators.apply_operator operator) (outcome.Val (owned_value so_far.entry)) o) }
     ensures memory { RunsOutOnlyIf result (memory.is_concatenation operator || is_out_of_memory operand.entry) }
 {
     apply(alloc, operator, so_far, &operand?)

@@ -19,7 +19,8 @@ pub fn conjuncts(alloc: Global, expr: &Expr) -> Result<Vec<&Expr>, AllocError>
 
 #[cycle(conjuncts)]
 fn add_conjuncts<'a>(found: &mut Vec<&'a Expr>, expr: &'a Expr) -> Result<(), AllocError>
-    ensures { OnOk result (map (λ e. e.now) found.new.items ≡ map (λ e. e.now) found.old.items ++ spec.conjuncts expr.now) }
+    ensures { OnOk result
+        (map (λ e. e.now) found.new.items ≡ map (λ e. e.now) found.old.items ++ spec.conjuncts expr.now) }
 {
     match expr {
         Expr::And(first, more) => {
@@ -35,7 +36,8 @@ fn add_conjuncts<'a>(found: &mut Vec<&'a Expr>, expr: &'a Expr) -> Result<(), Al
 
 #[cycle(conjuncts)]
 fn add_all_conjuncts<'a>(found: &mut Vec<&'a Expr>, operands: &'a [Expr]) -> Result<(), AllocError>
-    ensures { OnOk result (map (λ e. e.now) found.new.items ≡ map (λ e. e.now) found.old.items ++ flat_map spec.conjuncts operands.now) }
+    ensures { OnOk result
+        (map (λ e. e.now) found.new.items ≡ map (λ e. e.now) found.old.items ++ flat_map spec.conjuncts operands.now) }
 {
     for operand in operands {
         add_conjuncts(found, operand)?;

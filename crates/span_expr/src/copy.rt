@@ -120,7 +120,8 @@ fn copy_all(
     front: usize,
     mask: &[bool],
 ) -> Result<Items<Expr>, AllocError>
-    ensures { IfOk result (λ copies. copies ≡ map (spec.moved (λ place. spec.rank mask.now (place - front))) operands.now) }
+    ensures { IfOk result
+        (λ copies. copies ≡ map (spec.moved (λ place. spec.rank mask.now (place - front))) operands.now) }
 {
     let mut copies = Items::new(alloc);
     for operand in operands {
@@ -136,7 +137,8 @@ fn copy_links(
     front: usize,
     mask: &[bool],
 ) -> Result<Items<Link<Expr>>, AllocError>
-    ensures { IfOk result (λ copies. copies ≡ map (spec.moved_link (λ place. spec.rank mask.now (place - front))) links.now) }
+    ensures { IfOk result
+        (λ copies. copies ≡ map (spec.moved_link (λ place. spec.rank mask.now (place - front))) links.now) }
 {
     let mut copies = Items::new(alloc);
     for link in links {
@@ -156,7 +158,8 @@ fn copy_arms(
     front: usize,
     mask: &[bool],
 ) -> Result<Items<Arm<Expr>>, AllocError>
-    ensures { IfOk result (λ copies. copies ≡ map (spec.moved_arm (λ place. spec.rank mask.now (place - front))) arms.now) }
+    ensures { IfOk result
+        (λ copies. copies ≡ map (spec.moved_arm (λ place. spec.rank mask.now (place - front))) arms.now) }
 {
     let mut copies = Items::new(alloc);
     for arm in arms {
@@ -175,7 +178,8 @@ fn copy_otherwise(
     front: usize,
     mask: &[bool],
 ) -> Result<Option<Boxed<Expr>>, AllocError>
-    ensures { IfOk result (λ copy. copy ≡ option_map (spec.moved (λ place. spec.rank mask.now (place - front))) otherwise.now) }
+    ensures { IfOk result
+        (λ copy. copy ≡ option_map (spec.moved (λ place. spec.rank mask.now (place - front))) otherwise.now) }
 {
     match otherwise {
         Some(value) => Ok(Some(copy_boxed(alloc, value.get(), front, mask)?)),

@@ -61,7 +61,8 @@ fn tables_of<'a>(alloc: Global, leaves: &'a [Seq<Piece>]) -> Result<Tables<'a>, 
 pub fn finish(alloc: Global, top: &BoundQuery, leaves: &[Seq<Piece>]) -> Result<Rows, Refusal>
     ensures { MatchResult result
         (λ rows. gathered leaves.now top.now ≡ Some rows.rows)
-        (λ why. ((why ≡ Refusal.ArithmeticFault) × (gathered leaves.now top.now ≡ None)) ⊎ (why ≡ Refusal.OutOfMemory)) }
+        (λ why. ((why ≡ Refusal.ArithmeticFault) × (gathered leaves.now top.now ≡ None))
+        ⊎ (why ≡ Refusal.OutOfMemory)) }
 {
     let tables = tables_of(alloc, leaves)?;
     match eval_plain(alloc, top, &tables) {

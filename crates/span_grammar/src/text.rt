@@ -18,10 +18,13 @@ use std::alloc::Global;
 /// Whether a text of these bytes and tokens is in the grammar.
 fn check_tokens(alloc: Global, goal: Goal, text: &[u8], tokens: &[Token]) -> Result<(), Refusal>
     ensures read { result ≡ Ok tt → (x : Tree) × HasTree inside (goal_rule goal) (lexemes_of text.now tokens.now) x }
-    ensures read_all { (x : Tree) → HasTree inside (goal_rule goal) (lexemes_of text.now tokens.now) x → OrOutOfMemory result (Ok tt) }
+    ensures read_all { (x : Tree) → HasTree inside (goal_rule goal) (lexemes_of text.now tokens.now) x
+        → OrOutOfMemory result (Ok tt) }
     ensures refused { IfErr result (λ why. IsTokenRefusal goal (lexemes_of text.now tokens.now) why) }
-    ensures wrong_all { IsWrong inside (goal_rule goal) (lexemes_of text.now tokens.now) → OrOutOfMemory result (Err Refusal.Syntax) }
-    ensures deep_all { IsTooDeep inside (goal_rule goal) (lexemes_of text.now tokens.now) → OrOutOfMemory result (Err Refusal.TooDeep) }
+    ensures wrong_all { IsWrong inside (goal_rule goal) (lexemes_of text.now tokens.now)
+        → OrOutOfMemory result (Err Refusal.Syntax) }
+    ensures deep_all { IsTooDeep inside (goal_rule goal) (lexemes_of text.now tokens.now)
+        → OrOutOfMemory result (Err Refusal.TooDeep) }
 {
     let found = lexemes(alloc, text, tokens)?;
     match judge(goal, found.as_slice()) {
@@ -40,7 +43,8 @@ pub fn check_text(alloc: Global, goal: Goal, text: &str) -> Result<(), Refusal>
     ensures read { result ≡ Ok tt → IsText goal text.now }
     ensures read_all { IsText goal text.now → OrOutOfMemory result (Ok tt) }
     ensures refused { IfErr result (λ why. IsRefused goal text.now why) }
-    ensures refused_all { (why : Refusal) → why ≢ Refusal.OutOfMemory → IsRefused goal text.now why → OrOutOfMemory result (Err why) }
+    ensures refused_all { (why : Refusal) → why ≢ Refusal.OutOfMemory → IsRefused goal text.now why
+        → OrOutOfMemory result (Err why) }
 {
     match tokens(alloc, text) {
         Ok(found) => check_tokens(alloc, goal, text.as_bytes(), found.as_slice()),

@@ -239,7 +239,8 @@ impl AggregateState {
 
     /// The result for the values that were taken.
     fn value(&self, alloc: Global) -> Result<Value, Failure>
-        ensures values { (f : Function) (vs : List Value) → HasTaken f vs self.now → Gives result (value_of (spec.of_values f vs)) }
+        ensures values { (f : Function) (vs : List Value) → HasTaken f vs self.now
+            → Gives result (value_of (spec.of_values f vs)) }
         ensures rows { (n : ℕ) → HasCounted n self.now → Gives result (value_of (number (pos n))) }
     {
         match self {

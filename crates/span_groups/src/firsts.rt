@@ -54,7 +54,8 @@ impl FirstPlaces {
 
     /// The places, where they were found for these columns.
     pub(crate) fn places_for(&self, columns: &[usize]) -> Option<&[usize]>
-        ensures { IfSome result (λ places. (self.now.columns.items ≡ columns.now) × (places.now ≡ self.now.places.items)) }
+        ensures { IfSome result
+            (λ places. (self.now.columns.items ≡ columns.now) × (places.now ≡ self.now.places.items)) }
     {
         if self.columns.as_slice() == columns {
             Some(self.places.as_slice())
@@ -73,7 +74,8 @@ pub(crate) fn lend_firsts<'a>(
 ) -> Result<(), AllocError>
     requires { AreFirstsAt columns.now rows.now places.now }
     ensures { OnOk result
-        (distinct_at columns.now (lent_rows all.new.items) ≡ distinct_at columns.now (lent_rows all.old.items ++ rows.now)) }
+        (distinct_at columns.now (lent_rows all.new.items)
+        ≡ distinct_at columns.now (lent_rows all.old.items ++ rows.now)) }
 {
     lend_places(rows, places, all)?;
     Ok(())

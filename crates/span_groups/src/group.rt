@@ -44,7 +44,8 @@ fn place_of_row<'a>(
 ) -> Result<(usize, bool), AllocError>
     requires { places.now ≡ [] → index.old.keys ≡ [] ∷ [] }
     ensures place { IfOk result (λ found. found.0 ≡ place_of index.old.keys (spec.columns_at places.now row.now)) }
-    ensures added { IfOk result (λ found. found.1 ≡ not (contains_row index.old.keys (spec.columns_at places.now row.now))) }
+    ensures added { IfOk result
+        (λ found. found.1 ≡ not (contains_row index.old.keys (spec.columns_at places.now row.now))) }
     ensures keys { OnOk result (index.new.keys ≡ with_new index.old.keys (spec.columns_at places.now row.now)) }
 {
     if places.is_empty() {
@@ -68,9 +69,11 @@ pub(crate) fn group_of<'a>(
         (λ found.
         (rows : List Row)
         → AreWholeGroups grouping.now index.old.keys rows (groups_by grouping.now index.old.keys states.old.items)
-        → HasGroupAt grouping.now (spec.columns_at grouping.now.keys row.now) index.old.keys rows (groups_by grouping.now index.new.keys states.new.items) found.0) }
+        → HasGroupAt grouping.now (spec.columns_at grouping.now.keys row.now) index.old.keys rows
+        (groups_by grouping.now index.new.keys states.new.items) found.0) }
     ensures within { IfOk result (λ found. found.0 < length index.new.keys) }
-    ensures added { IfOk result (λ found. found.1 ≡ not (contains_row index.old.keys (spec.columns_at grouping.now.keys row.now))) }
+    ensures added { IfOk result
+        (λ found. found.1 ≡ not (contains_row index.old.keys (spec.columns_at grouping.now.keys row.now))) }
     ensures keys { OnOk result (index.new.keys ≡ with_new index.old.keys (spec.columns_at grouping.now.keys row.now)) }
 {
     let (at, is_new) = place_of_row(grouping.keys.as_slice(), index, row)?;
@@ -93,7 +96,8 @@ pub(crate) fn take_row<'a>(
         ((rows : List Row)
         → AreGroupLists grouping.now rows index.old.keys states.old.items
         → AreGroupLists grouping.now (rows ++ row.now ∷ []) index.new.keys states.new.items) }
-    ensures added { IfOk result (λ is_new. is_new ≡ not (contains_row index.old.keys (spec.columns_at grouping.now.keys row.now))) }
+    ensures added { IfOk result
+        (λ is_new. is_new ≡ not (contains_row index.old.keys (spec.columns_at grouping.now.keys row.now))) }
     ensures keys { OnOk result (index.new.keys ≡ with_new index.old.keys (spec.columns_at grouping.now.keys row.now)) }
     ensures fault { result ≡ Err Fault → Any (λ a. operand_at row.now a ≡ None) grouping.now.aggregates }
 {
@@ -146,7 +150,8 @@ fn take_row_at<'a>(
 
 /// The groups of no rows: none, or the one group where there are no key columns.
 fn first_groups(alloc: Global, grouping: &Grouping) -> Result<GroupLists, AllocError>
-    ensures states { IfOk result (λ groups. AreGroupLists grouping.now [] (spec.group_keys grouping.now.keys []) groups.states.items) }
+    ensures states { IfOk result
+        (λ groups. AreGroupLists grouping.now [] (spec.group_keys grouping.now.keys []) groups.states.items) }
     ensures firsts { IfOk result
         (λ groups.
         (all : List Row)
@@ -240,7 +245,8 @@ pub(crate) fn rows_of_lists(
     groups: &GroupLists,
 ) -> Result<RowList, Failure>
     requires { length groups.now.states.items ≡ length groups.now.firsts.items * length grouping.now.aggregates }
-    ensures { (taken : List Row) → HoldGroups grouping.now rows.now taken groups.now → Gives result (spec.groups grouping.now taken) }
+    ensures { (taken : List Row) → HoldGroups grouping.now rows.now taken groups.now
+        → Gives result (spec.groups grouping.now taken) }
 {
     let firsts = first_rows(alloc, rows, groups.firsts.as_slice())?;
     rows_of(
@@ -261,7 +267,8 @@ fn groups_by_row(
 ) -> Result<GroupLists, Failure>
     ensures { MatchResult result
         (λ groups. AreGroupsWhere filter.now grouping.now rows.now groups)
-        (λ why. Gives {A = List Row} (Err why) (unless_fault (filter_where filter.now rows.now) (spec.groups grouping.now))) }
+        (λ why. Gives {A = List Row} (Err why)
+        (unless_fault (filter_where filter.now rows.now) (spec.groups grouping.now))) }
 {
     let mut groups = first_groups(alloc, grouping)?;
     let mut index = first_index(alloc, grouping)?;
@@ -283,7 +290,8 @@ pub(crate) fn groups_where(
 ) -> Result<GroupLists, Failure>
     ensures { MatchResult result
         (λ groups. AreGroupsWhere filter.now grouping.now rows.now groups)
-        (λ why. Gives {A = List Row} (Err why) (unless_fault (filter_where filter.now rows.now) (spec.groups grouping.now))) }
+        (λ why. Gives {A = List Row} (Err why)
+        (unless_fault (filter_where filter.now rows.now) (spec.groups grouping.now))) }
 {
     if let None = filter {
         if let Some(groups) = counted_group(alloc, grouping, rows)? {

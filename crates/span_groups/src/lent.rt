@@ -33,8 +33,10 @@ pub(crate) fn no_lent_groups<'a>(
     alloc: Global,
     grouping: &Grouping,
 ) -> Result<LentGroups<'a>, AllocError>
-    ensures states { IfOk result (λ groups. AreGroupLists grouping.now [] (spec.group_keys grouping.now.keys []) groups.states.items) }
-    ensures firsts { IfOk result (λ groups. HaveKeys grouping.now (lent_rows groups.firsts.items) (spec.group_keys grouping.now.keys [])) }
+    ensures states { IfOk result
+        (λ groups. AreGroupLists grouping.now [] (spec.group_keys grouping.now.keys []) groups.states.items) }
+    ensures firsts { IfOk result
+        (λ groups. HaveKeys grouping.now (lent_rows groups.firsts.items) (spec.group_keys grouping.now.keys [])) }
 {
     let mut states = Vec::new(alloc);
     let mut firsts: Vec<&'a [Value]> = Vec::new(alloc);
@@ -75,7 +77,8 @@ fn lent_groups<'a>(
     rows: &[&'a [Value]],
 ) -> Result<LentGroups<'a>, Failure>
     ensures { MatchResult result
-        (λ groups. AreGroupLists grouping.now (lent_rows rows.now) (keys_at grouping.now.keys (lent_rows groups.firsts.items)) groups.states.items)
+        (λ groups. AreGroupLists grouping.now (lent_rows rows.now)
+        (keys_at grouping.now.keys (lent_rows groups.firsts.items)) groups.states.items)
         (λ why. Gives {A = List Row} (Err why) (spec.groups grouping.now (lent_rows rows.now))) }
 {
     let mut groups = no_lent_groups(alloc, grouping)?;
@@ -94,7 +97,8 @@ pub(crate) fn rows_of_lent(
 ) -> Result<RowList, Failure>
     requires { length groups.now.states.items ≡ length groups.now.firsts.items * length grouping.now.aggregates }
     ensures { (rows : List Row)
-        → AreGroupLists grouping.now rows (keys_at grouping.now.keys (lent_rows groups.now.firsts.items)) groups.now.states.items
+        → AreGroupLists grouping.now rows
+        (keys_at grouping.now.keys (lent_rows groups.now.firsts.items)) groups.now.states.items
         → Gives result (spec.groups grouping.now rows) }
 {
     rows_of(

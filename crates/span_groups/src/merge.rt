@@ -37,8 +37,10 @@ fn merge_group<'a>(
         (λ done.
         IsTrue done
         → (rows next : List Row)
-        → AreWholeGroups grouping.now index.old.keys rows (groups_by grouping.now index.old.keys groups.old.states.items)
-        → AreStatesOf grouping.now.aggregates (rows_with grouping.now.keys (columns_at grouping.now.keys row.now) next) more.now
+        → AreWholeGroups grouping.now index.old.keys rows
+        (groups_by grouping.now index.old.keys groups.old.states.items)
+        → AreStatesOf grouping.now.aggregates
+        (rows_with grouping.now.keys (columns_at grouping.now.keys row.now) next) more.now
         → AreWholeGroups grouping.now (with_new index.old.keys (columns_at grouping.now.keys row.now))
         (rows ++ rows_with grouping.now.keys (columns_at grouping.now.keys row.now) next)
         (groups_by grouping.now index.new.keys groups.new.states.items)) }
@@ -99,7 +101,8 @@ pub(crate) fn merge_parts<'a>(
     ensures { IfOk result
         (λ found.
         IfSome found
-        (λ groups. AreGroupLists grouping.now (all_rows parts.now) (keys_at grouping.now.keys (lent_rows groups.firsts.items)) groups.states.items)) }
+        (λ groups. AreGroupLists grouping.now (all_rows parts.now)
+        (keys_at grouping.now.keys (lent_rows groups.firsts.items)) groups.states.items)) }
 {
     let mut groups = no_lent_groups(alloc, grouping)?;
     let mut index = first_index(alloc, grouping)?;

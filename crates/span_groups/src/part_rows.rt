@@ -263,7 +263,8 @@ impl PartRows {
         all: &mut Vec<&'a [Value]>,
     ) -> Result<(), AllocError>
         ensures { OnOk result
-            (distinct_at columns.now (lent_rows all.new.items) ≡ distinct_at columns.now (lent_rows all.old.items ++ self.now)) }
+            (distinct_at columns.now (lent_rows all.new.items)
+            ≡ distinct_at columns.now (lent_rows all.old.items ++ self.now)) }
     {
         match self.first_places(columns) {
             Some(places) => lend_firsts(columns, self.rows(), places, all),

@@ -42,7 +42,8 @@ pub(crate) fn take_all(
     ensures ok { OnOk result
         ((rows : List Row)
         → AreStatesOf aggregates.now rows (states_from start (length aggregates.now) states.old.items)
-        → AreStatesOf aggregates.now (rows ++ row.now ∷ []) (states_from start (length aggregates.now) states.new.items)) }
+        → AreStatesOf aggregates.now (rows ++ row.now ∷ [])
+        (states_from start (length aggregates.now) states.new.items)) }
     ensures others { OnOk result (IsChangedAt start (length aggregates.now) states.old.items states.new.items) }
     ensures fault { result ≡ Err Fault → Any (λ a. operand_at row.now a ≡ None) aggregates.now }
 {
@@ -97,7 +98,8 @@ pub(crate) fn put_row(
 ) -> Result<(), Failure>
     ensures { (aggregates : List Aggregate) (rows : List Row)
         → AreStatesOf aggregates rows states.now
-        → Puts result (unless_fault (each (aggregate rows) aggregates) (λ vs. Some (columns_at places.now first.now ++ vs))) values.new.items }
+        → Puts result (unless_fault (each (aggregate rows) aggregates)
+        (λ vs. Some (columns_at places.now first.now ++ vs))) values.new.items }
 {
     put_columns(alloc, places, first, values)?;
     for state in states {

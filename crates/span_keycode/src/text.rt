@@ -54,7 +54,8 @@ pub(crate) fn read_text(
         (text_at (in_direction desc bytes.now) ≡ None)
         (λ r.
         text_at (in_direction desc bytes.now) ≡ Some (r.0.items, in_direction desc (drop r.1 bytes.now)))) }
-    ensures within { IfOk result (λ found. MatchOption found (Unit {0}) (λ r. (r.1 ≤ length bytes.now) × AreBytes r.0.items)) }
+    ensures within { IfOk result
+        (λ found. MatchOption found (Unit {0}) (λ r. (r.1 ≤ length bytes.now) × AreBytes r.0.items)) }
 {
     let mut text = Vec::new(alloc);
     let mut at = 0;

@@ -18,7 +18,8 @@ pub fn read_value(
     column: KeyPart,
     bytes: &[u8],
 ) -> Result<Option<(Value, usize)>, AllocError>
-    ensures { IfOk result (λ found. MatchOption found (IsNoColumn column bytes.now) (λ r. IsColumn column bytes.now r.0 r.1)) }
+    ensures { IfOk result
+        (λ found. MatchOption found (IsNoColumn column bytes.now) (λ r. IsColumn column bytes.now r.0 r.1)) }
 {
     if bytes.len() == 0 {
         return Ok(None);

@@ -77,7 +77,8 @@ pub(crate) fn add_key<C: Ledger, W: Ledger>(
         IsPut arena.old.cells arena.new.cells (tree_at arena.old.cells levels at) key.old (put_of is_added part.new)) }
     ensures arena { IfOk result (λ is_added. IsPutIn arena.old arena.new (put_of is_added part.new)) }
     ensures nexts { IfOk result (λ is_added.
-        IsNext nexts.old nexts.new (before_in key.old before (tree_at arena.old.cells levels at)) (put_of is_added part.new)) }
+        IsNext nexts.old nexts.new (before_in key.old before (tree_at arena.old.cells levels at))
+        (put_of is_added part.new)) }
     ensures err { OnErr result (arena.new ≡ arena.old) }
     ensures err_nexts { OnErr result (nexts.new ≡ nexts.old) }
     ensures absent { OnErr result (IsNotFound key.old (tree_at arena.old.cells levels at)) }

@@ -342,7 +342,8 @@ fn lexemes(alloc: Global, bytes: &[u8]) -> Result<Vec<Token>, ReadError>
 /// first such byte; or `OutOfMemory`.
 pub fn tokens(alloc: Global, text: &str) -> Result<Seq<Token>, ReadError>
     // The result is the tokens of the items that the text consists of.
-    ensures read { IfOk result (λ found. (is : List Item) × AreItems is × (text.now ≡ text_of is) × (found ≡ tokens_of 0 is)) }
+    ensures read { IfOk result
+        (λ found. (is : List Item) × AreItems is × (text.now ≡ text_of is) × (found ≡ tokens_of 0 is)) }
     ensures short { OnOk result (length text.now ≤ longest_text) }
     // A text that consists of items, and is not too long, is read.
     ensures read_all { (is : List Item)
@@ -367,5 +368,6 @@ pub fn tokens(alloc: Global, text: &str) -> Result<Seq<Token>, ReadError>
 
 /// A law, which takes no time: a text has one list of tokens.
 pub fn texts_have_one_reading()
-    ensures { (is js : List Item) → AreItems is → AreItems js → text_of is ≡ text_of js → tokens_of 0 is ≡ tokens_of 0 js }
+    ensures { (is js : List Item) → AreItems is → AreItems js → text_of is ≡ text_of js
+        → tokens_of 0 is ≡ tokens_of 0 js }
 {}

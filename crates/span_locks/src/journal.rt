@@ -111,7 +111,8 @@ impl<J: Naming> LockedJournal<J> {
             (λ ts. Extends me.old (own_commit me.old number ts copy) me.new) }
         ensures err { OnErr result (me.new ≡ me.old) }
         ensures begun { me.new.begun ≡ me.old.begun }
-        ensures reply { RepliesToCommit J.schema self.old me.old.owner number copy interval (as_reply reply_of.Decided result) }
+        ensures reply { RepliesToCommit J.schema self.old me.old.owner number copy interval
+            (as_reply reply_of.Decided result) }
     {
         let owner = me.owner;
         if !is_begun(&self.journal, owner, number, copy.mutations()) {
@@ -189,7 +190,8 @@ impl<J: Naming> LockedJournal<J> {
         ensures err { OnErr result (me.new ≡ me.old) }
         ensures reply { IfSome (slice_get me.old.begun place)
             (λ b.
-            RepliesToCommit J.schema self.old me.old.owner b.number b.mutations interval (as_reply reply_of.Decided result)) }
+            RepliesToCommit J.schema self.old me.old.owner b.number b.mutations interval
+            (as_reply reply_of.Decided result)) }
     {
         let owner = me.owner;
         let Some(found) = me.begun.as_slice().get(place) else {
@@ -408,14 +410,16 @@ fn is_kept(journal: &Journal, owner: u64, begun: &Begun) -> bool
         → (t : OpenTransaction)
         × (find (is_transaction owner begun.now.number) (machine_of journal.now).transactions ≡ Some t)
         × (t.mutations ≡ begun.now.mutations) }
-    ensures lacks { result ≡ false → LacksTransaction (machine_of journal.now) owner begun.now.number begun.now.mutations }
+    ensures lacks { result ≡ false
+        → LacksTransaction (machine_of journal.now) owner begun.now.number begun.now.mutations }
 {
     is_begun(journal, owner, begun.number, begun.mutations.as_slice())
 }
 
 /// What was begun, as the entry of the log that it becomes.
 fn commit_of(begun: Begun, owner: u64, timestamp: u64) -> Commit
-    ensures { result ≡ record { timestamp = timestamp; number = begun.number; owner = owner; mutations = begun.mutations } }
+    ensures { result
+        ≡ record { timestamp = timestamp; number = begun.number; owner = owner; mutations = begun.mutations } }
 {
     Commit {
         timestamp,

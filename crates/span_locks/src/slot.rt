@@ -245,7 +245,8 @@ impl<J: Naming> LockedSlot<J> {
         leaf_use: Option<LeafUse<'_>>,
         gap: &Gap,
     ) -> Result<Piece, Refusal>
-        requires { (text : List ℕ) × (params : List Parameter) × (place : ℕ) × IsLeafOf J.schema text params place leaf.now }
+        requires { (text : List ℕ) × (params : List Parameter) × (place : ℕ)
+            × IsLeafOf J.schema text params place leaf.now }
         ensures read { IfOk result (λ piece. IsRead J.schema self.now.versions gap.now.range gap.now.s piece leaf.now) }
         ensures memory { IfErr result (λ why. why ≡ Refusal.OutOfMemory) }
     {

@@ -18,7 +18,8 @@ pub fn is_in_directory_of(
     other: &CheckedMutation,
     mutation: &CheckedMutation,
 ) -> bool
-    ensures { result ≡ is_in_directory schema.now (root_row schema.now other.now.table other.now.key) mutation.now.table mutation.now.key }
+    ensures { result ≡ is_in_directory schema.now
+        (root_row schema.now other.now.table other.now.key) mutation.now.table mutation.now.key }
 {
     let root = root_table(schema, other.table);
     let len = key_length(schema, root);

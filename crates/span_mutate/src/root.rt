@@ -149,7 +149,8 @@ pub fn merge_cells(
     named: &[Option<Value>],
     old: &[Value],
 ) -> Result<Vec<Value>, Refusal>
-    ensures { MatchResult result (λ cells. cells.items ≡ merge_cells named.now old.now) (λ why. why ≡ Refusal.OutOfMemory) }
+    ensures { MatchResult result (λ cells. cells.items ≡ merge_cells named.now old.now)
+        (λ why. why ≡ Refusal.OutOfMemory) }
 {
     let mut cells = Vec::with_capacity(alloc, named.len())?;
     for i in 0..named.len() {

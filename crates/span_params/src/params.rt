@@ -97,7 +97,8 @@ impl Params {
     /// the parameters as they were.
     #[tactic(auto, using(crate::proofs::Adding::adding_steps))]
     pub fn add(&mut self, name: Text, kind: Kind, value: Value) -> Result<(), Refusal>
-        ensures added { OnOk result (self.new ≡ spec.with_parameter (record { name = name; kind = kind; value = value }) self.old) }
+        ensures added { OnOk result
+            (self.new ≡ spec.with_parameter (record { name = name; kind = kind; value = value }) self.old) }
         ensures typed { OnOk result (is_of_kind kind value ≡ true) }
         ensures refused { IfErr result
             (λ why.

@@ -66,7 +66,8 @@ pub fn take(schema: &Schema, journal: &mut Journal, query: u64) -> Result<Taken,
         → gathered taken.pieces taken.top ≡ None
         → IsFaulty schema.now journal.old.log taken) }
     ensures asked { IfOk result (IsQuestionOf (machine_of journal.old) query) }
-    ensures closed { IfOk result (λ _. IsAnswer (close (machine_of journal.old) query) reply_of.Closed (machine_of journal.new)) }
+    ensures closed { IfOk result
+        (λ _. IsAnswer (close (machine_of journal.old) query) reply_of.Closed (machine_of journal.new)) }
     ensures refused { IfErr result
         (λ why. finish schema.now (machine_of journal.old) query ≡ refused (machine_of journal.old) why) }
     ensures err { OnErr result (machine_of journal.new ≡ machine_of journal.old) }

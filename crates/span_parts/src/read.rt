@@ -27,7 +27,8 @@ pub(crate) fn read_gap(
     leaf: usize,
     gap: &Gap,
 ) -> Result<Piece, Refusal>
-    requires tables { IfSome (leaf_of (machine_of journal.now) query leaf) (λ l. AllByRecursion (IsTable schema.now) l.tables) }
+    requires tables { IfSome (leaf_of (machine_of journal.now) query leaf)
+        (λ l. AllByRecursion (IsTable schema.now) l.tables) }
     requires maskable { IfSome (leaf_of (machine_of journal.now) query leaf) (IsMaskable schema.now) }
     ensures { MatchOption (leaf_of (machine_of journal.now) query leaf)
         (result ≡ Err Refusal.UnknownQuery)

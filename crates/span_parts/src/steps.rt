@@ -78,7 +78,8 @@ fn prepare_writes(
     slot: usize,
 ) -> Result<(), Refusal>
     requires { IsWhole schema.now journal.now shards.old.items }
-    ensures written { OnOk result (IsWritten schema.now (machine_of journal.now) owner txn slot shards.old.items shards.new.items) }
+    ensures written { OnOk result
+        (IsWritten schema.now (machine_of journal.now) owner txn slot shards.old.items shards.new.items) }
     ensures refused { IfErr result
         (λ why. Answers (machine_of journal.now)
         (prepare schema.now (machine_of journal.now) owner txn slot)

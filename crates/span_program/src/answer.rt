@@ -40,7 +40,8 @@ pub fn answer<I: InputDevice, O: OutputDevice, R: Reports + SchemaReports>(
 ) -> Result<u8, Fault>
     ensures status { IfOk result (λ status. IsAnswered schema.now status
         ⊎ (IsSchemaRefused schema.now status × (input.new ≡ input.old))) }
-    ensures ok { OnOk result ((I.failures input.new ≡ I.failures input.old) × (O.failures output.new ≡ O.failures output.old)) }
+    ensures ok { OnOk result
+        ((I.failures input.new ≡ I.failures input.old) × (O.failures output.new ≡ O.failures output.old)) }
     ensures err { IfErr result (λ fault. (fault ≡ Fault.Memory)
         ⊎ ((fault ≡ Fault.Input) × (I.failures input.new ≡ risen (I.failures input.old)))
         ⊎ ((fault ≡ Fault.Output) × (O.failures output.new ≡ risen (O.failures output.old)))) }
@@ -81,7 +82,8 @@ fn answer_script<I: InputDevice, O: OutputDevice, R: Reports>(
     output: &mut O,
     reports: &mut R,
 ) -> Result<(), Refusal>
-    ensures ok { OnOk result ((I.failures input.new ≡ I.failures input.old) × (O.failures output.new ≡ O.failures output.old)) }
+    ensures ok { OnOk result
+        ((I.failures input.new ≡ I.failures input.old) × (O.failures output.new ≡ O.failures output.old)) }
     ensures err { IfErr result (λ why. (why ≡ Refusal.OutOfMemory)
         ⊎ ((why ≡ Refusal.InputFault) × (I.failures input.new ≡ risen (I.failures input.old)))
         ⊎ ((why ≡ Refusal.OutputFault) × (O.failures output.new ≡ risen (O.failures output.old)))) }

@@ -66,7 +66,8 @@ impl RecordLayout {
         columns: &str,
     ) -> Result<RecordLayout, Refusal>
         ensures read { IfOk result (λ layout. IsLayoutOf schema.now table.now columns.now layout) }
-        ensures refusals { IfErr result (λ why. (why ≡ Refusal.OutOfMemory) ⊎ HasNoLayout schema.now table.now columns.now why) }
+        ensures refusals { IfErr result
+            (λ why. (why ≡ Refusal.OutOfMemory) ⊎ HasNoLayout schema.now table.now columns.now why) }
     {
         let Some(number) = schema.find(table) else {
             return Err(Refusal::NoTable);
@@ -373,7 +374,8 @@ fn new_place(before: &[usize], schema: &Schema, table: usize, name: &str) -> Res
     requires { IsTable schema.now table }
     ensures place { IfOk result (λ place. column_named schema.now table name.now ≡ Some place) }
     ensures new { IfOk result (λ place. list_any (λ other. other == place) before.now ≡ false) }
-    ensures refusals { IfErr result (λ why. (why ≡ Refusal.NoColumn) × IsUnplaced (columns_of schema.now table) before.now name.now) }
+    ensures refusals { IfErr result
+        (λ why. (why ≡ Refusal.NoColumn) × IsUnplaced (columns_of schema.now table) before.now name.now) }
 {
     match schema.column(table, name) {
         Some(place) if !has_place(before, place) => Ok(place),
@@ -441,7 +443,8 @@ fn key_fields(
 fn key_field(columns: &[Column], places: &[usize], place: usize) -> Result<KeyField, Refusal>
     requires { place < length columns.now }
     ensures read { IfOk result (λ part. IsKeyField columns.now places.now place part) }
-    ensures refusals { IfErr result (λ why. (why ≡ Refusal.WrongType) × (position (λ p. p == place) places.now ≡ None)) }
+    ensures refusals { IfErr result
+        (λ why. (why ≡ Refusal.WrongType) × (position (λ p. p == place) places.now ≡ None)) }
 {
     match field_of(places, place) {
         Some(at) => Ok(KeyField {
@@ -467,7 +470,8 @@ fn cell_fields(
     key_places: &[usize],
 ) -> Result<Vec<CellField>, AllocError>
     requires { AreWithin declared.now places.now }
-    ensures { IfOk result (λ cells. AllZip (IsCellField declared.now) (outside_key key_places.now places.now) cells.items) }
+    ensures { IfOk result
+        (λ cells. AllZip (IsCellField declared.now) (outside_key key_places.now places.now) cells.items) }
 {
     let mut cells = Vec::new(alloc);
     for (at, place) in places.iter().enumerate() {

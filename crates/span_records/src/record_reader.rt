@@ -103,7 +103,8 @@ fn at_plain_comma(text: &str) -> Option<(&str, &str)>
 
 /// The place of the first comma, quote, CR or LF.
 fn special_place(bytes: &[u8]) -> Option<usize>
-    ensures { MatchOption result (IsFree bytes.now (length bytes.now)) (λ at. (at < length bytes.now) × IsFree bytes.now at) }
+    ensures { MatchOption result (IsFree bytes.now (length bytes.now))
+        (λ at. (at < length bytes.now) × IsFree bytes.now at) }
 {
     for i in 0..bytes.len() {
         if is_special(bytes[i]) {
@@ -163,7 +164,8 @@ fn cut_at_commas(text: &str, fields: &mut StringRecord) -> Result<(), AllocError
 
 /// What is before the first comma and after it; None where there is no comma.
 pub fn at_comma(text: &str) -> Option<(&str, &str)>
-    ensures cut { MatchOption result (pieces text.now ≡ text.now ∷ []) (λ x. pieces text.now ≡ x.0.now ∷ pieces x.1.now) }
+    ensures cut { MatchOption result (pieces text.now ≡ text.now ∷ [])
+        (λ x. pieces text.now ≡ x.0.now ∷ pieces x.1.now) }
     ensures shorter { IfSome result (λ x. length x.1.now < length text.now) }
 {
     let at = memchr(b',', text.as_bytes())?;

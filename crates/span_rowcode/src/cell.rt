@@ -130,7 +130,8 @@ fn bytes_body(alloc: Global, rest: &[u8]) -> Result<Option<(Value, usize)>, Allo
 
 fn text_body(alloc: Global, rest: &[u8]) -> Result<Option<(Value, usize)>, AllocError>
     requires { length rest.now ≤ LONGEST_ROW }
-    ensures { IfOk result (λ found. MatchOption found (IsNoBody kind.Str rest.now) (λ r. IsBody kind.Str rest.now r.0 r.1)) }
+    ensures { IfOk result
+        (λ found. MatchOption found (IsNoBody kind.Str rest.now) (λ r. IsBody kind.Str rest.now r.0 r.1)) }
 {
     match bytes_at(rest) {
         None => Ok(None),

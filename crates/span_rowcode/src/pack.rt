@@ -55,7 +55,8 @@ fn bytes_left(cells: &[Value]) -> Option<usize>
 /// What is left of this many bytes after the code of a cell. None where it has more.
 pub fn bytes_left_after_cell(cell: &Value, left: usize) -> Option<usize>
     requires { left ≤ LONGEST_ROW }
-    ensures { MatchOption result (left < length (cell_code cell.now)) (λ rest. rest + length (cell_code cell.now) ≡ left) }
+    ensures { MatchOption result (left < length (cell_code cell.now))
+        (λ rest. rest + length (cell_code cell.now) ≡ left) }
 {
     match cell {
         Value::Null => left.checked_sub(1),

@@ -119,7 +119,8 @@ fn wanted_reads(
     requires table { IsTable schema.now table }
     requires steps { steps.now ≡ key_steps schema.now table }
     ensures { IfOk result
-        (λ reads. AreReadsOf schema.now table (map (spec.target mask.now) (key_places schema.now table)) wanted.now reads) }
+        (λ reads. AreReadsOf schema.now table
+        (map (spec.target mask.now) (key_places schema.now table)) wanted.now reads) }
 {
     let places = targets(alloc, mask, schema.key_places(table))?;
     let count = count_to_last(wanted, places.as_slice());

@@ -110,7 +110,8 @@ fn is_comparison_met(condition: &Expr, left: &[Value], right: &[Value]) -> Optio
 /// Whether such comparisons are all TRUE at the row.
 fn are_all_met(first: &Expr, more: &[Expr], left: &[Value], right: &[Value]) -> Option<bool>
     ensures { IfSome result
-        (λ met. all_of (val (left.now ++ right.now) first.now) (map (val (left.now ++ right.now)) more.now) ≡ Val (value.Bool met)) }
+        (λ met. all_of (val (left.now ++ right.now) first.now) (map (val (left.now ++ right.now)) more.now)
+        ≡ Val (value.Bool met)) }
 {
     let mut all = is_comparison_met(first, left, right)?;
     for condition in more {

@@ -352,7 +352,8 @@ fn push_copies(
     requires { AreEnds 0 ends.old.items (length values.old.items) }
     ensures whole { AreEnds 0 ends.new.items (length values.new.items) }
     ensures ok { OnOk result
-        (cut_at 0 ends.new.items values.new.items ≡ cut_at 0 ends.old.items values.old.items ++ (left.now ++ right.now) ∷ []) }
+        (cut_at 0 ends.new.items values.new.items
+        ≡ cut_at 0 ends.old.items values.old.items ++ (left.now ++ right.now) ∷ []) }
     ensures err { OnErr result (cut_at 0 ends.new.items values.new.items ≡ cut_at 0 ends.old.items values.old.items) }
 {
     ends.reserve(1)?;

@@ -44,7 +44,8 @@ pub(crate) fn understand_and_plan(
     ensures understood { IfOk result (λ r. Understands schema.now text.now params.now (Ok r.0)) }
     ensures plannable { IfOk result (λ r. IsPlannable schema.now r.0) }
     ensures plan { IfOk result (λ r. IsPlanOf schema.now text.now params.now r.1) }
-    ensures refused { IfErr result (λ why. (why ≡ Refusal.OutOfMemory) ⊎ Understands schema.now text.now params.now (Err why)) }
+    ensures refused { IfErr result
+        (λ why. (why ≡ Refusal.OutOfMemory) ⊎ Understands schema.now text.now params.now (Err why)) }
 {
     match understand(alloc, schema, text, params) {
         Ok(statement) => {
@@ -96,7 +97,8 @@ pub(crate) fn rows_of(
     params: &Params,
     s: u64,
 ) -> Result<Rows, Refusal>
-    ensures same { IfOk result (λ _. (taken.now.text ≡ text.now) × (taken.now.params ≡ params.now) × (taken.now.s ≡ s)) }
+    ensures same { IfOk result
+        (λ _. (taken.now.text ≡ text.now) × (taken.now.params ≡ params.now) × (taken.now.s ≡ s)) }
     ensures rows { IfOk result (λ rows. gathered taken.now.pieces taken.now.top ≡ Some rows.rows) }
     ensures refused { IfErr result
         (λ why. ((why ≡ Refusal.ArithmeticFault) × IsFaultOf taken.now text.now params.now s)

@@ -28,7 +28,14 @@ impl<J: Naming> Model for ScanQueue<J> {
 
     ghost Value = { Scans };
 
-    ghost view = { λ q. record { place = q.place; leaves = q.leaves; number = q.number; first = q.from; end = q.to; refused = q.refused } };
+    ghost view = { λ q. record {
+      place = q.place;
+      leaves = q.leaves;
+      number = q.number;
+      first = q.from;
+      end = q.to;
+      refused = q.refused;
+    } };
 
     ghost invariant = { λ q. IfSome q.refused (IsUnscanned J.schema) };
 }
@@ -63,7 +70,8 @@ impl<J: Naming> ScanQueue<J> {
             ⊎ (self.old.leaves ≤ self.old.place)
             ⊎ ((self.old.end ≤ self.old.number) × (self.old.leaves ≤ self.old.place + 1))
             ⊎ (self.old.end ≤ self.old.first) }
-        ensures kept { (self.new.leaves ≡ self.old.leaves) × (self.new.first ≡ self.old.first) × (self.new.end ≡ self.old.end) }
+        ensures kept { (self.new.leaves ≡ self.old.leaves) × (self.new.first ≡ self.old.first)
+            × (self.new.end ≡ self.old.end) }
         ensures refused { self.new.refused ≡ self.old.refused }
     {
         if self.is_refused() {
@@ -94,9 +102,11 @@ impl<J: Naming> ScanQueue<J> {
     /// Notes the refusal of a scan, if it is the first one.
     pub(crate) fn refuse(&mut self, why: Refusal)
         requires { IsUnscanned J.schema why }
-        ensures refused { MatchOption self.old.refused (self.new.refused ≡ Some why) (λ first. self.new.refused ≡ Some first) }
+        ensures refused { MatchOption self.old.refused (self.new.refused ≡ Some why)
+            (λ first. self.new.refused ≡ Some first) }
         ensures next { (self.new.place ≡ self.old.place) × (self.new.number ≡ self.old.number) }
-        ensures kept { (self.new.leaves ≡ self.old.leaves) × (self.new.first ≡ self.old.first) × (self.new.end ≡ self.old.end) }
+        ensures kept { (self.new.leaves ≡ self.old.leaves) × (self.new.first ≡ self.old.first)
+            × (self.new.end ≡ self.old.end) }
     {
         if self.refused.is_none() {
             self.refused = Some(why);

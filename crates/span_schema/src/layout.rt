@@ -130,7 +130,8 @@ pub(crate) fn children_of(
     tables: &[Table],
 ) -> Result<Vec<Seq<usize>>, AllocError>
     requires { lines.now ≡ map (lineage_at tables.now) (range_with_len 0 (length tables.now)) }
-    ensures { IfOk result (λ children. children.items ≡ map (children_at tables.now) (range_with_len 0 (length tables.now))) }
+    ensures { IfOk result
+        (λ children. children.items ≡ map (children_at tables.now) (range_with_len 0 (length tables.now))) }
 {
     let mut children = Vec::new(alloc);
     for i in 0..tables.len() {

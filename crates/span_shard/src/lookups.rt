@@ -90,7 +90,8 @@ impl<'a> Lookups<'a> {
         front: &[u8],
     ) -> Result<(), AllocError>
         ensures { OnOk result
-            (found.new.items ≡ found.old.items ++ map versions_alone (filter (λ c. begins_with c.key front.now) self.now)) }
+            (found.new.items
+            ≡ found.old.items ++ map versions_alone (filter (λ c. begins_with c.key front.now) self.now)) }
     {
         push_beginning(found, self.store, front)
     }

@@ -69,7 +69,8 @@ fn lacks_parent(
     requires typed { IsTypedMutation schema.now mutation.now }
     requires known { HasParent schema.now store.now changes.now (option_copied known) }
     ensures { MatchResult result
-        (λ b. b ≡ lacks_parent_over schema.now store.now changes.now (parent_of schema.now mutation.now.table) mutation.now.key)
+        (λ b. b
+        ≡ lacks_parent_over schema.now store.now changes.now (parent_of schema.now mutation.now.table) mutation.now.key)
         (λ why. why ≡ Refusal.OutOfMemory) }
 {
     schema.meets_rules();
@@ -98,7 +99,8 @@ fn cells_of(
     ensures { MatchResult result
         (λ cells. AreCellsOf schema.now table (option_copied row.entry) cells.items)
         (λ why.
-        ((why ≡ Refusal.BadRow) × IsUnpacked schema.now table (option_copied row.entry)) ⊎ (why ≡ Refusal.OutOfMemory)) }
+        ((why ≡ Refusal.BadRow) × IsUnpacked schema.now table (option_copied row.entry))
+        ⊎ (why ≡ Refusal.OutOfMemory)) }
 {
     match row {
         None => Ok(Vec::new(alloc)),
@@ -275,7 +277,8 @@ fn keys_deleted(
     requires key { key.now ≡ own_code schema.now mutation.now }
     requires there { is_some (row_over store.now changes.old key.now) ≡ true }
     ensures keys { MatchResult result
-        (λ keys. AreUnder store.now changes.old key.now keys.items × IsBlocked schema.now mutation.now.table keys.items false)
+        (λ keys. AreUnder store.now changes.old key.now keys.items
+        × IsBlocked schema.now mutation.now.table keys.items false)
         (IsNoDelete schema.now store.now changes.old mutation.now) }
     ensures same { OnOk result (changes.new ≡ changes.old) }
 {

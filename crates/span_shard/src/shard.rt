@@ -168,7 +168,8 @@ impl Shard {
 
     /// A law, which takes no time: what a trim at h leaves reads as before at and above h, and the keys that go had nothing.
     pub fn trim_keeps_snapshots(&self, h: u64)
-        ensures seen { (range : KeyRange) (s : ℕ) → h ≤ s → snapshot range s (trimmed h self.now) ≡ snapshot range s self.now }
+        ensures seen { (range : KeyRange) (s : ℕ) → h ≤ s
+            → snapshot range s (trimmed h self.now) ≡ snapshot range s self.now }
         ensures live { live (trimmed h self.now) ≡ live (map (trimmed_key h) self.now) }
     {
         let _ = &self.store;

@@ -33,7 +33,8 @@ fn place_in_order(keys: &[SortKey], rows: &[&[Value]], row: &[Value]) -> usize
 fn is_beyond(keys: &[SortKey], rows: &[&[Value]], row: &[Value], count: usize) -> bool
     requires order { IsSorted (comes_before keys.now) (lent_rows rows.now) }
     requires few { length rows.now ≤ count }
-    ensures { result ≡ true → take count (insert_sorted (comes_before keys.now) row.now (lent_rows rows.now)) ≡ lent_rows rows.now }
+    ensures { result ≡ true
+        → take count (insert_sorted (comes_before keys.now) row.now (lent_rows rows.now)) ≡ lent_rows rows.now }
 {
     match rows.last() {
         Some(last) => rows.len() == count && is_before(keys, *last, row),
@@ -51,7 +52,8 @@ fn put_in_order<'a>(
     requires order { IsSorted (comes_before keys.now) (lent_rows rows.old.items) }
     requires few { length rows.old.items ≤ count }
     ensures { OnOk result
-        (lent_rows rows.new.items ≡ take count (insert_sorted (comes_before keys.now) row.now (lent_rows rows.old.items))) }
+        (lent_rows rows.new.items
+        ≡ take count (insert_sorted (comes_before keys.now) row.now (lent_rows rows.old.items))) }
 {
     if is_beyond(keys, rows.as_slice(), row, count) {
         return Ok(());

@@ -194,20 +194,26 @@ fn copy_rows(alloc: Global, rows: &[&[Value]]) -> Result<RowList, AllocError>
 /// and no other list is so.
 pub fn sorting_is_stable()
     ensures ranked { (keys : List SortKey) → IsStrictWeakOrder (spec.comes_before keys) }
-    ensures sorted { (keys : List SortKey) (rows : List Row) → IsSorted (spec.comes_before keys) (spec.sorted keys rows) }
-    ensures stable { (keys : List SortKey) (rows : List Row) → IsStableBy (spec.comes_before keys) rows (spec.sorted keys rows) }
+    ensures sorted { (keys : List SortKey) (rows : List Row)
+        → IsSorted (spec.comes_before keys) (spec.sorted keys rows) }
+    ensures stable { (keys : List SortKey) (rows : List Row)
+        → IsStableBy (spec.comes_before keys) rows (spec.sorted keys rows) }
     ensures only { (keys : List SortKey) (rows others : List Row) →
-        IsSorted (spec.comes_before keys) others → IsStableBy (spec.comes_before keys) rows others → others ≡ spec.sorted keys rows }
+        IsSorted (spec.comes_before keys) others → IsStableBy (spec.comes_before keys) rows others
+        → others ≡ spec.sorted keys rows }
 {}
 
 /// A law, which takes no time: lists of rows may each be replaced by one that sorting makes the same, and still do so one after the
 /// other; a list in order is such a one. The same holds of lists of which sorting makes the same first rows.
 pub fn sorting_in_parts()
-    ensures both { (keys : List SortKey) (first others second more : List Row) → spec.sorted keys first ≡ spec.sorted keys others
-        → spec.sorted keys second ≡ spec.sorted keys more → spec.sorted keys (first ++ second) ≡ spec.sorted keys (others ++ more) }
+    ensures both { (keys : List SortKey) (first others second more : List Row)
+        → spec.sorted keys first ≡ spec.sorted keys others
+        → spec.sorted keys second ≡ spec.sorted keys more
+        → spec.sorted keys (first ++ second) ≡ spec.sorted keys (others ++ more) }
     ensures first { (count : ℕ) (keys : List SortKey) (first others second more : List Row)
         → take count (spec.sorted keys first) ≡ take count (spec.sorted keys others)
         → take count (spec.sorted keys second) ≡ take count (spec.sorted keys more)
         → take count (spec.sorted keys (first ++ second)) ≡ take count (spec.sorted keys (others ++ more)) }
-    ensures again { (keys : List SortKey) (rows : List Row) → spec.sorted keys (spec.sorted keys rows) ≡ spec.sorted keys rows }
+    ensures again { (keys : List SortKey) (rows : List Row)
+        → spec.sorted keys (spec.sorted keys rows) ≡ spec.sorted keys rows }
 {}

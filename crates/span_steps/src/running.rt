@@ -306,7 +306,8 @@ impl RunningScript {
         requires { self.old.load ≡ None }
         ensures added { OnOk result (answers.new ≡ answers.old ++ number_line (codes "loaded") (vec_len records.rows)) }
         ensures gathered { Gathered
-            (row_mutations (heading_of records.layout MutationKind.Insert) records.rows.items) self.old self.new result }
+            (row_mutations (heading_of records.layout MutationKind.Insert) records.rows.items)
+            self.old self.new result }
         ensures grows { Begins answers.old answers.new }
     {
         let Records { layout, rows } = records;

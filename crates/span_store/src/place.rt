@@ -36,7 +36,11 @@ impl<'a> Model for StoredKey<'a> {
 
     ghost Value = { KeyVersions };
 
-    ghost view = { λ k. record { key = k.key.now; versions = chain_versions k.arena.now k.chain.number; prepared = None } };
+    ghost view = { λ k. record {
+      key = k.key.now;
+      versions = chain_versions k.arena.now k.chain.number;
+      prepared = None;
+    } };
 
     ghost invariant = { λ k. IsChain k.arena.now k.chain.number };
 }
@@ -117,7 +121,8 @@ pub fn push_beginning<'a>(
     front: &[u8],
 ) -> Result<(), AllocError>
     ensures { OnOk result
-        (found.new.items ≡ found.old.items ++ map versions_alone (filter (λ c. begins_with c.key front.now) store.now)) }
+        (found.new.items
+        ≡ found.old.items ++ map versions_alone (filter (λ c. begins_with c.key front.now) store.now)) }
 {
     push_keys(
         found,

@@ -19,7 +19,8 @@ pub(crate) fn reserve_versions(
 ) -> Result<(), Refusal>
     requires { IsIndexOf index.now arena.now }
     ensures ok { OnOk result
-        (AreReserved (versions_count arena.now (entries_from key.now (entries_of index.now arena.now))) room.old room.new) }
+        (AreReserved (versions_count arena.now (entries_from key.now (entries_of index.now arena.now)))
+        room.old room.new) }
     ensures memory { IfErr result (λ why. why ≡ Refusal.OutOfMemory) }
 {
     let mut chains = chains_from(index, arena, key);
@@ -53,10 +54,12 @@ pub(crate) fn move_versions(
 )
     requires own { IsIndexOf index.now arena.old }
     requires part { IsIndexOf part.now to.old }
-    requires keys { keys_of (entries_of part.now to.old) ≡ keys_of (entries_from key.now (entries_of index.now arena.old)) }
+    requires keys { keys_of (entries_of part.now to.old)
+        ≡ keys_of (entries_from key.now (entries_of index.now arena.old)) }
     requires none { (c : ℕ) → versions to.old c ≡ [] }
     requires room { versions_count arena.old (entries_from key.now (entries_of index.now arena.old)) ≤ to.old.free }
-    ensures { AreMoved (entries_from key.now (entries_of index.now arena.old)) (entries_of part.now to.old) arena.old arena.new to.old to.new }
+    ensures { AreMoved (entries_from key.now (entries_of index.now arena.old))
+        (entries_of part.now to.old) arena.old arena.new to.old to.new }
 {
     let mut sources = chains_from(index, arena, key);
     let mut chains = part.chains(to);

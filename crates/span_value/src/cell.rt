@@ -83,7 +83,8 @@ pub fn read_cell(alloc: Global, kind: Kind, text: &str) -> Result<Value, Refusal
     // What is read has this cell.
     ensures read { IfOk result (λ value. IsCell kind value text.now) }
     // Each cell of the kind is read.
-    ensures read_all { (value : Value) → IsCell kind value text.now → (result ≡ Ok value) ⊎ (result ≡ Err Refusal.OutOfMemory) }
+    ensures read_all { (value : Value) → IsCell kind value text.now
+        → (result ≡ Ok value) ⊎ (result ≡ Err Refusal.OutOfMemory) }
     ensures refusals { IfErr result (λ why. (why ≡ Refusal.WrongType) ⊎ (why ≡ Refusal.OutOfMemory)) }
 {
     if text == "\\N" {
@@ -178,7 +179,8 @@ fn read_text(alloc: Global, text: &str) -> Result<Value, Refusal>
 
 /// The text that becomes this one when each backslash is doubled, if there is one.
 fn unescape_text(alloc: Global, text: &str) -> Result<Option<String>, AllocError>
-    ensures { IfOk result (λ o. MatchOption o (unescaped text.now ≡ None) (λ s. unescaped text.now ≡ Some (string_bytes s))) }
+    ensures { IfOk result
+        (λ o. MatchOption o (unescaped text.now ≡ None) (λ s. unescaped text.now ≡ Some (string_bytes s))) }
 {
     let mut out = String::new(alloc);
     let mut rest = text;
@@ -212,7 +214,8 @@ fn read_bytes(alloc: Global, text: &str) -> Result<Value, Refusal>
 
 /// The bytes that pairs of hexadecimal digits represent, if there are only such pairs.
 fn decode_hex(alloc: Global, digits: &[u8]) -> Result<Option<Vec<u8>>, AllocError>
-    ensures { IfOk result (λ o. MatchOption o (decoded_hex digits.now ≡ None) (λ v. decoded_hex digits.now ≡ Some v.items)) }
+    ensures { IfOk result
+        (λ o. MatchOption o (decoded_hex digits.now ≡ None) (λ v. decoded_hex digits.now ≡ Some v.items)) }
 {
     let mut out = Vec::new(alloc);
     let mut rest = digits;

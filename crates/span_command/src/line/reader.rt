@@ -35,7 +35,8 @@ impl Lines {
     /// Whether `take` answers without a further read: a whole line was read, or the script to its end.
     pub fn is_ready(&mut self) -> bool
         ensures ready { IsTrue result ↔ IsReady self.new }
-        ensures to_come { (known : Option (List ℕ)) (text : List ℕ) → IsStillToCome self.old known text → IsStillToCome self.new known text }
+        ensures to_come { (known : Option (List ℕ)) (text : List ℕ) → IsStillToCome self.old known text
+            → IsStillToCome self.new known text }
     {
         self.search();
         if self.searched < self.end {
@@ -83,7 +84,8 @@ impl Lines {
 
     /// Lets the bytes of a line go that is too long already.
     fn let_go(&mut self)
-        ensures { (known : Option (List ℕ)) (text : List ℕ) → IsStillToCome self.old known text → IsStillToCome self.new known text }
+        ensures { (known : Option (List ℕ)) (text : List ℕ) → IsStillToCome self.old known text
+            → IsStillToCome self.new known text }
     {
         if self.searched - self.start > LONGEST_LINE {
             self.is_cut = true;
@@ -126,7 +128,8 @@ impl Lines {
             → MatchBool result (TakesNext self.new known text) (text ≡ []) }
         ensures waits { ¬ IsReady self.old → result ≡ false }
         ensures stays { OnFalse result
-            ((known : Option (List ℕ)) (text : List ℕ) → IsStillToCome self.old known text → IsStillToCome self.new known text) }
+            ((known : Option (List ℕ)) (text : List ℕ) → IsStillToCome self.old known text
+            → IsStillToCome self.new known text) }
     {
         self.search();
         if self.searched < self.end {
@@ -188,7 +191,8 @@ fn read_after<I: InputDevice>(
     ensures end { IfOk result (λ n. n ≡ 0 → IsAtEnd (I.remaining input.new)) }
     ensures kept { OnErr result (Keeps (I.remaining input.old) (I.remaining input.new)) }
     ensures ok { OnOk result (I.failures input.new ≡ I.failures input.old) }
-    ensures err { IfErr result (λ why. (why ≡ Refusal.InputFault) × (I.failures input.new ≡ risen (I.failures input.old))) }
+    ensures err { IfErr result
+        (λ why. (why ≡ Refusal.InputFault) × (I.failures input.new ≡ risen (I.failures input.old))) }
 {
     read_at(input, buffer.as_mut_slice(), front)
 }
@@ -198,11 +202,13 @@ fn read_at<I: InputDevice>(input: &mut I, buffer: &mut [u8], front: usize) -> Re
     requires { front < length buffer.old }
     ensures front { take front buffer.new ≡ take front buffer.old }
     ensures fits { IfOk result (λ n. front + n ≤ length buffer.new) }
-    ensures bytes { IfOk result (λ n. Consumes (I.remaining input.old) (I.remaining input.new) (take n (drop front buffer.new))) }
+    ensures bytes { IfOk result
+        (λ n. Consumes (I.remaining input.old) (I.remaining input.new) (take n (drop front buffer.new))) }
     ensures end { IfOk result (λ n. n ≡ 0 → IsAtEnd (I.remaining input.new)) }
     ensures kept { OnErr result (Keeps (I.remaining input.old) (I.remaining input.new)) }
     ensures ok { OnOk result (I.failures input.new ≡ I.failures input.old) }
-    ensures err { IfErr result (λ why. (why ≡ Refusal.InputFault) × (I.failures input.new ≡ risen (I.failures input.old))) }
+    ensures err { IfErr result
+        (λ why. (why ≡ Refusal.InputFault) × (I.failures input.new ≡ risen (I.failures input.old))) }
 {
     input.read(&mut buffer[front..])
 }
