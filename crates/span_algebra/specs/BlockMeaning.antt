@@ -18,7 +18,8 @@ project_block b rows = outputs_of b rows >>= (λ found. Some (distinct_if b.is_d
 
 -- what the block makes of the rows of its groups
 abbrev pub project_groups : {Q : Type 0} → Block Q → Grouping → List Row → Rows
-project_groups b g groups = filter_where g.having groups >>= project_rows b.outputs >>= (λ found. Some (distinct_if b.is_distinct found))
+project_groups b g groups =
+    filter_where g.having groups >>= project_rows b.outputs >>= (λ found. Some (distinct_if b.is_distinct found))
 
 -- the block is one that groups all rows of one table
 pub record GroupsTable {Q : Type 0} (b : Block Q) (number : ℕ) (g : Grouping) : Type 0 where

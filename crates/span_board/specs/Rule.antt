@@ -25,7 +25,8 @@ name_of (Client o seen mine) = 2 * o + 2
 abbrev pub Fits : ℕ → Known → Role → Type 0
 Fits n known (Keeper b) = b ≡ known
 Fits n known (Holder i vs) = (i < length known.slots) × (vs ≡ kept known i)
-Fits n known (Client o seen mine) = (o < n) × IsPrefix seen known.commits × (owned o seen ≡ mine) × (owned o known.commits ≡ mine)
+Fits n known (Client o seen mine) =
+    (o < n) × IsPrefix seen known.commits × (owned o seen ≡ mine) × (owned o known.commits ≡ mine)
 
 -- each of these roles fits, and is at this seat alone
 abbrev pub FitAll : ℕ → Known → (ℕ → ℕ) → ℕ → List Role → Type 0

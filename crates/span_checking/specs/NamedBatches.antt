@@ -70,7 +70,8 @@ pub record IsNamed (tables : List Table) (heading : Heading) (c : NamedColumns) 
   pub put : is_delete heading.kind ≡ false
   pub new : IfSome (table_at tables c.table) (λ (t : Table). are_new_names t [] heading.columns ≡ true)
   pub places : c.places.items ≡ map (place_named (columns_of tables c.table)) heading.columns
-  pub names : c.names.items ≡ map (λ (p : ℕ). name_of heading.columns (slice_get (columns_of tables c.table) p)) (other_places tables c.table)
+  pub names : c.names.items
+      ≡ map (λ (p : ℕ). name_of heading.columns (slice_get (columns_of tables c.table) p)) (other_places tables c.table)
 
 -- no two of the numbers are the same
 abbrev pub AreApart : List (Option ℕ) → Type 0

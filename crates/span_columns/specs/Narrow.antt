@@ -28,7 +28,8 @@ moved_aggregate f (Of function e) = Of function (moved f e)
 
 -- HAVING is evaluated at rows of the groups, whose columns stay
 abbrev pub moved_grouping : (ℕ → ℕ) → Grouping → Grouping
-moved_grouping f g = record { keys = map f g.keys; aggregates = map (moved_aggregate f) g.aggregates; having = g.having }
+moved_grouping f g =
+    record { keys = map f g.keys; aggregates = map (moved_aggregate f) g.aggregates; having = g.having }
 
 -- the select list is evaluated at rows of the groups where there are groups
 abbrev pub moved_outputs : (ℕ → ℕ) → Option Grouping → List Expr → List Expr
@@ -74,7 +75,8 @@ moved_block f b from joins = record {
 }
 
 abbrev pub narrow_with : (ℕ → List Bool) → (ℕ → ℕ) → Block NarrowQuery → Block BoundQuery
-narrow_with masks f b = moved_block f b (map_item (λ (q : NarrowQuery). q.query) b.from) (map (narrow_join masks f) b.joins)
+narrow_with masks f b =
+    moved_block f b (map_item (λ (q : NarrowQuery). q.query) b.from) (map (narrow_join masks f) b.joins)
 
 abbrev pub narrow_block : (ℕ → List Bool) → Block NarrowQuery → Block BoundQuery
 narrow_block masks b = narrow_with masks (rank (from_columns masks b)) b
@@ -103,7 +105,8 @@ narrowed masks q = (narrow masks q).query
 abbrev pub narrow_joins : (ℕ → ℕ) → List LeafJoin → List Bool → List LeafJoin
 narrow_joins f [] ms = []
 narrow_joins f (j ∷ joins) ms =
-    record { is_left = j.is_left; width = picked_width (take j.width ms); on = moved f j.on } ∷ narrow_joins f joins (drop j.width ms)
+    record { is_left = j.is_left; width = picked_width (take j.width ms); on = moved f j.on }
+    ∷ narrow_joins f joins (drop j.width ms)
 
 -- the leaf over tables whose rows have the columns alone that its mask has; the first table has the given number of columns
 abbrev pub narrow_leaf : ℕ → Leaf → Leaf

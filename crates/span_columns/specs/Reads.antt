@@ -50,7 +50,8 @@ selection_reads test (Some g) outputs = list_all test g.keys && list_all (aggreg
 
 -- each column of the FROM that a block reads passes the test
 abbrev pub block_reads : {Q : Type 0} → (ℕ → Bool) → Block Q → Bool
-block_reads test b = list_all (on_reads test) b.joins && condition_reads test b.filter && selection_reads test b.grouping b.outputs
+block_reads test b =
+    list_all (on_reads test) b.joins && condition_reads test b.filter && selection_reads test b.grouping b.outputs
 
 -- any place but this one
 abbrev pub is_not : ℕ → ℕ → Bool
@@ -119,12 +120,14 @@ abbrev pub join_within : (ℕ → List Bool) → Join Reading → Bool
 join_within masks j = (j.width == length (join_mask masks j)) && item_within j.item
 
 abbrev pub block_within : (ℕ → List Bool) → Block Reading → Bool
-block_within masks b = item_within b.from && list_all (join_within masks) b.joins && block_reads (has_place (from_mask masks b)) b
+block_within masks b =
+    item_within b.from && list_all (join_within masks) b.joins && block_reads (has_place (from_mask masks b)) b
 
 abbrev pub query_reading : (ℕ → List Bool) → BoundQuery-F Reading → Reading
 query_reading masks q = record {
   width = length q.first.outputs;
-  is_within = list_all (block_within masks) (q.first ∷ q.others) && list_all (λ (b : Block Reading). length b.outputs == length q.first.outputs) q.others;
+  is_within = list_all (block_within masks) (q.first ∷ q.others)
+      && list_all (λ (b : Block Reading). length b.outputs == length q.first.outputs) q.others;
 }
 
 abbrev pub reading : (ℕ → List Bool) → BoundQuery → Reading

@@ -23,7 +23,8 @@ AreMeasuresOf aggregates measures = aggregates ≡ map aggregate_of measures
 -- they are the groups that a block makes of the rows by these keys and aggregates
 abbrev pub HaveGroups : List Row → Groups → Type 0
 HaveGroups rows made =
-    (g : Grouping) → g.keys ≡ made.keys.items → AreMeasuresOf g.aggregates made.measures.items → HoldGroups g rows rows made.lists
+    (g : Grouping) → g.keys ≡ made.keys.items → AreMeasuresOf g.aggregates made.measures.items
+    → HoldGroups g rows rows made.lists
 
 -- the groups and the first rows of a part, where they were made, are those of its rows
 pub record IsPart (rows : List Row) (made : Option Groups) (found : Option FirstPlaces) : Type 0 where

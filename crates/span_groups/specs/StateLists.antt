@@ -15,7 +15,8 @@ states_from start width states = take width (drop start states)
 -- the groups that have these keys, each with the next `width` of the states
 abbrev pub groups_in : ℕ → List Row → List AggregateState → List Group
 groups_in width [] states = []
-groups_in width (key ∷ keys) states = record { key = key; states = take width states } ∷ groups_in width keys (drop width states)
+groups_in width (key ∷ keys) states =
+    record { key = key; states = take width states } ∷ groups_in width keys (drop width states)
 
 -- all states but `width` of them from a place on are as they were
 pub record IsChangedAt (start width : ℕ) (old new : List AggregateState) : Type 0 where

@@ -64,7 +64,8 @@ operand_at row (Of f e) = value_of (val row e)
 -- the states of aggregates that have taken these rows
 pub record AreStatesOf (aggregates : List Aggregate) (rows : List Row) (states : List AggregateState) : Type 0 where
   pub long : length states ≡ length aggregates
-  pub each : (k : ℕ) (a : Aggregate) (s : AggregateState) → slice_get aggregates k ≡ Some a → slice_get states k ≡ Some s
+  pub each : (k : ℕ) (a : Aggregate) (s : AggregateState) → slice_get aggregates k ≡ Some a
+      → slice_get states k ≡ Some s
       → IsStateOf a rows s
 
 -- the number of rows taken is so small that one more can be counted

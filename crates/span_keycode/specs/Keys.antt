@@ -58,10 +58,13 @@ IsCodedKey tables n vs = IsKey tables n vs × (length (key_code tables n vs) ≤
 
 -- why a key has no coding: a value that fits no column, and then its length
 abbrev pub encode_cause : List Table → ℕ → List Value → Option Refusal
-encode_cause tables n vs = (if are_of_kinds (key_columns tables n) vs then (if nat_lt longest_key (length (key_code tables n vs)) then Some KeyTooLong else None) else Some WrongType)
+encode_cause tables n vs =
+    (if are_of_kinds (key_columns tables n) vs
+    then (if nat_lt longest_key (length (key_code tables n vs)) then Some KeyTooLong else None) else Some WrongType)
 
 abbrev pub level_cmp : List Table → Level → Level → Ordering
-level_cmp tables l m = ordering_then (nat_cmp l.table m.table) (tuple_cmp (own_key_columns tables l.table) l.values m.values)
+level_cmp tables l m =
+    ordering_then (nat_cmp l.table m.table) (tuple_cmp (own_key_columns tables l.table) l.values m.values)
 
 -- level by level, a key before those below it
 abbrev pub levels_cmp : List Table → List Level → List Level → Ordering

@@ -69,7 +69,8 @@ part_after piece range = record { low = later piece.high range.low; high = range
 abbrev pub lowest_gap : KeyRange → List KeyRange → Option KeyRange
 lowest_gap range [] = if is_nonempty range then Some range else None
 lowest_gap range (piece ∷ pieces) =
-    if is_nonempty (part_before piece range) then Some (part_before piece range) else lowest_gap (part_after piece range) pieces
+    if is_nonempty (part_before piece range) then Some (part_before piece range)
+    else lowest_gap (part_after piece range) pieces
 
 -- a key may be within both
 abbrev pub overlaps : KeyRange → KeyRange → Bool
@@ -87,7 +88,8 @@ follows low high piece = bytes_eq piece.low low && is_nonempty piece && not (is_
 abbrev pub tiles : KeyRange → List KeyRange → Bool
 tiles range [] = not (is_nonempty range)
 tiles range (piece ∷ pieces) =
-    bytes_eq piece.low range.low && is_nonempty piece && not (is_lt (byte_order range.high piece.high)) && tiles (record { low = piece.high; high = range.high }) pieces
+    bytes_eq piece.low range.low && is_nonempty piece && not (is_lt (byte_order range.high piece.high))
+    && tiles (record { low = piece.high; high = range.high }) pieces
 
 -- the place of a range among pieces in order: how many of them, from the first on, begin before it
 abbrev pub place_among : List KeyRange → KeyRange → ℕ
@@ -98,4 +100,5 @@ place_among (piece ∷ pieces) range = if is_lt (byte_order piece.low range.low)
 abbrev pub AreApart : List KeyRange → Type 0
 AreApart [] = Unit {0}
 AreApart (piece ∷ pieces) =
-    (is_nonempty piece ≡ true) × AllByRecursion (λ (after : KeyRange). is_lt (byte_order after.low piece.high) ≡ false) pieces × AreApart pieces
+    (is_nonempty piece ≡ true)
+    × AllByRecursion (λ (after : KeyRange). is_lt (byte_order after.low piece.high) ≡ false) pieces × AreApart pieces

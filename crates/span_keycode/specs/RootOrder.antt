@@ -13,4 +13,5 @@ pub record ComparesAs (code bytes : List ℕ) (o : Ordering) : Type 0 where
 
 -- the coding of the key of the root row of a key of table n
 abbrev pub root_code_of : List Table → ℕ → List Value → List ℕ
-root_code_of tables n key = key_code tables (root_of tables n) (take (length (key_columns tables (root_of tables n))) key)
+root_code_of tables n key =
+    key_code tables (root_of tables n) (take (length (key_columns tables (root_of tables n))) key)

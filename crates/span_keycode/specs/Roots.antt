@@ -16,7 +16,8 @@ pub record IsCoding (tables : List Table) (bytes : List ℕ) : Type 0 where
 
 -- of whatever key the bytes are the coding, the prefix is the coding of the key of its root row
 pub record IsRootPrefix (tables : List Table) (bytes prefix : List ℕ) : Type 0 where
-  pub root : (n : ℕ) (vs : List Value) → IsKey tables n vs → bytes ≡ key_code tables n vs → prefix ≡ key_code tables (root_of tables n) (take (length (key_columns tables (root_of tables n))) vs)
+  pub root : (n : ℕ) (vs : List Value) → IsKey tables n vs → bytes ≡ key_code tables n vs
+      → prefix ≡ key_code tables (root_of tables n) (take (length (key_columns tables (root_of tables n))) vs)
 
 -- whatever value of the column is coded at the front, its coding has n bytes
 pub record IsSkip (c : KeyPart) (bytes : List ℕ) (n : ℕ) : Type 0 where

@@ -17,7 +17,9 @@ text_at (zero ∷ (c ∷ bs)) = cond (eqb c 1) (Some ([], bs)) (cond (eqb c 255)
 
 -- what one look at the front of an escaped text says
 abbrev pub AtStep : Bool → List ℕ → LevelStep → Type 0
-AtStep d rest (Byte b n) = (text_at (in_direction d rest) ≡ with_first b (text_at (in_direction d (drop n rest)))) × (0 < n) × (n ≤ length rest)
+AtStep d rest (Byte b n) =
+    (text_at (in_direction d rest) ≡ with_first b (text_at (in_direction d (drop n rest))))
+    × (0 < n) × (n ≤ length rest)
 AtStep d rest End = (text_at (in_direction d rest) ≡ Some ([], in_direction d (drop 2 rest))) × (2 ≤ length rest)
 AtStep d rest Bad = text_at (in_direction d rest) ≡ None
 

@@ -34,7 +34,8 @@ abbrev pub AreBelow : ℕ → List KeyEntry → Type 0
 AreBelow n es = AllByRecursion (λ e. e.chain.number < n) es
 
 -- the entries of these cells, and then the short ones of at most `left` that are left from a cell on, are the short ones of es
-pub record AreShortOf (cs : List Cell) (ns : Nexts) (most : ℕ) (stop : Option ℕ) (es : List KeyEntry) (numbers : List ℕ) (left : ℕ) (at : Option ℕ) : Type 0 where
+pub record AreShortOf (cs : List Cell) (ns : Nexts) (most : ℕ) (stop : Option ℕ) (es : List KeyEntry) (numbers : List ℕ)
+    (left : ℕ) (at : Option ℕ) : Type 0 where
   pub short : cell_entries cs numbers ++ short_entries most (walked_in cs ns left at stop) ≡ short_entries most es
   pub found : AreBelow (length cs) (cell_entries cs numbers)
   pub below : AreBelow (length cs) (walked_in cs ns left at stop)

@@ -15,7 +15,8 @@ use Rattle.span_machine.specs.Meaning.{means}
 use Rattle.span_machine.specs.Tables.{tables}
 
 -- The rows are what the query text, with these parameters, means on the tables of these commits at s.
-pub record IsAnswered (schema : List Table) (text : List ℕ) (params : List Parameter) (commits : List Commit) (s : ℕ) (rows : List Row) : Type 0 where
+pub record IsAnswered (schema : List Table) (text : List ℕ) (params : List Parameter) (commits : List Commit) (s : ℕ)
+    (rows : List Row) : Type 0 where
   pub statement : Statement
   pub understood : Understands schema text params (Ok statement)
   pub db : List TableRow
@@ -30,7 +31,8 @@ pub record IsPlanOf (schema : List Table) (text : List ℕ) (params : List Param
   pub is : plan ≡ statement_plan schema statement
 
 -- the leaf is at this place in that plan
-pub record IsLeafOf (schema : List Table) (text : List ℕ) (params : List Parameter) (place : ℕ) (leaf : Leaf) : Type 0 where
+pub record IsLeafOf (schema : List Table) (text : List ℕ) (params : List Parameter) (place : ℕ)
+    (leaf : Leaf) : Type 0 where
   pub statement : Statement
   pub understood : Understands schema text params (Ok statement)
   pub plannable : IsPlannable schema statement

@@ -18,7 +18,8 @@ IsUnderstoodAs schema text params q = Understands schema text params (Ok q)
 
 -- The keeper's seat, in this table, knows the log of the journal; the journal belongs to what the slots in use are to have, which are the
 -- first ones; each open query has what its query text is understood as.
-pub record IsKeeper (schema : List Table) (table here : TableId) (views : List (List Role)) (j : Journaled) : Type 0 where
+pub record IsKeeper (schema : List Table) (table here : TableId) (views : List (List Role))
+    (j : Journaled) : Type 0 where
   pub at : here ≡ table
   pub knows : views ≡ (Keeper (known_at views) ∷ []) ∷ []
   pub log : (known_at views).commits ≡ j.log

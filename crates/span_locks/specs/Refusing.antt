@@ -20,7 +20,8 @@ use Rattle.span_openqueries.specs.declared.taken.Taken.{Taken}
 use Rattle.span_locks.specs.Replies.{RepliesOnce, IsAmong}
 
 -- the query text is understood, and the machine refuses to open it by this reading of the clock
-pub record IsUnopened (schema : List Table) (text : List ℕ) (params : List Parameter) (bound : Bound) (read : Interval) (why : Refusal) : Type 0 where
+pub record IsUnopened (schema : List Table) (text : List ℕ) (params : List Parameter) (bound : Bound) (read : Interval)
+    (why : Refusal) : Type 0 where
   pub statement : Statement
   pub understood : Understands schema text params (Ok statement)
   pub refused : RepliesOnce schema (λ m. open_query schema m (Ok statement) text params bound read) (Refused why)
@@ -38,7 +39,8 @@ abbrev pub IsUnscanned : List Table → Refusal → Type 0
 IsUnscanned schema why = IsAmong (OutOfMemory ∷ NoSlot ∷ UnknownQuery ∷ []) why ⊎ IsScanRefused schema why
 
 -- what the query text, with these parameters, means on the tables of these commits at s is a fault
-pub record IsFault (schema : List Table) (text : List ℕ) (params : List Parameter) (commits : List Commit) (s : ℕ) : Type 0 where
+pub record IsFault (schema : List Table) (text : List ℕ) (params : List Parameter) (commits : List Commit)
+    (s : ℕ) : Type 0 where
   pub statement : Statement
   pub understood : Understands schema text params (Ok statement)
   pub db : List TableRow

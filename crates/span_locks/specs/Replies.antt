@@ -76,10 +76,12 @@ RepliesToCommit schema known owner txn ms interval r =
 
 -- the same of a call that takes the journal's lock
 abbrev pub RepliesToCommitOnce : List Table → ℕ → ℕ → List CheckedMutation → Interval → Reply → Type 0
-RepliesToCommitOnce schema owner txn ms interval r = (known : Known) × RepliesToCommit schema known owner txn ms interval r
+RepliesToCommitOnce schema owner txn ms interval r =
+    (known : Known) × RepliesToCommit schema known owner txn ms interval r
 
 -- the same of what a session has begun under a number
-pub record RepliesToBegun (schema : List Table) (session : SessionHistory) (number : ℕ) (interval : Interval) (r : Reply) : Type 0 where
+pub record RepliesToBegun (schema : List Table) (session : SessionHistory) (number : ℕ) (interval : Interval)
+    (r : Reply) : Type 0 where
   pub place : ℕ
   pub at : IsBegunAt session number place
   pub replies : RepliesToCommitOnce schema session.owner number at.begun.mutations interval r

@@ -75,25 +75,32 @@ BelongsAt schema j slot shard = (shards : Shards) × IsWhole schema j shards × 
 
 -- the journal goes with the same shards as before, but for the slot's, which was the first and is the second
 abbrev pub GoesAt : List Table → ℕ → Journaled → Journaled → List KeyVersions → List KeyVersions → Type 0
-GoesAt schema slot old new before after = (shards : Shards) → IsWhole schema old shards → slice_get shards slot ≡ Some before → IsWhole schema new (slice_set shards slot after)
+GoesAt schema slot old new before after =
+    (shards : Shards) → IsWhole schema old shards → slice_get shards slot ≡ Some before
+    → IsWhole schema new (slice_set shards slot after)
 
 -- the journal goes with the same shards as before, where the slot's shard is this one
 abbrev pub StaysAt : List Table → ℕ → Journaled → Journaled → List KeyVersions → Type 0
-StaysAt schema slot old new shard = (shards : Shards) → IsWhole schema old shards → slice_get shards slot ≡ Some shard → IsWhole schema new shards
+StaysAt schema slot old new shard =
+    (shards : Shards) → IsWhole schema old shards → slice_get shards slot ≡ Some shard → IsWhole schema new shards
 
 -- the coding is that of a key with values of a running program, of the root table with a name
 abbrev pub CodesRootKey : List Table → List ℕ → Type 0
-CodesRootKey schema code = (name : List ℕ) × (values : List Value) × AreValues values × (root_key schema name values ≡ Some code)
+CodesRootKey schema code =
+    (name : List ℕ) × (values : List Value) × AreValues values × (root_key schema name values ≡ Some code)
 
 -- The slot was cut in two: the journal goes with the same shards as before, but for the slot's, which was the first and is the second, and the
 -- one of the new slot. The log and the open queries are the same.
-pub record IsCutAt (schema : List Table) (slot : ℕ) (old new : Journaled) (before after part : List KeyVersions) : Type 0 where
-  pub whole : (shards : Shards) → IsWhole schema old shards → slice_get shards slot ≡ Some before → IsWhole schema new (slice_set shards slot after ++ part ∷ [])
+pub record IsCutAt (schema : List Table) (slot : ℕ) (old new : Journaled)
+    (before after part : List KeyVersions) : Type 0 where
+  pub whole : (shards : Shards) → IsWhole schema old shards → slice_get shards slot ≡ Some before
+      → IsWhole schema new (slice_set shards slot after ++ part ∷ [])
   pub log : new.log ≡ old.log
   pub queries : (machine_of new).queries ≡ (machine_of old).queries
 
 -- the writes of a transaction that may be prepared at the slot are prepared in its shard
-pub record IsWrittenAt (schema : List Table) (m : Machine) (owner txn slot : ℕ) (before after : List KeyVersions) : Type 0 where
+pub record IsWrittenAt (schema : List Table) (m : Machine) (owner txn slot : ℕ)
+    (before after : List KeyVersions) : Type 0 where
   pub mutations : List CheckedMutation
   pub may : MayPrepare schema m owner txn slot mutations
   pub writes : List Write

@@ -26,7 +26,8 @@ pub record IsWhetherOf (schema : List Table) (n : ℕ) (key : List ℕ) (found :
 -- the rows of tables, each with its values at the places that its part of the mask has
 abbrev pub picked_tables : List Table → List TableRow → List Bool → List ℕ → List (List Row)
 picked_tables schema rows ms [] = []
-picked_tables schema rows ms (t ∷ ts) = map (picked ms) (whole_table schema rows t) ∷ picked_tables schema rows (drop (width_of schema t) ms) ts
+picked_tables schema rows ms (t ∷ ts) =
+    map (picked ms) (whole_table schema rows t) ∷ picked_tables schema rows (drop (width_of schema t) ms) ts
 
 -- entries that are no rows
 abbrev pub AreNoRows : List Table → List KeyRow → Type 0

@@ -17,7 +17,9 @@ value_for (p ∷ ps) (v ∷ vs) place = if p == place then Some v else value_for
 
 -- the value of a row at a place among the columns: of its key, or else of its other cells
 abbrev pub value_at : List Table → TableRow → ℕ → Value
-value_at schema r place = unwrap_or (option_or (value_for (key_places schema r.table) r.key place) (value_for (other_places schema r.table) r.cells place)) Null
+value_at schema r place =
+    unwrap_or (option_or (value_for (key_places schema r.table) r.key place)
+    (value_for (other_places schema r.table) r.cells place)) Null
 
 -- the values of a row, in the order in which its table declares the columns
 abbrev pub declared_row : List Table → TableRow → List Value

@@ -40,13 +40,17 @@ pub record IsColumnRead (c : KeyPart) (place : ℕ) (bytes : List ℕ) (old new 
   pub put : new ≡ slice_set old place value
 
 -- whatever value of the column is coded at the front, in n bytes, it was put at its place
-pub record IsColumnPut (ms : List Bool) (c : KeyPart) (place : ℕ) (bytes : List ℕ) (old new : List Value) (n : ℕ) : Type 0 where
+pub record IsColumnPut (ms : List Bool) (c : KeyPart) (place : ℕ) (bytes : List ℕ) (old new : List Value)
+    (n : ℕ) : Type 0 where
   pub within : n ≤ length bytes
-  pub put : (v : Value) (more : List ℕ) → Fits c.kind v → bytes ≡ column_code c v ++ more → (new ≡ put ms place v old) × (more ≡ drop n bytes)
+  pub put : (v : Value) (more : List ℕ) → Fits c.kind v → bytes ≡ column_code c v ++ more
+      → (new ≡ put ms place v old) × (more ≡ drop n bytes)
 
 -- whatever key of table n the bytes code, its values were put at these places, and found is true
-pub record IsKeyPut (schema : List Table) (n : ℕ) (places : List ℕ) (ms : List Bool) (bytes : List ℕ) (old new : List Value) (found : Bool) : Type 0 where
-  pub put : (vs : List Value) → IsKey schema n vs → bytes ≡ key_code schema n vs → (found ≡ true) × (new ≡ placed ms places vs old)
+pub record IsKeyPut (schema : List Table) (n : ℕ) (places : List ℕ) (ms : List Bool) (bytes : List ℕ)
+    (old new : List Value) (found : Bool) : Type 0 where
+  pub put : (vs : List Value) → IsKey schema n vs → bytes ≡ key_code schema n vs
+      → (found ≡ true) × (new ≡ placed ms places vs old)
 
 -- a cell of the kind is coded in the first n bytes, and was put at a place
 pub record IsCellRead (k : Kind) (place : ℕ) (bytes : List ℕ) (old new : List Value) (n : ℕ) : Type 0 where
@@ -55,18 +59,23 @@ pub record IsCellRead (k : Kind) (place : ℕ) (bytes : List ℕ) (old new : Lis
   pub put : new ≡ slice_set old place value
 
 -- whatever cell of the kind is coded at the front, in n bytes, it was put at its place
-pub record IsCellPut (ms : List Bool) (k : Kind) (place : ℕ) (bytes : List ℕ) (old new : List Value) (n : ℕ) : Type 0 where
+pub record IsCellPut (ms : List Bool) (k : Kind) (place : ℕ) (bytes : List ℕ) (old new : List Value)
+    (n : ℕ) : Type 0 where
   pub within : n ≤ length bytes
-  pub put : (v : Value) (more : List ℕ) → Fits k v → bytes ≡ cell_code v ++ more → (new ≡ put ms place v old) × (more ≡ drop n bytes)
+  pub put : (v : Value) (more : List ℕ) → Fits k v → bytes ≡ cell_code v ++ more
+      → (new ≡ put ms place v old) × (more ≡ drop n bytes)
 
 -- whatever cells the bytes code, they were put at their places, and found is true
-pub record AreCellsPut (ks : List Kind) (places : List ℕ) (ms : List Bool) (bytes : List ℕ) (old new : List Value) (found : Bool) : Type 0 where
+pub record AreCellsPut (ks : List Kind) (places : List ℕ) (ms : List Bool) (bytes : List ℕ) (old new : List Value)
+    (found : Bool) : Type 0 where
   pub put : (vs : List Value) → IsRow ks vs → bytes ≡ row_code vs → (found ≡ true) × (new ≡ placed ms places vs old)
 
 -- whatever row of table n has this coded key and these packed cells, these are its values in the order in which the columns are declared, NULL at the
 -- places that the mask does not have
-pub record AreValuesOf (schema : List Table) (n : ℕ) (ms : List Bool) (key row : List ℕ) (values : List Value) : Type 0 where
-  pub are : (r : TableRow) → IsTyped schema r → r.table ≡ n → key ≡ code_of schema r → row ≡ row_code r.cells → values ≡ masked ms (declared_row schema r)
+pub record AreValuesOf (schema : List Table) (n : ℕ) (ms : List Bool) (key row : List ℕ)
+    (values : List Value) : Type 0 where
+  pub are : (r : TableRow) → IsTyped schema r → r.table ≡ n → key ≡ code_of schema r → row ≡ row_code r.cells
+      → values ≡ masked ms (declared_row schema r)
 
 -- no row of table n has this coded key and these packed cells
 pub record IsNoRowOf (schema : List Table) (n : ℕ) (key row : List ℕ) : Type 0 where

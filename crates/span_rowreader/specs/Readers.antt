@@ -35,6 +35,7 @@ pub record IsReader (schema : List Table) (r : TableReader) : Type 0 where
   pub others_left : wants_none r.all (drop r.others_read r.others) ≡ true
 
 -- whatever row of table n has this coded key and these packed cells, these are its values in the columns that the mask has
-pub record ArePickedOf (schema : List Table) (n : ℕ) (ms : List Bool) (key row : List ℕ) (values : List Value) : Type 0 where
+pub record ArePickedOf (schema : List Table) (n : ℕ) (ms : List Bool) (key row : List ℕ)
+    (values : List Value) : Type 0 where
   pub are : (t : TableRow) → IsTyped schema t → t.table ≡ n → key ≡ code_of schema t → row ≡ row_code t.cells
       → values ≡ picked ms (declared_row schema t)

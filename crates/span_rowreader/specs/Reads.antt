@@ -29,7 +29,8 @@ key_reads (s ∷ ss) above ps = step_read s above ps (key_reads ss)
 -- whatever steps come later, their columns and those so far are the same as before a step
 pub record IsReadAdded (s : KeyStep) (above : ℕ) (ps : List ℕ) (old new : List KeyRead) (next : ℕ) : Type 0 where
   pub within : next ≤ above + 1
-  pub added : (later : List KeyStep) → new ++ key_reads later next (drop (length new) ps) ≡ old ++ key_reads (s ∷ later) above (drop (length old) ps)
+  pub added : (later : List KeyStep)
+      → new ++ key_reads later next (drop (length new) ps) ≡ old ++ key_reads (s ∷ later) above (drop (length old) ps)
 
 abbrev pub IsColumnAdded : KeyPart → ℕ → List ℕ → List KeyRead → List KeyRead → ℕ → Type 0
 IsColumnAdded c above ps old new next = IsReadAdded (step.Column c) above ps old new next
@@ -61,12 +62,14 @@ AreCoded (r ∷ rs) (v ∷ vs) bytes = (more : List ℕ) × (IsCodedAt r v bytes
 -- whatever value of the column is coded in the first n bytes, with what is in front of it, it was put at its place
 pub record IsReadPut (ms : List Bool) (r : KeyRead) (bytes : List ℕ) (old new : List Value) (n : ℕ) : Type 0 where
   pub within : n ≤ length bytes
-  pub put : (v : Value) (more : List ℕ) → IsCodedAt r v bytes more → (new ≡ put ms r.place v old) × (more ≡ drop n bytes)
+  pub put : (v : Value) (more : List ℕ) → IsCodedAt r v bytes more
+      → (new ≡ put ms r.place v old) × (more ≡ drop n bytes)
 
 -- no value of the column is coded there
 pub record IsNoRead (r : KeyRead) (bytes : List ℕ) : Type 0 where
   pub none : (v : Value) (more : List ℕ) → IsCodedAt r v bytes more → ⊥
 
 -- whatever values of the columns the bytes code, they were put at their places, and found is true
-pub record AreReadsPut (rs : List KeyRead) (ms : List Bool) (bytes : List ℕ) (old new : List Value) (found : Bool) : Type 0 where
+pub record AreReadsPut (rs : List KeyRead) (ms : List Bool) (bytes : List ℕ) (old new : List Value)
+    (found : Bool) : Type 0 where
   pub put : (vs : List Value) → AreCoded rs vs bytes → (found ≡ true) × (new ≡ placed ms (places_of rs) vs old)

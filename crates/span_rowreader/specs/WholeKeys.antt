@@ -29,7 +29,8 @@ pub record IsWholeKey (schema : List Table) (n : ℕ) (at : WholeKey) : Type 0 w
 
 -- each key of table m that has the length of these whole keys, and begins with their root, has the number of m at their place
 pub record HasNumberAt (schema : List Table) (at : WholeKey) (m : ℕ) : Type 0 where
-  pub of : (vs : List Value) → IsKey schema m vs → length (key_code schema m vs) ≡ at.len → get_or (key_code schema m vs) 0 0 ≡ at.root → get_or (key_code schema m vs) at.place 0 ≡ m
+  pub of : (vs : List Value) → IsKey schema m vs → length (key_code schema m vs) ≡ at.len
+      → get_or (key_code schema m vs) 0 0 ≡ at.root → get_or (key_code schema m vs) at.place 0 ≡ m
 
 -- they are the whole keys of table n, and this holds of each table
 pub record IsTableByLength (schema : List Table) (n : ℕ) (at : WholeKey) : Type 0 where

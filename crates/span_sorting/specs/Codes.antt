@@ -75,7 +75,8 @@ are_exact (key ∷ next ∷ other ∷ keys) row = false
 abbrev pub AreInRange : List SortKey → Row → Type 0
 AreInRange [] row = Unit {0}
 AreInRange (key ∷ []) row = IsInRange (value_at key row)
-AreInRange (key ∷ next ∷ keys) row = IsInRange (value_at key row) × (is_exact (value_at key row) ≡ true → IsInRange (value_at next row))
+AreInRange (key ∷ next ∷ keys) row =
+    IsInRange (value_at key row) × (is_exact (value_at key row) ≡ true → IsInRange (value_at next row))
 
 -- the row with its codes
 pub record IsCoded (keys : List SortKey) (x : CodedRow) : Type 0 where

@@ -11,7 +11,8 @@ AreColumns outputs columns = map as_column outputs ≡ map (λ column. Some colu
 -- the key of a row, where it is one of the row's columns
 abbrev pub key_over : List ℕ → SortKey → Option SortKey
 key_over columns key =
-    option_map (λ (column : ℕ). record { column = column; is_descending = key.is_descending }) (slice_get columns key.column)
+    option_map (λ (column : ℕ). record { column = column; is_descending = key.is_descending })
+    (slice_get columns key.column)
 
 abbrev pub AreKeysOver : List ℕ → List SortKey → List SortKey → Type 0
 AreKeysOver columns keys moved = map (key_over columns) keys ≡ map (λ key. Some key) moved

@@ -65,7 +65,8 @@ count_of running = length (batch_mutations running.gathered.items)
 -- a record is read as one more row
 abbrev pub AddsRow : Records → List ℕ → Records → Type 0
 AddsRow old text new =
-    (row : BatchRow) × IsOfRecord old.layout Insert (record_fields text) (row_mutation (heading_of old.layout Insert) row)
+    (row : BatchRow)
+    × IsOfRecord old.layout Insert (record_fields text) (row_mutation (heading_of old.layout Insert) row)
     × (new.layout ≡ old.layout)
     × (new.rows.items ≡ old.rows.items ++ row ∷ [])
 
@@ -75,7 +76,8 @@ text_of (Text text) = Some text.now
 text_of Unreadable = None
 
 -- a change of the state is made, or refused: then nothing is changed
-abbrev pub Changes : {T : Type 0} → (ScriptState → Type 0) → (Refusal → Type 0) → RunningScript → RunningScript → Result T Refusal
+abbrev pub Changes : {T : Type 0} → (ScriptState → Type 0) → (Refusal → Type 0) → RunningScript → RunningScript
+    → Result T Refusal
     → Type 0
 Changes Sets Refuses old new result =
     MatchResult result (λ _. Sets (state_of new))

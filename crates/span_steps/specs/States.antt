@@ -103,7 +103,8 @@ RefusesDelete schema table row why =
 -- the record is that of a key of the table, and this is the deletion of its row
 abbrev pub IsDeletion : List Table → List ℕ → List ℕ → Mutation → Type 0
 IsDeletion schema table row m =
-    (layout : RecordLayout) × IsKeyLayoutOf schema table layout × IsOfRecord layout mutation.Delete (record_fields row) m
+    (layout : RecordLayout) × IsKeyLayoutOf schema table layout
+    × IsOfRecord layout mutation.Delete (record_fields row) m
 
 -- ---- loads
 

@@ -24,7 +24,8 @@ IsRootKey schema m key = HasRootKey schema m × (key ≡ root_code schema (root_
 
 -- a mutation is in the directory of another one, which lies in the slot
 abbrev pub is_in_held_directory : List Table → SlotState → CheckedMutation → CheckedMutation → Bool
-is_in_held_directory schema slot_state n m = holds schema slot_state (root_at schema m) && is_at schema (root_at schema m) n
+is_in_held_directory schema slot_state n m =
+    holds schema slot_state (root_at schema m) && is_at schema (root_at schema m) n
 
 -- the coded key of the mutation's directory is among these
 abbrev pub has_directory : List Table → List (List ℕ) → CheckedMutation → Bool

@@ -47,13 +47,17 @@ IsCell kind v text = IsOfKind kind v × (cell_of v ≡ text)
 
 -- of a number with a sign or none: no plus, no leading zero but where it is all, and no minus before zero
 abbrev pub is_shortest : List ℕ → Bool
-is_shortest bs = nat_lt (length bs) 2 || (if slice_index bs 0 == 45 then not (slice_index bs 1 == 48) else not (slice_index bs 0 == 48) && not (slice_index bs 0 == 43))
+is_shortest bs =
+    nat_lt (length bs) 2
+    || (if slice_index bs 0 == 45 then not (slice_index bs 1 == 48)
+    else not (slice_index bs 0 == 48) && not (slice_index bs 0 == 43))
 
 -- the text before its backslashes were doubled, if there is one; true: the byte before is the first backslash of a pair
 unfoldable pub unescaped_after : Bool → List ℕ → Option (List ℕ)
 unescaped_after false [] = Some []
 unescaped_after true [] = None
-unescaped_after false (b ∷ bs) = if b == 92 then unescaped_after true bs else option_map (λ w. b ∷ w) (unescaped_after false bs)
+unescaped_after false (b ∷ bs) =
+    if b == 92 then unescaped_after true bs else option_map (λ w. b ∷ w) (unescaped_after false bs)
 unescaped_after true (b ∷ bs) = if b == 92 then option_map (λ w. 92 ∷ w) (unescaped_after false bs) else None
 
 abbrev pub unescaped : List ℕ → Option (List ℕ)
@@ -61,7 +65,9 @@ unescaped bs = unescaped_after false bs
 
 -- the value of a hexadecimal digit in lower case
 unfoldable pub half_byte : ℕ → Option ℕ
-half_byte c = if nat_lt c 48 then None else (if nat_lt c 58 then Some (c - 48) else (if nat_lt c 97 then None else (if nat_lt c 103 then Some (c - 87) else None)))
+half_byte c =
+    if nat_lt c 48 then None else (if nat_lt c 58 then Some (c - 48)
+    else (if nat_lt c 97 then None else (if nat_lt c 103 then Some (c - 87) else None)))
 
 abbrev pub byte_of : Option ℕ → Option ℕ → Option (List ℕ) → Option (List ℕ)
 byte_of (Some high) (Some low) (Some bytes) = Some ((high * 16 + low) ∷ bytes)
