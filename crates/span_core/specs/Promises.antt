@@ -36,7 +36,7 @@ IsCounted schema next (Trim slot h) (Trimmed kept) =
     × (kept ≡ live schema next.log next.transactions slot slot_state)
 IsCounted schema next _ _ = Unit {0}
 
--- What is promised of a step. A query that is answered has exactly the rows, in order, that its text means on the
+-- What is promised of a step. A query that is answered has exactly the rows, in order, that its query text means on the
 -- tables of the commits at its timestamp or earlier. Every commit applies at its place, so that the tables at any
 -- timestamp are made and no row keeps an Apply from being done. A Trim is answered how many versions are kept.
 pub record IsPromised (schema : List Table) (asked : List OpenedQuery) (step : Step) (reply : Reply)

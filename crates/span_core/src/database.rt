@@ -273,7 +273,7 @@ impl Core {
         }
     }
 
-    /// Opens a query whose text is understood as this statement.
+    /// Opens a query whose query text is understood as this statement.
     fn open_statement(
         &mut self,
         alloc: Global,

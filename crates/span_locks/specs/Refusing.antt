@@ -65,7 +65,7 @@ IsUnfinished schema text params seen s why =
     ⊎ IsAmong (OutOfMemory ∷ UnknownQuery ∷ []) why
     ⊎ IsEndRefused schema why
 
--- why a query is not opened: its text is refused, memory ran out, or the machine refuses it
+-- why a query is not opened: its query text is refused, memory ran out, or the machine refuses it
 abbrev pub IsRefusedAtFirst : List Table → List ℕ → List Parameter → Bound → Interval → Refusal → Type 0
 IsRefusedAtFirst schema text params bound read why =
     Understands schema text params (Err why) ⊎ (why ≡ OutOfMemory) ⊎ IsUnopened schema text params bound read why

@@ -295,7 +295,7 @@ impl<J: Naming> LockedJournal<J> {
         }
     }
 
-    /// Opens a query whose text is understood as this statement, and returns its number and the timestamp that it reads at.
+    /// Opens a query whose query text is understood as this statement, and returns its number and the timestamp that it reads at.
     pub fn open(
         &mut self,
         board: &Board<J>,

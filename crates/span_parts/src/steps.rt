@@ -208,7 +208,7 @@ pub fn trim(
     }
 }
 
-/// Opens a query whose text is understood as this statement, which can be planned.
+/// Opens a query whose query text is understood as this statement, which can be planned.
 pub fn open(
     alloc: Global,
     schema: &Schema,

@@ -48,7 +48,7 @@ impl<J: Naming> Locks<J> {
         }
     }
 
-    /// Opens a query whose text is understood as this statement.
+    /// Opens a query whose query text is understood as this statement.
     fn open_statement<R: Wait>(
         &self,
         rt: &R,

@@ -42,7 +42,7 @@ pub struct Answer {
 }
 
 impl<J: Naming + Send + Sync> Db<J> {
-    /// Answers a query: the rows, in order, that its text means on the tables of the log at s, as far as the session has seen the log
+    /// Answers a query: the rows, in order, that its query text means on the tables of the log at s, as far as the session has seen the log
     /// then. Its parts are scanned by this many workers, from 1 to 64; one is the thread that asks. The clock is read once to choose s, and
     /// once for each scan. The refusal is the one that ended it: that of its opening, the first of its scans, or that of its end. The query
     /// is closed then.
