@@ -121,6 +121,13 @@ impl Arena {
         self.nodes.len() - self.free_count as usize
     }
 
+    /// A law, which takes no time: the versions of each chain are in the order of their timestamps.
+    fn versions_are_in_time_order(&self)
+        ensures { AreInTimeOrder self.now }
+    {
+        let _ = &self.nodes;
+    }
+
     /// Whether a chain has no version, and nothing is prepared for it.
     pub fn is_unused(&self, chain: Chain) -> bool
         requires { IsChain self.now chain.number }
@@ -557,8 +564,7 @@ impl Arena {
             unreachable!()
         };
         let alloc = *self.nodes.allocator();
-        // What holds of every arena is known of one whose fields are used.
-        let _ = &from.nodes;
+        from.versions_are_in_time_order();
         let newest = self.free;
         let mut count = 0;
         // The free nodes are linked already: the first of them become the chain.

@@ -87,13 +87,12 @@ invariant_of-self c =
     let done = emptying_ends c.args.from.now c.loop-version.from c.args.source.number _ inv.emptied c.in_default-take_newest.ensures.0 in
     let same = filling_ends j.nodes.items j.chains.items j.free j.free_count j.most c.args.chain.number c.loop-version.count i.free j.cells c.in-Used.links c.args.self.now (versions c.args.from.now c.args.source.number) inv.used inv.same done.0 in
     let falling = subst AreInTimeOrder c.self.view_is c.self.invariant.falling in
-    let there = subst AreInTimeOrder c.from.view_is c.from.invariant.falling in
     record {
       sound = loose_linked j.nodes.items j.chains.items j.free j.free_count j.most c.args.chain.number c.loop-version.count i.free c.in-Used.links inv.filling inv.used inv.none;
       spare = are_spare-used j.chains.items j.spare j.spare_count c.args.chain.number c.in-Used.links _ inv.used inv.spare;
       cells = inv.cells ∙ sym (length-set j.chains.items c.args.chain.number _);
       few = inv.few;
-      falling = subst AreInTimeOrder (sym same) (falling-versions c.args.self.now c.args.chain.number (versions c.args.from.now c.args.source.number) falling (there c.args.source.number));
+      falling = subst AreInTimeOrder (sym same) (falling-versions c.args.self.now c.args.chain.number (versions c.args.from.now c.args.source.number) falling (c.versions_are_in_time_order.ensures c.args.source.number));
     }
 
 pub returns-clause-here : goal.returns-clause-here
