@@ -3,7 +3,7 @@ use Rattle.std.proofs.Common.{◌≡◌, ◌∙◌, sym, ap, refl, subst, Bool, 
 use Rattle.std.specs.Prelude.{flat_map}
 use Rattle.std.specs.List.{fold, list_all, list_any}
 use Rattle.std.proofs.lemmas.List.Folds.{flat_map-map, list_all-append, list_any-append, list_all-map}
-use Rattle.std.proofs.Math.Bool.{and-true, or-false}
+use Rattle.std.proofs.Math.Bool.{and-true, or-false, or_assoc}
 use Rattle.span_value.specs.declared.value.Value.{Value}
 use Rattle.span_value.specs.declared.value.Value.TheVariants as value
 use Rattle.span_value.specs.declared.truth.Truth.TheVariants.{False, True, Unknown}
@@ -182,10 +182,6 @@ is_refused-outcome_of (Known True) = refl
 is_refused-outcome_of (Known False) = refl
 is_refused-outcome_of (Known Unknown) = refl
 is_refused-outcome_of Faulted = refl
-
-or_assoc : (a b c : Bool) → ((a || b) || c) ≡ (a || (b || c))
-or_assoc true b c = refl
-or_assoc false b c = refl
 
 refuses-fold : (row : List Value) (c : Condition) (es : List Expr) → refuses (fold and_also c (map (val row) es)) ≡ (refuses c || list_any (λ e. is_refused (val row e)) es)
 refuses-fold row c [] = sym (or-false (refuses c))

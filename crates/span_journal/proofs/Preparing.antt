@@ -12,7 +12,7 @@ use Rattle.span_machine.specs.declared.slot.SlotState.{SlotState}
 use Rattle.span_machine.specs.declared.transaction.OpenTransaction.{OpenTransaction}
 use Rattle.span_value.specs.Results.{first_cause}
 use Rattle.span_value.proofs.Lists.{list_any-filter}
-use Rattle.span_machine.specs.Machine.{Machine, refused, unless_refused, if_some, is_transaction, is_undecided, is_prepared_at, has_conflict, have_common_root, mutations_in, mutations_refusal, prepare, prepare_transaction, prepare_refusal, prepare_timestamp, prepared, for_slot, capacity_refusal}
+use Rattle.span_machine.specs.Machine.{Machine, refused, unless_refused, if_some, is_transaction, is_prepared_at, has_conflict, have_common_root, mutations_in, mutations_refusal, prepare, prepare_transaction, prepare_refusal, prepare_timestamp, prepared, for_slot, capacity_refusal}
 use Rattle.span_machine.specs.Slots.{holds, root_at, is_at}
 use Rattle.span_transactions.specs.Places.{share_directory_in}
 use Rattle.span_transactions.specs.States.{has_wrong_state}
@@ -54,10 +54,6 @@ conflict_is schema m slot slot_state ms =
 
 -- ---- what keeps a transaction from being prepared
 
-regrouped : (a b c : Bool) → (a || b || c) ≡ ((a || b) || c)
-regrouped true b c = refl
-regrouped false b c = refl
-
 module _ (schema : List Table) (m : Machine) (owner txn slot : ℕ) (t : OpenTransaction) (slot_state : SlotState) (found : find (is_transaction owner txn) m.transactions ≡ Some t) (here : slice_get m.slots slot ≡ Some slot_state) where
   prepare_is : prepare schema m owner txn slot ≡ prepare_transaction schema m owner txn slot t slot_state
   prepare_is = ap (λ (o : Option OpenTransaction). if_some o (refused m refusal.UnknownTransaction) (λ t. for_slot m slot (prepare_transaction schema m owner txn slot t))) found
@@ -79,8 +75,7 @@ module _ (schema : List Table) (m : Machine) (owner txn slot : ℕ) (t : OpenTra
       → prepare_refusal schema m slot t slot_state ≡ first_cause ((wrong || not some, refusal.WrongState) ∷ (conflict, refusal.Conflict) ∷ [])
   refusal_is wrong some conflict is_wrong is_some is_conflict =
       ap (λ b. first_cause ((b, refusal.WrongState) ∷ (has_conflict schema m slot (mutations_in schema slot_state t.mutations), refusal.Conflict) ∷ []))
-      (regrouped (not (is_undecided t)) (is_prepared_at slot t) (length (mutations_in schema slot_state t.mutations) == 0)
-      ∙ ap (λ b. b || (length (mutations_in schema slot_state t.mutations) == 0)) is_wrong
+      (ap (λ b. b || (length (mutations_in schema slot_state t.mutations) == 0)) is_wrong
       ∙ ap (λ b. wrong || b) (none_left (λ u. holds schema slot_state (root_at schema u)) (λ u. true) t.mutations ∙ ap not is_some))
       ∙ ap (λ b. first_cause ((wrong || not some, refusal.WrongState) ∷ (b, refusal.Conflict) ∷ [])) (sym (conflict_is schema m slot slot_state t.mutations) ∙ is_conflict)
 

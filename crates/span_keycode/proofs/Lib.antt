@@ -28,3 +28,4 @@ pub mod RootCodes
 pub mod ValueLaws
 pub mod KeyTables
 pub mod Once
+pub mod Fronts

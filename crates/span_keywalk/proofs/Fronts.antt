@@ -1,15 +1,11 @@
 -- Keys that begin with some bytes are adjacent.
-use Rattle.std.proofs.Common.{◌≡◌, ◌≢◌, ℕ, ◌≤◌, Bool, true, false, not, ◌&&◌, cond, List, [], ◌∷◌, ◌++◌, length, take, drop, refl, sym, ap, ◌∙◌, subst, Option, Some, None}
+use Rattle.std.proofs.Common.{◌≡◌, ◌≢◌, ℕ, ◌≤◌, Bool, true, false, not, ◌&&◌, cond, List, [], ◌∷◌, ◌++◌, length, drop, refl, sym, ap, ◌∙◌, subst, Option, Some, None}
 use Rattle.std.specs.Prelude.{nat_eq}
 use Rattle.std.specs.List.{starts_with, AllByRecursion}
 use Rattle.std.specs.declared.cmp.Ordering.{Ordering}
 use Rattle.std.specs.declared.cmp.Ordering.TheVariants.{Less, Equal, Greater}
-use Rattle.std.specs.Ordering.{nat_cmp, ordering_then, is_lt}
-use Rattle.std.specs.Cmp.Lexicographic.{pointwise}
-use Rattle.std.proofs.lemmas.List.{take-append-drop}
+use Rattle.std.specs.Ordering.{is_lt}
 use Rattle.std.proofs.lemmas.List.Elements.{filter-append}
-use Rattle.std.proofs.lemmas.Slice.Eq.{bytes_eq-Decides}
-use Rattle.std.proofs.lemmas.Bool.{eq-eqb}
 use Rattle.span_keycode.specs.Order.{byte_order}
 use Rattle.span_arena.specs.declared.cell.Cell.{Cell}
 use Rattle.span_arena.specs.declared.cell.Balance.{Balance}
@@ -22,33 +18,15 @@ use Rattle.span_keytree.specs.Nexts.{Nexts, head_cell, first_past}
 use Rattle.span_keytree.specs.Roots.{entries_at, IsIndex}
 use Rattle.span_keytree.proofs.Rising.{AllAbove, less_trans, IsAround, around, rising_back, below_all, cut_from}
 use Rattle.span_keywalk.proofs.Walking.{IsWalked, part_walked}
-use Rattle.span_value.proofs.Comparisons.{same_number}
 use Rattle.span_value.proofs.Lists.{filter_all, filter_none, all_weaker}
 use Rattle.span_keycode.proofs.Order.{front_not_after}
+use Rattle.span_keycode.proofs.Fronts.{begins_front, between}
 
 abbrev begins : List ℕ → List ℕ → Bool
 begins bytes front = starts_with nat_eq bytes front
 
-begins_front : (b p : List ℕ) → begins b p ≡ true → p ++ drop (length p) b ≡ b
-begins_front b p e =
-    let same : p ≡ take (length p) b = (bytes_eq-Decides p (take (length p) b)).0 e in
-    ap (λ (l : List ℕ). l ++ drop (length p) b) same ∙ take-append-drop (length p) b
-
 begins_not_before : (b p : List ℕ) → begins b p ≡ true → is_lt (byte_order b p) ≡ false
 begins_not_before b p e = ap (λ (l : List ℕ). is_lt (byte_order l p)) (sym (begins_front b p e)) ∙ front_not_after p (drop (length p) b)
-
--- what is between bytes and others that begin with them begins with them too
-between : (p a rest : List ℕ) → is_lt (byte_order a p) ≡ false → byte_order a (p ++ rest) ≢ Greater → begins a p ≡ true
-between [] a rest h g = refl
-between (x ∷ p) [] rest h g = absurd (let f : true ≡ false = h in cc)
-between (x ∷ p) (y ∷ a) rest h g = cases (nat_cmp y x) refl h g (between p a rest)
-  where
-    cases : (o : Ordering) → nat_cmp y x ≡ o → is_lt (ordering_then o (byte_order a p)) ≡ false → ordering_then o (byte_order a (p ++ rest)) ≢ Greater
-        → (is_lt (byte_order a p) ≡ false → byte_order a (p ++ rest) ≢ Greater → begins a p ≡ true) → begins (y ∷ a) (x ∷ p) ≡ true
-    cases Less e f k again = absurd (let i : true ≡ false = f in cc)
-    cases Equal e f k again =
-        ap (λ (n : ℕ). nat_eq x n && pointwise nat_eq p (take (length p) a)) (same_number y x e) ∙ ap (λ (c : Bool). c && pointwise nat_eq p (take (length p) a)) (eq-eqb x x refl) ∙ again f k
-    cases Greater e f k again = absurd (k refl)
 
 not_greater : (o : Ordering) → o ≡ Less → o ≢ Greater
 not_greater o e f = let g : Less ≡ Greater = sym e ∙ f in absurd (cc)

@@ -8,11 +8,12 @@ use span_mutate::mutation::{Mutation, MutationKind};
 use span_schema::schema::Schema;
 use span_session::db::Db;
 use span_session::open::UnnamedDb;
-use span_session_fixtures::calls::{ask, split, two_of};
+use span_session_fixtures::calls::{ask, split};
 use span_session_fixtures::clock::{OpenGate, SharedClock};
 use span_session_fixtures::expect::{expect, expect_eq};
+use span_session_fixtures::opening::{database_of, with_two_sessions};
 use span_session_fixtures::users::{
-    TABLES, UIDS, both, change, expect_uids, insert, insert_all, insert_into, two_schemas,
+    TABLES, UIDS, both, change, expect_uids, insert, insert_all, insert_into,
 };
 use span_value::owned::give_after;
 use span_value::refusal::Refusal;
@@ -35,8 +36,7 @@ const ALL: [i64; 16] = [
 /// One commit of a user in each of the sixteen slots; commits that are refused at their second slot, by each of the causes that rows and other
 /// transactions give, leave nothing prepared at their first.
 pub fn sixteen_slots<R: Threads + Wait + Sync>(rt: &R, alloc: Global) -> Result<(), Fail> {
-    let (schema, kept) = two_schemas(alloc, TABLES)?;
-    let opened = UnnamedDb::new(alloc, schema, 2)?;
+    let (opened, kept) = database_of(alloc, TABLES, 2)?;
     by_all::<Brand, _>(rt, alloc, opened, &kept)
 }
 
@@ -50,8 +50,7 @@ fn by_all<J: Naming + Send + Sync, R: Threads + Wait + Sync>(
     requires schema { opened.schema ≡ J.schema }
     requires kept { schema.now ≡ J.schema }
 {
-    let (db, sessions) = opened.into_database::<J>()?;
-    let (a, b) = two_of(sessions)?;
+    let (db, a, b) = with_two_sessions::<J>(opened)?;
     let checked = check_all(rt, alloc, &db, schema, a, b);
     give_after(db, checked)
 }

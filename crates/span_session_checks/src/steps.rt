@@ -1,21 +1,20 @@
 //! Transactions of one session step by step, and over two slots.
 ghost use Rattle.std.specs.Prelude.{◌≡◌};
-ghost use Rattle.span_mutate.specs.Typed.{AreTypedMutations};
 
 use span_board::board::Naming;
 use span_board::session::Session;
-use span_checking::transaction::Transaction;
 use span_machine::step::Verdict;
-use span_schematext::text::parse_schema;
+use span_schema::schema::Schema;
 use span_session::db::Db;
 use span_session::open::UnnamedDb;
 use span_session_fixtures::calls::{split, users};
 use span_session_fixtures::clock::{SharedClock, Still};
 use span_session_fixtures::expect::expect_eq;
-use span_session_fixtures::users::{TABLES, are_found, both, expect_uids, insert, insert_into};
+use span_session_fixtures::opening::{database_of, with_session};
+use span_session_fixtures::users::{TABLES, both, expect_uids, insert, insert_all, insert_into};
 use span_truetime::bound::Bound;
 use span_truetime::interval::Interval;
-use span_value::owned::{give_after, keep_with};
+use span_value::owned::give_after;
 use span_value::refusal::Refusal;
 use std::alloc::Global;
 use std::marker::Brand;
@@ -25,30 +24,22 @@ use std::thread::Threads;
 
 /// Begin, Prepare, Decide and Apply of one transaction, each by a call of its own.
 pub fn step_by_step<R: Threads + Wait + Sync>(rt: &R, alloc: Global) -> Result<(), Fail> {
-    let schema = parse_schema(alloc, TABLES)?;
-    let first = insert(alloc, &schema, 1)?;
-    let second = insert(alloc, &schema, 2)?;
-    let opened = UnnamedDb::new(alloc, schema, 1)?;
-    by_one::<Brand, _>(rt, alloc, opened, first, second)
+    let (opened, kept) = database_of(alloc, TABLES, 1)?;
+    by_one::<Brand, _>(rt, alloc, opened, &kept)
 }
 
 fn by_one<J: Naming + Send + Sync, R: Threads + Wait + Sync>(
     rt: &R,
     alloc: Global,
     opened: UnnamedDb,
-    first: Transaction,
-    second: Transaction,
+    schema: &Schema,
 ) -> Result<(), Fail>
     requires table { opened.table ≡ J.table }
     requires schema { opened.schema ≡ J.schema }
-    requires first { AreTypedMutations J.schema first }
-    requires second { AreTypedMutations J.schema second }
+    requires kept { schema.now ≡ J.schema }
 {
-    let (db, mut sessions) = opened.into_database::<J>()?;
-    let Some(me) = sessions.pop() else {
-        return Err(Fail::from("a session"));
-    };
-    let checked = check_steps(rt, alloc, &db, me, first, second);
+    let (db, me) = with_session::<J>(opened)?;
+    let checked = check_steps(rt, alloc, &db, schema, me);
     give_after(db, checked)
 }
 
@@ -56,17 +47,14 @@ fn check_steps<J: Naming + Send + Sync, R: Threads + Wait + Sync>(
     rt: &R,
     alloc: Global,
     db: &Db<J>,
+    schema: &Schema,
     me: Session<J>,
-    first: Transaction,
-    second: Transaction,
 ) -> Result<(), Fail>
-    requires first { AreTypedMutations J.schema first }
-    requires second { AreTypedMutations J.schema second }
+    requires { schema.now ≡ J.schema }
 {
     let mut me = me;
-    let committed = check_committed(rt, db, &mut me, first);
-    let (second, ()) = keep_with(second, committed)?;
-    check_aborted(rt, db, &mut me, second)?;
+    check_committed(rt, alloc, db, schema, &mut me)?;
+    check_aborted(rt, alloc, db, schema, &mut me)?;
     let all = users(rt, alloc, db, &late(), &mut me, Bound::Strong);
     expect_uids(all, &[1], "the user that was committed alone")
 }
@@ -92,12 +80,14 @@ fn late() -> Still {
 // A transaction is committed at 111. It is unknown to another decision, and applied once the clock has passed that.
 fn check_committed<J: Naming, R: Wait>(
     rt: &R,
+    alloc: Global,
     db: &Db<J>,
+    schema: &Schema,
     me: &mut Session<J>,
-    transaction: Transaction,
 ) -> Result<(), Fail>
-    requires { AreTypedMutations J.schema transaction }
+    requires { schema.now ≡ J.schema }
 {
+    let transaction = insert(alloc, schema, 1)?;
     let begun = db.begin(rt, me, transaction);
     expect_eq(begun, Ok(1), "the first transaction's number")?;
     let prepared = db.prepare(rt, me, 1, 0);
@@ -123,12 +113,14 @@ fn check_committed<J: Naming, R: Wait>(
 // A transaction is aborted, and the session has still seen one commit.
 fn check_aborted<J: Naming, R: Wait>(
     rt: &R,
+    alloc: Global,
     db: &Db<J>,
+    schema: &Schema,
     me: &mut Session<J>,
-    transaction: Transaction,
 ) -> Result<(), Fail>
-    requires { AreTypedMutations J.schema transaction }
+    requires { schema.now ≡ J.schema }
 {
+    let transaction = insert(alloc, schema, 2)?;
     let begun = db.begin(rt, me, transaction);
     expect_eq(begun, Ok(2), "the second transaction's number")?;
     let aborted = db.decide(rt, &late(), me, 2, Verdict::Abort);
@@ -138,34 +130,22 @@ fn check_aborted<J: Naming, R: Wait>(
 
 /// A commit over two slots; one that is refused at its second slot leaves nothing prepared; a trim and a risen floor.
 pub fn two_slots<R: Threads + Wait + Sync>(rt: &R, alloc: Global) -> Result<(), Fail> {
-    let schema = parse_schema(alloc, TABLES)?;
-    let first = insert_into(alloc, "Users", &[1])?;
-    let orphan = insert_into(alloc, "Albums", &[300, 1])?;
-    let wrong = both(alloc, &schema, first, orphan)?;
-    let first = insert_into(alloc, "Users", &[1])?;
-    let second = insert_into(alloc, "Users", &[200])?;
-    let right = both(alloc, &schema, first, second)?;
-    let opened = UnnamedDb::new(alloc, schema, 1)?;
-    by_slots::<Brand, _>(rt, alloc, opened, wrong, right)
+    let (opened, kept) = database_of(alloc, TABLES, 1)?;
+    by_slots::<Brand, _>(rt, alloc, opened, &kept)
 }
 
 fn by_slots<J: Naming + Send + Sync, R: Threads + Wait + Sync>(
     rt: &R,
     alloc: Global,
     opened: UnnamedDb,
-    wrong: Transaction,
-    right: Transaction,
+    schema: &Schema,
 ) -> Result<(), Fail>
     requires table { opened.table ≡ J.table }
     requires schema { opened.schema ≡ J.schema }
-    requires wrong { AreTypedMutations J.schema wrong }
-    requires right { AreTypedMutations J.schema right }
+    requires kept { schema.now ≡ J.schema }
 {
-    let (db, mut sessions) = opened.into_database::<J>()?;
-    let Some(me) = sessions.pop() else {
-        return Err(Fail::from("a session"));
-    };
-    let checked = check_slots(rt, alloc, &db, me, wrong, right);
+    let (db, me) = with_session::<J>(opened)?;
+    let checked = check_slots(rt, alloc, &db, schema, me);
     give_after(db, checked)
 }
 
@@ -173,51 +153,44 @@ fn check_slots<J: Naming + Send + Sync, R: Threads + Wait + Sync>(
     rt: &R,
     alloc: Global,
     db: &Db<J>,
+    schema: &Schema,
     me: Session<J>,
-    wrong: Transaction,
-    right: Transaction,
 ) -> Result<(), Fail>
-    requires wrong { AreTypedMutations J.schema wrong }
-    requires right { AreTypedMutations J.schema right }
+    requires { schema.now ≡ J.schema }
 {
     let mut me = me;
-    check_commits(rt, alloc, db, &mut me, wrong, right)?;
+    check_commits(rt, alloc, db, schema, &mut me)?;
     check_trim(rt, alloc, db, &mut me)
 }
 
-// The transaction that is refused at its second slot leaves nothing prepared at the first, which is then cut; the other commits at 211. The
-// answers are compared when both are handed over, so that no failure drops one.
+// The transaction that is refused at its second slot leaves nothing prepared at the first, which is then cut; the other commits at 211.
 fn check_commits<J: Naming + Send + Sync, R: Threads + Wait + Sync>(
     rt: &R,
     alloc: Global,
     db: &Db<J>,
+    schema: &Schema,
     me: &mut Session<J>,
-    wrong: Transaction,
-    right: Transaction,
 ) -> Result<(), Fail>
-    requires wrong { AreTypedMutations J.schema wrong }
-    requires right { AreTypedMutations J.schema right }
+    requires { schema.now ≡ J.schema }
 {
     let clock = SharedClock::new();
     let cut = split(rt, db, me, 100);
-    let refused = db.commit(rt, &clock, me, wrong);
-    let cut_again = split(rt, db, me, 50);
-    let early = Still {
-        reading: Interval {
-            earliest: 100,
-            latest: 110,
-        },
-    };
-    let none = are_found(users(rt, alloc, db, &early, me, Bound::Strong), &[]);
-    let committed = db.commit(rt, &clock, me, right);
     expect_eq(cut, Ok(1), "the slot that a cut at 100 makes")?;
+    let first = insert_into(alloc, "Users", &[1])?;
+    let orphan = insert_into(alloc, "Albums", &[300, 1])?;
+    let wrong = both(alloc, schema, first, orphan)?;
+    let refused = db.commit(rt, &clock, me, wrong);
     expect_eq(
         refused,
         Err(Refusal::ParentMissing),
         "a commit of an album without its user",
     )?;
+    let cut_again = split(rt, db, me, 50);
     expect_eq(cut_again, Ok(2), "the slot that a cut at 50 makes")?;
-    expect_eq(none, Ok(true), "no users are found before a commit")?;
+    let none = users(rt, alloc, db, &early(), me, Bound::Strong);
+    expect_uids(none, &[], "the users before a commit")?;
+    let right = insert_all(alloc, schema, &[1, 200])?;
+    let committed = db.commit(rt, &clock, me, right);
     expect_eq(
         committed,
         Ok(211),

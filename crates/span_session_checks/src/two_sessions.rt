@@ -1,17 +1,16 @@
 //! Two sessions of one database, in slot 0.
 ghost use Rattle.std.specs.Prelude.{◌≡◌};
-ghost use Rattle.span_mutate.specs.Typed.{AreTypedMutations};
 
 use span_board::board::Naming;
 use span_board::session::Session;
-use span_checking::transaction::Transaction;
 use span_params::params::Params;
-use span_schematext::text::parse_schema;
+use span_schema::schema::Schema;
 use span_session::db::Db;
 use span_session::open::UnnamedDb;
 use span_session_fixtures::calls::ask_by;
 use span_session_fixtures::clock::{OpenGate, SharedClock};
 use span_session_fixtures::expect::expect_eq;
+use span_session_fixtures::opening::{database_of, with_two_sessions};
 use span_session_fixtures::users::{UIDS, USERS, are_uids, expect_uids, insert};
 use span_truetime::bound::Bound;
 use span_value::owned::give_after;
@@ -24,32 +23,22 @@ use std::thread::Threads;
 
 /// Each commit is answered the timestamp after the clock's latest; a strong query of either session sees both.
 pub fn commit_and_query<R: Threads + Wait + Sync>(rt: &R, alloc: Global) -> Result<(), Fail> {
-    let schema = parse_schema(alloc, USERS)?;
-    let first = insert(alloc, &schema, 1)?;
-    let second = insert(alloc, &schema, 2)?;
-    let opened = UnnamedDb::new(alloc, schema, 2)?;
-    by_two::<Brand, _>(rt, alloc, opened, first, second)
+    let (opened, kept) = database_of(alloc, USERS, 2)?;
+    by_two::<Brand, _>(rt, alloc, opened, &kept)
 }
 
 fn by_two<J: Naming + Send + Sync, R: Threads + Wait + Sync>(
     rt: &R,
     alloc: Global,
     opened: UnnamedDb,
-    first: Transaction,
-    second: Transaction,
+    schema: &Schema,
 ) -> Result<(), Fail>
     requires table { opened.table ≡ J.table }
     requires schema { opened.schema ≡ J.schema }
-    requires first { AreTypedMutations J.schema first }
-    requires second { AreTypedMutations J.schema second }
+    requires kept { schema.now ≡ J.schema }
 {
-    let (db, mut sessions) = opened.into_database::<J>()?;
-    let b = sessions.pop();
-    let a = sessions.pop();
-    let (Some(a), Some(b)) = (a, b) else {
-        return Err(Fail::from("two sessions"));
-    };
-    let checked = check_sessions(rt, alloc, &db, a, b, first, second);
+    let (db, a, b) = with_two_sessions::<J>(opened)?;
+    let checked = check_sessions(rt, alloc, &db, schema, a, b);
     give_after(db, checked)
 }
 
@@ -57,16 +46,14 @@ fn check_sessions<J: Naming + Send + Sync, R: Threads + Wait + Sync>(
     rt: &R,
     alloc: Global,
     db: &Db<J>,
+    schema: &Schema,
     a: Session<J>,
     b: Session<J>,
-    first: Transaction,
-    second: Transaction,
 ) -> Result<(), Fail>
-    requires first { AreTypedMutations J.schema first }
-    requires second { AreTypedMutations J.schema second }
+    requires { schema.now ≡ J.schema }
 {
     let (mut a, mut b) = (a, b);
-    check_answers(rt, alloc, db, &mut a, &mut b, first, second)
+    check_answers(rt, alloc, db, schema, &mut a, &mut b)
 }
 
 // Each session commits; then what they are answered. The sessions are lent, so that no failure drops one.
@@ -74,18 +61,18 @@ fn check_answers<J: Naming + Send + Sync, R: Threads + Wait + Sync>(
     rt: &R,
     alloc: Global,
     db: &Db<J>,
+    schema: &Schema,
     a: &mut Session<J>,
     b: &mut Session<J>,
-    first: Transaction,
-    second: Transaction,
 ) -> Result<(), Fail>
-    requires first { AreTypedMutations J.schema first }
-    requires second { AreTypedMutations J.schema second }
+    requires { schema.now ≡ J.schema }
 {
     let clock = SharedClock::new();
+    let first = insert(alloc, schema, 1)?;
     let one = db.commit(rt, &clock, a, first);
-    let two = db.commit(rt, &clock, b, second);
     expect_eq(one, Ok(111), "the timestamp of the first commit")?;
+    let second = insert(alloc, schema, 2)?;
+    let two = db.commit(rt, &clock, b, second);
     expect_eq(two, Ok(311), "the timestamp of the second commit")?;
     let strong = ask_strong(rt, alloc, db, &clock, a);
     expect_eq(

@@ -18,20 +18,8 @@ use span_value::value::Value;
 use std::alloc::Global;
 use std::ops::Range;
 use std::sync::Wait;
-use std::test::Fail;
 use std::thread;
 use std::thread::Threads;
-
-/// The two sessions of a database.
-pub fn two_of<J: Naming>(sessions: Vec<Session<J>>) -> Result<(Session<J>, Session<J>), Fail> {
-    let mut sessions = sessions;
-    let b = sessions.pop();
-    let a = sessions.pop();
-    match (a, b) {
-        (Some(a), Some(b)) => Ok((a, b)),
-        _ => Err(Fail::from("two sessions")),
-    }
-}
 
 /// Commits each of the users in a transaction of its own.
 pub fn commit_users<J: Naming, R: Wait>(

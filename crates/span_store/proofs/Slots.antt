@@ -20,7 +20,7 @@ use Rattle.span_arena.proofs.Keeping.{is_new_chain}
 use Rattle.span_keytree.specs.Items.{holders}
 use Rattle.span_keytree.specs.Arenas.{one_if_chain, IsArenaOf, in_use, IsWithoutUnused}
 use Rattle.span_keytree.specs.Entries.{HasChain, IsAbsent, IsSlotFor, with_entry, KeyEntry}
-use Rattle.span_keyindex.proofs.Holders.{one_here, one_of, chains_elsewhere}
+use Rattle.span_keyindex.proofs.Holders.{one_here, one_of, chains_elsewhere, at_most_one}
 use Rattle.span_keytree.proofs.Rising.{turned}
 use Rattle.span_mutate.specs.Directories.{IsRising}
 use Rattle.span_value.proofs.Comparisons.{is_less, is_greater}
@@ -294,10 +294,6 @@ module _ (es fs gs : List KeyEntry) (a b c d : Content) (ps qs : List PreparedNo
       ∙ ap (λ (x : Content). filter is_used (all_kept x qs fs)) arena_is ∙ ap (λ (l : List PreparedNode). filter is_used (all_kept b l fs)) nodes_are ∙ slot.undone used
 
 -- ---- the write is prepared there
-
-at_most_one : (o : Option (List ArenaVersion)) → one_if_chain o ≤ 1
-at_most_one None = omega arith
-at_most_one (Some vs) = omega arith
 
 no_holder : (c : ℕ) (es : List KeyEntry) → holders c es ≡ 0 → AllByRecursion (λ (e : KeyEntry). nat_eq e.chain.number c ≡ false) es
 no_holder c [] h = tt

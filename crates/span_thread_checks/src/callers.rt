@@ -9,7 +9,8 @@ use span_session::open::UnnamedDb;
 use span_session_fixtures::calls::{ask, commit_users};
 use span_session_fixtures::clock::{OpenGate, SharedClock};
 use span_session_fixtures::expect::expect_eq;
-use span_session_fixtures::users::{USERS, expect_uids, two_schemas};
+use span_session_fixtures::opening::database_of;
+use span_session_fixtures::users::{USERS, expect_uids};
 use span_value::owned::give_after;
 use span_value::refusal::Refusal;
 use std::alloc::{AllocError, Global};
@@ -26,8 +27,7 @@ const COUNT: &str = "SELECT COUNT(*) FROM Users";
 /// Sixteen threads commit ten users each; then each session sees all 160, by `look` and by strong queries of one worker and
 /// of eight.
 pub fn sixteen_callers<R: Threads + Wait + Sync>(rt: &R, alloc: Global) -> Result<(), Fail> {
-    let (schema, kept) = two_schemas(alloc, USERS)?;
-    let opened = UnnamedDb::new(alloc, schema, CALLERS)?;
+    let (opened, kept) = database_of(alloc, USERS, CALLERS)?;
     by_callers::<Brand, _>(rt, alloc, opened, &kept)
 }
 

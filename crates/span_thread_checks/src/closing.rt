@@ -7,10 +7,11 @@ use span_gather::rows::Rows;
 use span_schema::schema::Schema;
 use span_session::db::Db;
 use span_session::open::UnnamedDb;
-use span_session_fixtures::calls::{ask_by, commit_users, split, two_of};
+use span_session_fixtures::calls::{ask_by, commit_users, split};
 use span_session_fixtures::clock::{OpenGate, SharedClock, Turnstile};
 use span_session_fixtures::expect::expect_eq;
-use span_session_fixtures::users::{USERS, are_found, two_schemas};
+use span_session_fixtures::opening::{database_of, with_two_sessions};
+use span_session_fixtures::users::{USERS, are_found};
 use span_truetime::bound::Bound;
 use span_value::owned::give_after;
 use span_value::refusal::Refusal;
@@ -32,8 +33,7 @@ const MOST_QUERIES: u64 = 64;
 /// Both slots are trimmed while eight workers are about to read them: the query is refused, and closed. So are as many more as may be open
 /// at once, or the last one could not be opened.
 pub fn refused_scans<R: Threads + Wait + Sync>(rt: &R, alloc: Global) -> Result<(), Fail> {
-    let (schema, kept) = two_schemas(alloc, USERS)?;
-    let opened = UnnamedDb::new(alloc, schema, 2)?;
+    let (opened, kept) = database_of(alloc, USERS, 2)?;
     by_refused::<Brand, _>(rt, alloc, opened, &kept)
 }
 
@@ -47,8 +47,7 @@ fn by_refused<J: Naming + Send + Sync, R: Threads + Wait + Sync>(
     requires schema { opened.schema ≡ J.schema }
     requires kept { schema.now ≡ J.schema }
 {
-    let (db, sessions) = opened.into_database::<J>()?;
-    let (a, b) = two_of(sessions)?;
+    let (db, a, b) = with_two_sessions::<J>(opened)?;
     let checked = check_refused(rt, alloc, &db, schema, a, b);
     give_after(db, checked)
 }

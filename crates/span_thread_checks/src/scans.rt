@@ -7,10 +7,11 @@ use span_gather::rows::Rows;
 use span_schema::schema::Schema;
 use span_session::db::Db;
 use span_session::open::UnnamedDb;
-use span_session_fixtures::calls::{ask, commit_users, split, two_of};
+use span_session_fixtures::calls::{ask, commit_users, split};
 use span_session_fixtures::clock::{Meeting, SharedClock};
 use span_session_fixtures::expect::expect_eq;
-use span_session_fixtures::users::{USERS, are_found, two_schemas};
+use span_session_fixtures::opening::{database_of, with_two_sessions};
+use span_session_fixtures::users::{USERS, are_found};
 use span_value::owned::give_after;
 use span_value::refusal::Refusal;
 use std::alloc::Global;
@@ -25,8 +26,7 @@ const HIGH_UIDS: &str = "SELECT uid FROM Users WHERE uid >= 100";
 
 /// Two scans are under way at once, each with the lock of its own slot held: each waits until the other has been called.
 pub fn two_scans_at_once<R: Threads + Wait + Sync>(rt: &R, alloc: Global) -> Result<(), Fail> {
-    let (schema, kept) = two_schemas(alloc, USERS)?;
-    let opened = UnnamedDb::new(alloc, schema, 2)?;
+    let (opened, kept) = database_of(alloc, USERS, 2)?;
     by_scans::<Brand, _>(rt, alloc, opened, &kept)
 }
 
@@ -40,8 +40,7 @@ fn by_scans<J: Naming + Send + Sync, R: Threads + Wait + Sync>(
     requires schema { opened.schema ≡ J.schema }
     requires kept { schema.now ≡ J.schema }
 {
-    let (db, sessions) = opened.into_database::<J>()?;
-    let (a, b) = two_of(sessions)?;
+    let (db, a, b) = with_two_sessions::<J>(opened)?;
     let checked = check_scans(rt, alloc, &db, schema, a, b);
     give_after(db, checked)
 }

@@ -6,10 +6,11 @@ use span_board::session::Session;
 use span_schema::schema::Schema;
 use span_session::db::Db;
 use span_session::open::UnnamedDb;
-use span_session_fixtures::calls::{ask, commit_users, split, two_of};
+use span_session_fixtures::calls::{ask, commit_users, split};
 use span_session_fixtures::clock::{OpenGate, SharedClock};
 use span_session_fixtures::expect::expect_eq;
-use span_session_fixtures::users::{UIDS, USERS, are_uids, two_schemas};
+use span_session_fixtures::opening::{database_of, with_two_sessions};
+use span_session_fixtures::users::{UIDS, USERS, are_uids};
 use span_value::owned::give_after;
 use span_value::refusal::Refusal;
 use std::alloc::Global;
@@ -30,8 +31,7 @@ const HORIZON: u64 = 1_650;
 
 /// One thread asks, and is answered the same each time; another cuts the slot of each user, and trims it.
 pub fn answers_beside_upkeep<R: Threads + Wait + Sync>(rt: &R, alloc: Global) -> Result<(), Fail> {
-    let (schema, kept) = two_schemas(alloc, USERS)?;
-    let opened = UnnamedDb::new(alloc, schema, 2)?;
+    let (opened, kept) = database_of(alloc, USERS, 2)?;
     by_upkeep::<Brand, _>(rt, alloc, opened, &kept)
 }
 
@@ -45,8 +45,7 @@ fn by_upkeep<J: Naming + Send + Sync, R: Threads + Wait + Sync>(
     requires schema { opened.schema ≡ J.schema }
     requires kept { schema.now ≡ J.schema }
 {
-    let (db, sessions) = opened.into_database::<J>()?;
-    let (a, b) = two_of(sessions)?;
+    let (db, a, b) = with_two_sessions::<J>(opened)?;
     let checked = check_upkeep(rt, alloc, &db, schema, a, b);
     give_after(db, checked)
 }

@@ -9,7 +9,8 @@ use span_session::open::UnnamedDb;
 use span_session_fixtures::calls::{ask_by, commit_users, split};
 use span_session_fixtures::clock::{Meeting, OpenGate, SharedClock};
 use span_session_fixtures::expect::expect_eq;
-use span_session_fixtures::users::{USERS, expect_uids, two_schemas};
+use span_session_fixtures::opening::{database_of, with_session};
+use span_session_fixtures::users::{USERS, expect_uids};
 use span_truetime::bound::Bound;
 use span_value::owned::give_after;
 use span_value::refusal::Refusal;
@@ -21,8 +22,7 @@ use std::thread::Threads;
 
 /// Two workers scan at once, each with the lock of its own slot held; one, two and eight give the same rows. A refusal ends all of them.
 pub fn two_workers<R: Threads + Wait + Sync>(rt: &R, alloc: Global) -> Result<(), Fail> {
-    let (schema, kept) = two_schemas(alloc, USERS)?;
-    let opened = UnnamedDb::new(alloc, schema, 1)?;
+    let (opened, kept) = database_of(alloc, USERS, 1)?;
     by_workers::<Brand, _>(rt, alloc, opened, &kept)
 }
 
@@ -36,10 +36,7 @@ fn by_workers<J: Naming + Send + Sync, R: Threads + Wait + Sync>(
     requires schema { opened.schema ≡ J.schema }
     requires kept { schema.now ≡ J.schema }
 {
-    let (db, mut sessions) = opened.into_database::<J>()?;
-    let Some(me) = sessions.pop() else {
-        return Err(Fail::from("a session"));
-    };
+    let (db, me) = with_session::<J>(opened)?;
     let checked = check_workers(rt, alloc, &db, schema, me);
     give_after(db, checked)
 }

@@ -1,4 +1,4 @@
-use Rattle.std.proofs.Common.{◌≡◌, ◌⊎◌, ◌∷◌, [], List, sym, ap, ◌∙◌, subst}
+use Rattle.std.proofs.Common.{◌≡◌, ◌⊎◌, List, ap, ◌∙◌, subst}
 use Rattle.span_value.specs.declared.refusal.Refusal.TheVariants.{OutOfMemory}
 use Rattle.span_schema.specs.declared.table.Table.{Table}
 use Rattle.span_machine.specs.Machine.{prepare}
@@ -8,11 +8,10 @@ use Rattle.span_machine.specs.declared.step.Step.TheVariants as step
 use Rattle.span_machine.specs.Pieces.{machine_of}
 use Rattle.span_parts.proofs.Passing.{passed}
 use Rattle.span_parts.proofs.Wholes.{no_text}
-use Rattle.span_board.specs.declared.board.Role.TheVariants.{Holder, Keeper}
 use Rattle.span_locks.specs.Held.{IsUnderstoodAs}
-use Rattle.span_board.specs.Known.{kept, restated}
-use Rattle.span_board.specs.Rule.{SlotVersions, number_of, versions_of, known_at}
+use Rattle.span_board.specs.Rule.{SlotVersions}
 use Rattle.span_locks.proofs.Held.{slot_belongs, keeper_restated}
+use Rattle.span_locks.proofs.Restating.{slot_known, holder_restated, known_restated}
 use Rattle.span_board.proofs.Meets.{holder_shape, keeper_shape}
 use Rattle.span_locks.specs.Replies.{MayReply, at_slot}
 use Rattle.span_locks.proofs.Replying.{answers_may, used_may_reply}
@@ -34,9 +33,7 @@ prepare_in-prepared-requires g c =
     let schema = g.J.Naming.schema in
     let board = c.args.board.now in
     let views = ap (λ b. b.views) c.replace-keeper.ensures.value in
-    let number = ap (λ k. number_of k.0) c.self.invariant.1 in
-    let is : me.shard ≡ kept (known_at j.badge.views) me.number =
-    sym (ap (λ k. versions_of k.0) c.self.invariant.1) ∙ c.agree-keeper.ensures.known.0 ∙ ap (λ v. kept (known_at v) (number_of me.seat.me.0)) views ∙ ap (kept (known_at j.badge.views)) number in
+    let is = slot_known me.seat.me me.number me.shard j.badge.views _ c.self.invariant.1 views c.agree-keeper.ensures.known.0 in
     let within = c.is_used.ensures.used c.if-not-is_used.false in
     slot_belongs schema board.schema g.J.Naming.table j.badge.table_id j.badge.views j.journal board.schema_is c.journal.invariant me.number me.shard within is
 
@@ -50,13 +47,7 @@ pub restate-keeper-requires-clause-keeper : goal.restate-keeper-requires-clause-
 restate-keeper-requires-clause-keeper g c = keeper_shape c.journal.inside.badge.views _ (c.agree-keeper.ensures.keeper ∙ ap (λ b. b.views) c.replace-keeper.ensures.value) c.journal.invariant.knows
 
 pub invariant_of-self : goal.invariant_of-self
-invariant_of-self g c =
-    let number = ap (λ k. number_of k.0) (c.agree-keeper.ensures.holder ∙ c.self.invariant.1) in (
-      c.restate-keeper.ensures.tables.0,
-      c.restate-keeper.ensures.holder
-          ∙ ap (λ i. (Holder i c.replace-shard.result ∷ [], [])) number
-          ∙ ap (λ cs. (Holder c.self.inside.number cs ∷ [], [])) (sym c.restate-keeper.ensures.shard),
-    )
+invariant_of-self g c = (c.restate-keeper.ensures.tables.0, holder_restated c.self.inside.seat.me c.agree-keeper.new.seat.me _ c.self.inside.number c.self.inside.shard c.replace-shard.result _ c.self.invariant.1 c.agree-keeper.ensures.holder c.restate-keeper.ensures.holder c.restate-keeper.ensures.shard)
 
 pub invariant_of-journal : goal.invariant_of-journal
 invariant_of-journal g c =
@@ -65,17 +56,9 @@ invariant_of-journal g c =
     let schema = g.J.Naming.schema in
     let board = c.args.board.now in
     let views = ap (λ b. b.views) c.replace-keeper.ensures.value in
-    let number = ap (λ k. number_of k.0) c.self.invariant.1 in
-    let is : me.shard ≡ kept (known_at j.badge.views) me.number =
-    sym (ap (λ k. versions_of k.0) c.self.invariant.1) ∙ c.agree-keeper.ensures.known.0 ∙ ap (λ v. kept (known_at v) (number_of me.seat.me.0)) views ∙ ap (kept (known_at j.badge.views)) number in
+    let is = slot_known me.seat.me me.number me.shard j.badge.views _ c.self.invariant.1 views c.agree-keeper.ensures.known.0 in
     let within = c.is_used.ensures.used c.if-not-is_used.false in
-    let held = c.agree-keeper.ensures.keeper ∙ ap (λ b. b.views) c.replace-keeper.ensures.value in
-    let numbered = ap (λ k. number_of k.0) (c.agree-keeper.ensures.holder ∙ c.self.invariant.1) in
-    let after =
-    c.restate-keeper.ensures.keeper
-    ∙ ap (λ v. (Keeper (restated (known_at v) (number_of c.agree-keeper.new.seat.me.0) c.replace-shard.result) ∷ []) ∷ []) held
-    ∙ ap (λ n. (Keeper (restated (known_at j.badge.views) n c.replace-shard.result) ∷ []) ∷ []) numbered
-    ∙ ap (λ cs. (Keeper (restated (known_at j.badge.views) me.number cs) ∷ []) ∷ []) c.replace-shard.ensures.value in
+    let after = known_restated me.seat.me c.agree-keeper.new.seat.me me.number me.shard c.replace-shard.result c.prepare_in-prepared.new.shard j.badge.views _ _ c.self.invariant.1 c.agree-keeper.ensures.holder (c.agree-keeper.ensures.keeper ∙ views) c.restate-keeper.ensures.keeper c.replace-shard.ensures.value in
     keeper_restated schema board.schema g.J.Naming.table j.badge.table_id j.badge.views j.journal board.schema_is c.journal.invariant me.number me.shard within is _ _ c.prepare_in-prepared.new.journal c.prepare_in-prepared.new.shard c.restate-keeper.ensures.tables.1 after
     (passed (IsUnderstoodAs schema) board.schema (machine_of j.journal) c.journal.invariant.asked no_text (step.Prepare c.args.owner c.args.txn me.number) tt _ (machine_of c.prepare_in-prepared.new.journal) c.prepare_in-prepared.ensures.step)
     c.prepare_in-prepared.ensures.whole

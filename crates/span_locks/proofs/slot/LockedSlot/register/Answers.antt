@@ -1,4 +1,4 @@
-use Rattle.std.proofs.Common.{◌≡◌, List, Option, sym, ap, ◌∙◌, subst}
+use Rattle.std.proofs.Common.{List, Option, sym, ap, ◌∙◌, subst}
 use Rattle.std.specs.Prelude.{IfSome}
 use Rattle.span_schema.specs.declared.table.Table.{Table}
 use Rattle.span_columns.specs.declared.leaf.Leaf.{Leaf}
@@ -9,9 +9,9 @@ use Rattle.span_machine.specs.declared.step.Reply.TheVariants as reply
 use Rattle.span_parts.proofs.Passing.{passed_register}
 use Rattle.span_parts.proofs.Wholes.{no_text}
 use Rattle.span_locks.specs.Held.{IsUnderstoodAs}
-use Rattle.span_board.specs.Known.{kept}
-use Rattle.span_board.specs.Rule.{SlotVersions, number_of, versions_of, known_at}
+use Rattle.span_board.specs.Rule.{SlotVersions}
 use Rattle.span_locks.proofs.Held.{slot_belongs, own_leaf, keeper_stays}
+use Rattle.span_locks.proofs.Restating.{slot_known}
 use Rattle.span_board.proofs.Meets.{holder_shape, keeper_shape}
 use Rattle.span_locks.proofs.Refusing.{scan_unscanned}
 use Rattle.span_locks.proofs.slot.LockedSlot.register.Goals as goal
@@ -32,9 +32,7 @@ register-requires-clause-belongs g c =
     let schema = g.J.Naming.schema in
     let board = c.args.board.now in
     let views = ap (λ b. b.views) c.replace-keeper.ensures.value in
-    let number = ap (λ k. number_of k.0) c.self.invariant.1 in
-    let is : me.shard ≡ kept (known_at j.badge.views) me.number =
-    sym (ap (λ k. versions_of k.0) c.self.invariant.1) ∙ c.agree.ensures.known.0 ∙ ap (λ v. kept (known_at v) (number_of me.seat.me.0)) views ∙ ap (kept (known_at j.badge.views)) number in
+    let is = slot_known me.seat.me me.number me.shard j.badge.views _ c.self.invariant.1 views c.agree.ensures.known.0 in
     let within = c.is_used.ensures.used c.if-not-is_used.false in
     slot_belongs schema board.schema g.J.Naming.table j.badge.table_id j.badge.views j.journal board.schema_is c.journal.invariant me.number me.shard within is
 
@@ -57,9 +55,7 @@ invariant_of-journal g c =
     let schema = g.J.Naming.schema in
     let board = c.args.board.now in
     let views = ap (λ b. b.views) c.replace-keeper.ensures.value in
-    let number = ap (λ k. number_of k.0) c.self.invariant.1 in
-    let is : me.shard ≡ kept (known_at j.badge.views) me.number =
-    sym (ap (λ k. versions_of k.0) c.self.invariant.1) ∙ c.agree.ensures.known.0 ∙ ap (λ v. kept (known_at v) (number_of me.seat.me.0)) views ∙ ap (kept (known_at j.badge.views)) number in
+    let is = slot_known me.seat.me me.number me.shard j.badge.views _ c.self.invariant.1 views c.agree.ensures.known.0 in
     let within = c.is_used.ensures.used c.if-not-is_used.false in
     keeper_stays schema board.schema g.J.Naming.table j.badge.table_id j.badge.views j.journal board.schema_is c.journal.invariant me.number me.shard within is _ _ c.register.new.journal c.agree.ensures.tables.1 (c.agree.ensures.keeper ∙ views)
     (passed_register (IsUnderstoodAs schema) board.schema (machine_of j.journal) c.journal.invariant.asked c.register.result no_text (step.Scan c.args.query c.args.place me.number c.args.interval) tt reply.Scanned (machine_of c.register.new.journal) c.register.ensures.scanned c.register.ensures.same c.register.ensures.refused)

@@ -1,10 +1,11 @@
-use Rattle.std.proofs.Common.{◌≡◌, ◌<◌, ◌∷◌, [], length, sym, ap, ◌∙◌, subst}
+use Rattle.std.proofs.Common.{◌<◌, ◌∷◌, [], length, sym, ap, ◌∙◌, subst}
 use Rattle.std.proofs.lemmas.Option.{slice_get_within}
 use Rattle.span_checking.specs.RootKeys.{root_key}
 use Rattle.span_board.specs.declared.board.Role.TheVariants.{Holder, Keeper}
-use Rattle.span_board.specs.Known.{kept, restated}
-use Rattle.span_board.specs.Rule.{number_of, versions_of, known_at}
+use Rattle.span_board.specs.Known.{restated}
+use Rattle.span_board.specs.Rule.{number_of, known_at}
 use Rattle.span_locks.proofs.Held.{slot_belongs, keeper_cut}
+use Rattle.span_locks.proofs.Restating.{slot_known}
 use Rattle.span_board.proofs.Meets.{holder_shape, keeper_shape}
 use Rattle.span_locks.proofs.slot.LockedSlot.split.Goals as goal
 
@@ -24,9 +25,7 @@ cut_in-requires-clause-belongs g c =
     let schema = g.J.Naming.schema in
     let board = c.args.board.now in
     let views = ap (λ b. b.views) c.replace-keeper.ensures.value in
-    let number = ap (λ k. number_of k.0) c.self.invariant.1 in
-    let is : me.shard ≡ kept (known_at j.badge.views) me.number =
-    sym (ap (λ k. versions_of k.0) c.self.invariant.1) ∙ c.agree-keeper.ensures.known.0 ∙ ap (λ v. kept (known_at v) (number_of me.seat.me.0)) views ∙ ap (kept (known_at j.badge.views)) number in
+    let is = slot_known me.seat.me me.number me.shard j.badge.views _ c.self.invariant.1 views c.agree-keeper.ensures.known.0 in
     let d = c.in_ok-may_cut.ensures.may c.if-not-branch.false in
     let within = slice_get_within j.journal.slots me.number d.0.slot_state d.0.here in
     slot_belongs schema board.schema g.J.Naming.table j.badge.table_id j.badge.views j.journal board.schema_is c.journal.invariant me.number me.shard within is
@@ -77,9 +76,7 @@ invariant_of-journal g c =
     let schema = g.J.Naming.schema in
     let board = c.args.board.now in
     let views = ap (λ b. b.views) c.replace-keeper.ensures.value in
-    let number = ap (λ k. number_of k.0) c.self.invariant.1 in
-    let is : me.shard ≡ kept (known_at j.badge.views) me.number =
-    sym (ap (λ k. versions_of k.0) c.self.invariant.1) ∙ c.agree-keeper.ensures.known.0 ∙ ap (λ v. kept (known_at v) (number_of me.seat.me.0)) views ∙ ap (kept (known_at j.badge.views)) number in
+    let is = slot_known me.seat.me me.number me.shard j.badge.views _ c.self.invariant.1 views c.agree-keeper.ensures.known.0 in
     let d = c.in_ok-may_cut.ensures.may c.if-not-branch.false in
     let within = slice_get_within j.journal.slots me.number d.0.slot_state d.0.here in
     let held = c.agree-keeper.ensures.keeper ∙ views in
