@@ -43,7 +43,7 @@ use Rattle.span_leaves.specs.Conditions.{conjuncts_on}
 use Rattle.span_leaves.proofs.Pushing.{is_left_out}
 use Rattle.span_leaves.specs.Ranges.{KeyBound, bound_of, exchanged, bound_at, bounds_between, bounds_at, bounds, are_bytes, is_of_type, bounds_by}
 use Rattle.span_value.specs.Numbers.{is_int64}
-use Rattle.std.proofs.Math.Bool.{or-true}
+use Rattle.std.proofs.Math.Bool.{or-true, and_assoc}
 
 -- ---- values of a type
 
@@ -391,14 +391,10 @@ module _ (k : Kind) (row : List Value) (place low high : ℕ) (fits : Fits k (co
     fs : List KeyBound → List KeyBound
     fs l = filter (λ (b : KeyBound). is_of_type k b.1) l
 
-    and_assoc : (a b c : Bool) → (a && (b && c)) ≡ ((a && b) && c)
-    and_assoc true b c = refl
-    and_assoc false b c = refl
-
     of_type : (t : Bool) → is_in_bounds (filter (λ (b : KeyBound). is_of_type k b.1) (xs ++ ys)) (column_of row place) ≡ (is_in_bounds (filter (λ (b : KeyBound). is_of_type k b.1) xs) (column_of row place) && is_in_bounds (filter (λ (b : KeyBound). is_of_type k b.1) ys) (column_of row place))
         → is_in_bounds (if t then b ∷ filter (λ (b : KeyBound). is_of_type k b.1) (xs ++ ys) else filter (λ (b : KeyBound). is_of_type k b.1) (xs ++ ys)) (column_of row place)
         ≡ (is_in_bounds (if t then b ∷ filter (λ (b : KeyBound). is_of_type k b.1) xs else filter (λ (b : KeyBound). is_of_type k b.1) xs) (column_of row place) && is_in_bounds (filter (λ (b : KeyBound). is_of_type k b.1) ys) (column_of row place))
-    of_type true same = ap (λ (t : Bool). compares b.0 (column_of row place) b.1 && t) same ∙ and_assoc (compares b.0 (column_of row place) b.1) (is_in_bounds (filter (λ (b : KeyBound). is_of_type k b.1) xs) (column_of row place)) (is_in_bounds (filter (λ (b : KeyBound). is_of_type k b.1) ys) (column_of row place))
+    of_type true same = ap (λ (t : Bool). compares b.0 (column_of row place) b.1 && t) same ∙ sym (and_assoc (compares b.0 (column_of row place) b.1) (is_in_bounds (filter (λ (b : KeyBound). is_of_type k b.1) xs) (column_of row place)) (is_in_bounds (filter (λ (b : KeyBound). is_of_type k b.1) ys) (column_of row place)))
     of_type false same = same
 
   -- THE LAW OF BOUNDS: where a row's column is out of a bound that conditions set to it, one of those on its columns is refused.
