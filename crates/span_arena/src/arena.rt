@@ -246,6 +246,13 @@ impl Arena {
         self.cells.len()
     }
 
+    /// A law, which takes no time: how many numbers of chains there are fits.
+    pub fn numbers_fit(&self)
+        ensures { length self.now.cells < 2 ^ 64 }
+    {
+        let _ = self.numbers();
+    }
+
     /// Whether a number is that of a chain.
     pub fn is_chain(&self, number: u32) -> bool
         ensures { result ≡ is_some (slice_index_or self.now.chains number None) }

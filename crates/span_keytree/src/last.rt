@@ -74,8 +74,8 @@ pub(crate) fn put_last<C: Ledger, W: Ledger>(
     ensures own { IsIndex arena.new.cells nexts.new index.new }
     ensures cost { IsTreeCost 0 (tree_of arena.old.cells index.old) steps.old steps.new }
 {
-    // The count of numbers fits, and with it that of the levels.
-    let _count = arena.numbers();
+    // With the numbers the levels fit.
+    arena.numbers_fit();
     let stop = last_stop(arena, index);
     let mut part = GrownPart {
         cell: 0,

@@ -77,8 +77,8 @@ fn put_among<C: Ledger, W: Ledger>(
     ensures cost { IsTreeCost (height (tree_of arena.old.cells index.old)) (tree_of arena.old.cells index.old)
         steps.old steps.new }
 {
-    // The count of numbers fits, and with it that of the levels.
-    let _count = arena.numbers();
+    // With the numbers the levels fit.
+    arena.numbers_fit();
     let mut part = GrownPart {
         cell: 0,
         root: 0,

@@ -41,7 +41,7 @@ hang_last-requires-clause-above g c =
     beside_above c.args.arena.now c.add_key.new.arena c.args.nexts.now c.add_key.new.nexts c.args.index.now c.args.key.now c.add_key.new.part c.requires.own (tree_chains c.args.arena.now c.args.index.now c.requires.chains) alone c.requires.after
 
 pub height_after-requires : goal.height_after-requires
-height_after-requires g c = omega (arith, levels_fit c.args.arena.now.cells c.args.index.now c.requires.own.search c.numbers-count.ensures.fits)
+height_after-requires g c = omega (arith, levels_fit c.args.arena.now.cells c.args.index.now c.requires.own.search c.numbers_fit.ensures)
 
 pub returns-clause-ok : goal.returns-clause-ok
 returns-clause-ok g c =

@@ -14,7 +14,7 @@ pub returns-in_err-is_added-clause-cost : goal.returns-in_err-is_added-clause-co
 returns-in_err-is_added-clause-cost g c = tree_cost (tree_of c.args.arena.now.cells c.args.index.now) _ c.args.steps.now c.add_key.new.steps c.in_err-is_added.ensures.steps
 
 pub overflow_add-index : goal.overflow_add-index
-overflow_add-index g c = omega (arith, levels_fit c.args.arena.now.cells c.args.index.now c.requires.own.search c.numbers-count.ensures.fits)
+overflow_add-index g c = omega (arith, levels_fit c.args.arena.now.cells c.args.index.now c.requires.own.search c.numbers_fit.ensures)
 
 pub returns-then-not-is_added-clause-ok : goal.returns-then-not-is_added-clause-ok
 returns-then-not-is_added-clause-ok g c =
