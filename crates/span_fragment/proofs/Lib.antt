@@ -1,4 +1,5 @@
 mod Directories
+mod Early
 mod Ending
 mod LastJoin
 mod Running

@@ -2,6 +2,7 @@
 #![tactic(auto)]
 
 mod directory;
+mod early;
 mod joined;
 pub mod piece;
 mod rooted;

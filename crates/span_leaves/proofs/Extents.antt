@@ -4,7 +4,7 @@ use Rattle.std.specs.List.{list_all}
 use Rattle.std.proofs.lemmas.Bool.{and_parts}
 use Rattle.span_schema.specs.declared.table.Table.{Table}
 use Rattle.span_expr.specs.declared.expr.Expr.{Expr}
-use Rattle.span_expr.specs.Conjuncts.{all_true}
+use Rattle.span_expr.specs.Conjuncts.{all_true, conjuncts}
 use Rattle.span_expr.specs.Places.{moved}
 use Rattle.span_expr.proofs.Places.{moved-same}
 use Rattle.span_query.specs.declared.query.BoundQuery.{BoundQuery}
@@ -47,6 +47,12 @@ numbered_taken tables = all_taken (is_numbered_join tables)
 pub unmoved : (es : List Expr) → map (moved (λ place. place - 0)) es ≡ es
 unmoved [] = refl
 unmoved (e ∷ es) = ap (λ (x : Expr). x ∷ map (moved (λ place. place - 0)) es) (moved-same (λ (k : ℕ). k - 0) (λ k. omega arith) e) ∙ ap (λ (xs : List Expr). e ∷ xs) (unmoved es)
+
+-- ---- the conjuncts on the columns before a place
+
+pub taken_before : (end : ℕ) (w : Expr) (conditions copies : List Expr) → conditions ≡ conjuncts w → copies ≡ map (moved (λ place. place - 0)) (conjuncts_on 0 end conditions)
+    → all_true copies ≡ all_true (conjuncts_on 0 end (conjuncts w))
+taken_before end w conditions copies is same = ap all_true (same ∙ unmoved (conjuncts_on 0 end conditions) ∙ ap (conjuncts_on 0 end) is)
 
 -- ---- the WHERE of a leaf that is not the whole FROM
 

@@ -32,13 +32,13 @@ use Rattle.span_columns.specs.declared.leaf.Leaf.{Leaf}
 use Rattle.span_leaves.specs.Conditions.{equates_all, have_total_ons, where_conjuncts, pushable, conjuncts_on}
 use Rattle.span_leaves.specs.Ranges.{KeyBound, is_of_type, bounds, bounds_by, range_by, narrowed, leaf_range}
 use Rattle.span_leaves.specs.Leaves.{table_of, width_of, root_places, is_joined_table, leaf_len, leaf_join, join_table, widths, reads_of, first_leaf, table_leaf, unless_left}
+use Rattle.span_leaves.specs.Results.{AreTotalJoins, IsRefusedBy, IsLost}
 use Rattle.span_planner.specs.Plans.{Planned, join_leaves, rest_leaves, leaves_from, block_leaves, planned}
 use Rattle.span_columns.specs.Reads.{is_read, leaf_widths}
 use Rattle.span_planner.specs.Sizes.{Shape, item_shape, is_sized_join, is_sized_block, shape, is_sized}
 use Rattle.span_leaves.proofs.Pushing.{is_left_out, column_of-after}
 use Rattle.span_leaves.proofs.Narrowing.{are_on, own, left_out_among, left_out-own}
 use Rattle.span_leaves.proofs.Bounding.{is_in_bounds, left_out_of_bounds}
-use Rattle.span_leaves.proofs.Narrowed.{AreTotalJoins, IsRefusedBy, IsLost}
 
 -- ---- what is known of a leaf
 

@@ -1,5 +1,6 @@
 pub mod Meaning
 pub mod Placed
+pub mod Early
 pub mod Entries
 pub mod Longest
 pub mod Narrowed
