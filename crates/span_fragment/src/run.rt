@@ -60,7 +60,8 @@ fn piece_of(
     leaf_use: Option<LeafUse<'_>>,
     found: Result<RowList, Failure>,
 ) -> Result<Piece, Refusal>
-    ensures { MatchResult result (λ piece. (o : Rows) → Gives found o → piece.rows ≡ o) (λ why. why ≡ Refusal.OutOfMemory) }
+    ensures { MatchResult result (λ piece. (o : Rows) → Gives found o → piece.rows ≡ o)
+        (λ why. why ≡ Refusal.OutOfMemory) }
 {
     match found {
         Ok(rows) => Ok(Piece::new(Some(rows_for(alloc, leaf_use, rows)?))),

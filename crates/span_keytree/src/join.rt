@@ -86,7 +86,8 @@ fn lift_inner<C: Ledger, W: Ledger>(
     requires at { at < length arena.old.cells }
     requires left { left < length arena.old.cells }
     requires inner { IsInside arena.old.cells (cell_at arena.old.cells left).links.right }
-    ensures arena { arena.new ≡ with_cells arena.old (lifted_right_cells arena.old.cells at left right (cell_at arena.old.cells left).links.right) }
+    ensures arena { arena.new ≡ with_cells arena.old
+        (lifted_right_cells arena.old.cells at left right (cell_at arena.old.cells left).links.right) }
     ensures root { result ≡ lifted_root (cell_at arena.old.cells left).links.right at }
     ensures steps { IsWithin 3 steps.old steps.new }
 {
@@ -200,7 +201,8 @@ fn sink_inner<C: Ledger, W: Ledger>(
     requires at { at < length arena.old.cells }
     requires right { right < length arena.old.cells }
     requires inner { IsInside arena.old.cells (cell_at arena.old.cells right).links.left }
-    ensures arena { arena.new ≡ with_cells arena.old (lifted_left_cells arena.old.cells at left right (cell_at arena.old.cells right).links.left) }
+    ensures arena { arena.new ≡ with_cells arena.old
+        (lifted_left_cells arena.old.cells at left right (cell_at arena.old.cells right).links.left) }
     ensures root { result ≡ lifted_root (cell_at arena.old.cells right).links.left at }
     ensures steps { IsWithin 3 steps.old steps.new }
 {
@@ -416,7 +418,8 @@ pub(crate) fn join_left<C: Ledger, W: Ledger>(
     requires at { at < length arena.old.cells }
     requires root { part.old.root < length arena.old.cells }
     requires inner { IsInside arena.old.cells (cell_at arena.old.cells part.old.root).links.right }
-    ensures arena { arena.new ≡ with_cells arena.old (joined_left_cells part.old.grew arena.old.cells at part.old.root) }
+    ensures arena { arena.new
+        ≡ with_cells arena.old (joined_left_cells part.old.grew arena.old.cells at part.old.root) }
     ensures part { part.new ≡ joined_left_root part.old.grew arena.old.cells at part.old }
     ensures steps { IsJoinCost part.old.grew part.new.grew steps.old steps.new }
 {
@@ -438,7 +441,8 @@ pub(crate) fn join_right<C: Ledger, W: Ledger>(
     requires at { at < length arena.old.cells }
     requires root { part.old.root < length arena.old.cells }
     requires inner { IsInside arena.old.cells (cell_at arena.old.cells part.old.root).links.left }
-    ensures arena { arena.new ≡ with_cells arena.old (joined_right_cells part.old.grew arena.old.cells at part.old.root) }
+    ensures arena { arena.new
+        ≡ with_cells arena.old (joined_right_cells part.old.grew arena.old.cells at part.old.root) }
     ensures part { part.new ≡ joined_right_root part.old.grew arena.old.cells at part.old }
     ensures steps { IsJoinCost part.old.grew part.new.grew steps.old steps.new }
 {

@@ -36,7 +36,8 @@ root_places schema table = take (length (key_columns schema (root_of schema tabl
 -- A table joins the leaf where it is of the same family as the leaf's first table, and its ON equates each column of the root table's key with the
 -- same column of that table. Its own columns begin at a place.
 abbrev pub is_joined_table : List Table → ℕ → ℕ → Expr → ℕ → Bool
-is_joined_table schema first at on table = (root_of schema first == root_of schema table) && equates_all on (root_places schema first) at (root_places schema table)
+is_joined_table schema first at on table = (root_of schema first == root_of schema table)
+    && equates_all on (root_places schema first) at (root_places schema table)
 
 abbrev pub is_joined : {Q : Type 0} → List Table → List ℕ → ℕ → ℕ → Expr → Item Q → Bool
 is_joined schema tables first at on (item.Table n) = is_joined_table schema first at on (table_of tables n)

@@ -51,13 +51,15 @@ bound_at place column c literal = []
 
 -- those of a BETWEEN
 abbrev pub bounds_between : ℕ → Option ℕ → Option Value → Option Value → List KeyBound
-bounds_between place (Some p) (Some low) (Some high) = if p == place then (range.AtLeast, low) ∷ (range.AtMost, high) ∷ [] else []
+bounds_between place (Some p) (Some low) (Some high) =
+    if p == place then (range.AtLeast, low) ∷ (range.AtMost, high) ∷ [] else []
 bounds_between place column low high = []
 
 -- those of a comparison of two operands
 abbrev pub bounds_compared : ℕ → Expr → Comparison → Expr → List KeyBound
 bounds_compared place a c b =
-    bound_at place (as_column a) (bound_of c) (as_literal b) ++ bound_at place (as_column b) (option_map exchanged (bound_of c)) (as_literal a)
+    bound_at place (as_column a) (bound_of c) (as_literal b)
+    ++ bound_at place (as_column b) (option_map exchanged (bound_of c)) (as_literal a)
 
 -- the bounds that a condition sets to the column at a place
 abbrev pub bounds_at : ℕ → Expr-F Expr → List KeyBound
@@ -103,7 +105,8 @@ narrowed root parts places at es = family root
 
 -- The range of a leaf: that of the family, narrowed by conditions on the first key column of its first table, whose columns begin at a place.
 abbrev pub leaf_range : List Table → ℕ → ℕ → List Expr → KeyRange
-leaf_range schema table at es = narrowed (root_of schema table) (key_columns schema table) (key_places schema table) at es
+leaf_range schema table at es =
+    narrowed (root_of schema table) (key_columns schema table) (key_places schema table) at es
 
 -- a range, narrowed by those bounds that have values of the column's type
 abbrev pub narrowed_by : ℕ → KeyPart → KeyRange → List KeyBound → KeyRange

@@ -113,7 +113,8 @@ fn narrow(
     value: &Value,
 ) -> Result<KeyRange, AllocError>
     requires { column.root < 255 }
-    ensures { IfOk result (λ found. found ≡ spec.narrowed_by column.root column.part range ((comparison, value.now) ∷ [])) }
+    ensures { IfOk result
+        (λ found. found ≡ spec.narrowed_by column.root column.part range ((comparison, value.now) ∷ [])) }
 {
     if !is_of_type(column.part.kind, value) {
         return Ok(range);
@@ -133,7 +134,8 @@ fn narrow_if(
 ) -> Result<KeyRange, AllocError>
     requires { column.root < 255 }
     ensures { IfOk result
-        (λ found. found ≡ spec.narrowed_by column.root column.part range (spec.bound_at column.place place comparison (option_copied literal.entry))) }
+        (λ found. found ≡ spec.narrowed_by column.root column.part range
+        (spec.bound_at column.place place comparison (option_copied literal.entry))) }
 {
     match (place, comparison, literal) {
         (Some(place), Some(comparison), Some(value)) => if place == column.place {
@@ -156,7 +158,8 @@ fn narrow_by_comparison(
     right: &Expr,
 ) -> Result<KeyRange, AllocError>
     requires { column.root < 255 }
-    ensures { IfOk result (λ found. found ≡ spec.narrowed_by column.root column.part range (spec.bounds_compared column.place left.now comparison right.now)) }
+    ensures { IfOk result (λ found. found ≡ spec.narrowed_by column.root column.part range
+        (spec.bounds_compared column.place left.now comparison right.now)) }
 {
     let bound = bound_of(comparison);
     let range = narrow_if(
@@ -190,7 +193,8 @@ fn narrow_by_between(
 ) -> Result<KeyRange, AllocError>
     requires { column.root < 255 }
     ensures { IfOk result
-        (λ found. found ≡ spec.narrowed_by column.root column.part range (spec.bounds_between column.place place (option_copied low.entry) (option_copied high.entry))) }
+        (λ found. found ≡ spec.narrowed_by column.root column.part range
+        (spec.bounds_between column.place place (option_copied low.entry) (option_copied high.entry))) }
 {
     match (place, low, high) {
         (Some(place), Some(low), Some(high)) => if place == column.place {
@@ -212,7 +216,8 @@ fn narrow_by(
     condition: &Expr,
 ) -> Result<KeyRange, AllocError>
     requires { column.root < 255 }
-    ensures { IfOk result (λ found. found ≡ spec.narrowed_by column.root column.part range (spec.bounds column.place condition.now)) }
+    ensures { IfOk result
+        (λ found. found ≡ spec.narrowed_by column.root column.part range (spec.bounds column.place condition.now)) }
 {
     match condition {
         Expr::Compare(left, comparison, right) => {
@@ -243,7 +248,8 @@ fn narrow_by_all(
 ) -> Result<KeyRange, AllocError>
     requires { column.root < 255 }
     ensures { IfOk result
-        (λ found. found ≡ spec.narrowed_by column.root column.part range (flat_map (spec.bounds column.place) (map (λ e. e.now) conditions.now))) }
+        (λ found. found ≡ spec.narrowed_by column.root column.part range
+        (flat_map (spec.bounds column.place) (map (λ e. e.now) conditions.now))) }
 {
     let mut range = range;
     for condition in conditions {

@@ -26,20 +26,24 @@ pub record Planned : Type 0 where
   pub top : ℕ → BoundQuery
 
 abbrev pub join_leaves : List Table → List ℕ → List Bool → ℕ → List Expr → Bool → ℕ → Item Planned → List Leaf
-join_leaves schema tables rs at es is_left width (item.Table n) = table_leaf schema (table_of tables n) rs at width (unless_left is_left es) ∷ []
+join_leaves schema tables rs at es is_left width (item.Table n) =
+    table_leaf schema (table_of tables n) rs at width (unless_left is_left es) ∷ []
 join_leaves schema tables rs at es is_left width (item.Derived p) = p.leaves
 
 -- the leaves of items after a first leaf or a derived table, where their columns begin at a place
 abbrev pub rest_leaves : List Table → List ℕ → List Bool → List Expr → ℕ → List (Join Planned) → List Leaf
 rest_leaves schema tables rs es at [] = []
-rest_leaves schema tables rs es at (j ∷ joins) = join_leaves schema tables rs at es j.is_left j.width j.item ++ rest_leaves schema tables rs es (at + j.width) joins
+rest_leaves schema tables rs es at (j ∷ joins) =
+    join_leaves schema tables rs at es j.is_left j.width j.item ++ rest_leaves schema tables rs es (at + j.width) joins
 
 abbrev pub leaves_from : List Table → List ℕ → Block Planned → Item Planned → List Leaf
 leaves_from schema tables b (item.Table n) =
     let table = table_of tables n in
     let len = leaf_len schema tables table (width_of schema table) b.joins in
-    first_leaf schema tables b table len ∷ rest_leaves schema tables (reads_of (width_of schema table) b) (pushable b) (width_of schema table + widths (take len b.joins)) (drop len b.joins)
-leaves_from schema tables b (item.Derived p) = p.leaves ++ rest_leaves schema tables (reads_of p.width b) (pushable b) p.width b.joins
+    first_leaf schema tables b table len ∷ rest_leaves schema tables (reads_of (width_of schema table) b) (pushable b)
+    (width_of schema table + widths (take len b.joins)) (drop len b.joins)
+leaves_from schema tables b (item.Derived p) =
+    p.leaves ++ rest_leaves schema tables (reads_of p.width b) (pushable b) p.width b.joins
 
 abbrev pub block_leaves : List Table → List ℕ → Block Planned → List Leaf
 block_leaves schema tables b = leaves_from schema tables b b.from
@@ -63,8 +67,16 @@ top_joins before [] = []
 top_joins before (j ∷ joins) = top_join before j ∷ top_joins (before + count_leaves j.item) joins
 
 -- the block with these items and this WHERE
-abbrev pub with_from : {Q : Type 0} → Block Q → Item BoundQuery → List (Join BoundQuery) → Option Expr → Block BoundQuery
-with_from b from joins filter = record { from = from; joins = joins; filter = filter; grouping = b.grouping; outputs = b.outputs; is_distinct = b.is_distinct }
+abbrev pub with_from : {Q : Type 0} → Block Q → Item BoundQuery → List (Join BoundQuery) → Option Expr
+    → Block BoundQuery
+with_from b from joins filter = record {
+  from = from;
+  joins = joins;
+  filter = filter;
+  grouping = b.grouping;
+  outputs = b.outputs;
+  is_distinct = b.is_distinct;
+}
 
 -- none where the leaf's items are the whole FROM, since the leaf evaluates it
 abbrev pub filter_above : {Q : Type 0} → Block Q → ℕ → Option Expr
@@ -75,14 +87,16 @@ top_from schema tables before b (item.Table n) =
     let table = table_of tables n in
     let len = leaf_len schema tables table (width_of schema table) b.joins in
     with_from b (item.Table (before + 1)) (top_joins (before + 1) (drop len b.joins)) (filter_above b len)
-top_from schema tables before b (item.Derived p) = with_from b (item.Derived (p.top before)) (top_joins (before + length p.leaves) b.joins) b.filter
+top_from schema tables before b (item.Derived p) =
+    with_from b (item.Derived (p.top before)) (top_joins (before + length p.leaves) b.joins) b.filter
 
 abbrev pub top_block : List Table → List ℕ → ℕ → Block Planned → Block BoundQuery
 top_block schema tables before b = top_from schema tables before b b.from
 
 abbrev pub top_blocks : List Table → List ℕ → ℕ → List (Block Planned) → List (Block BoundQuery)
 top_blocks schema tables before [] = []
-top_blocks schema tables before (b ∷ blocks) = top_block schema tables before b ∷ top_blocks schema tables (before + length (block_leaves schema tables b)) blocks
+top_blocks schema tables before (b ∷ blocks) =
+    top_block schema tables before b ∷ top_blocks schema tables (before + length (block_leaves schema tables b)) blocks
 
 abbrev pub top_query : List Table → List ℕ → BoundQuery-F Planned → ℕ → BoundQuery
 top_query schema tables q before = roll-BoundQuery (record {
@@ -115,4 +129,7 @@ top_of schema tables q = (planned schema tables q).top 0
 
 -- the leaves give the columns alone that are read
 abbrev pub plan_of : List Table → List ℕ → BoundQuery → Plan
-plan_of schema tables q = record { leaves = leaves_of schema tables q; top = narrowed (masks_of (leaves_of schema tables q)) (top_of schema tables q) }
+plan_of schema tables q = record {
+  leaves = leaves_of schema tables q;
+  top = narrowed (masks_of (leaves_of schema tables q)) (top_of schema tables q);
+}

@@ -18,19 +18,23 @@ pub record Shape : Type 0 where
   pub is_sized : Bool
 
 abbrev pub item_shape : List Table → List ℕ → Item Shape → Shape
-item_shape schema tables (item.Table n) = record { width = width_of schema (table_of tables n); is_sized = is_number tables n }
+item_shape schema tables (item.Table n) =
+    record { width = width_of schema (table_of tables n); is_sized = is_number tables n }
 item_shape schema tables (item.Derived s) = s
 
 abbrev pub is_sized_join : List Table → List ℕ → Join Shape → Bool
-is_sized_join schema tables j = (j.width == (item_shape schema tables j.item).width) && (item_shape schema tables j.item).is_sized
+is_sized_join schema tables j =
+    (j.width == (item_shape schema tables j.item).width) && (item_shape schema tables j.item).is_sized
 
 abbrev pub is_sized_block : List Table → List ℕ → Block Shape → Bool
-is_sized_block schema tables b = (item_shape schema tables b.from).is_sized && list_all (is_sized_join schema tables) b.joins
+is_sized_block schema tables b =
+    (item_shape schema tables b.from).is_sized && list_all (is_sized_join schema tables) b.joins
 
 abbrev pub query_shape : List Table → List ℕ → BoundQuery-F Shape → Shape
 query_shape schema tables q = record {
   width = length q.first.outputs;
-  is_sized = list_all (is_sized_block schema tables) (q.first ∷ q.others) && list_all (λ (b : Block Shape). length b.outputs == length q.first.outputs) q.others;
+  is_sized = list_all (is_sized_block schema tables) (q.first ∷ q.others)
+      && list_all (λ (b : Block Shape). length b.outputs == length q.first.outputs) q.others;
 }
 
 abbrev pub shape : List Table → List ℕ → BoundQuery → Shape

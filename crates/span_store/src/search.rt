@@ -23,7 +23,8 @@ use std::sync::ledger::{Blank, Ledger};
 /// The chain of a key: its own, or a new one. `Refusal::OutOfMemory` leaves all as it was.
 fn slot_for(index: &mut KeyIndex, arena: &mut Arena, key: Key) -> Result<Chain, Refusal>
     requires { IsIndexOf index.old arena.old }
-    ensures ok { IfOk result (IsSlotFor (entries_of index.old arena.old) (entries_of index.new arena.new) arena.old arena.new key) }
+    ensures ok { IfOk result
+        (IsSlotFor (entries_of index.old arena.old) (entries_of index.new arena.new) arena.old arena.new key) }
     ensures chain { IfOk result (λ chain. IsChain arena.new chain.number) }
     ensures index { OnErr result (index.new ≡ index.old) }
     ensures arena { OnErr result (arena.new ≡ arena.old) }
@@ -43,7 +44,8 @@ fn counted_slot_for<C: Ledger, W: Ledger>(
     requires own { IsIndexOf index.old arena.old }
     requires opens_compared { Opens C.name C.parts compared.name compared.parts }
     requires opens_written { Opens W.name W.parts written.name written.parts }
-    ensures ok { IfOk result (IsSlotFor (entries_of index.old arena.old) (entries_of index.new arena.new) arena.old arena.new key) }
+    ensures ok { IfOk result
+        (IsSlotFor (entries_of index.old arena.old) (entries_of index.new arena.new) arena.old arena.new key) }
     ensures chain { IfOk result (λ chain. IsChain arena.new chain.number) }
     ensures index { OnErr result (index.new ≡ index.old) }
     ensures arena { OnErr result (arena.new ≡ arena.old) }
@@ -62,7 +64,8 @@ pub(crate) fn slot_near(
     near: u32,
 ) -> Result<Chain, Refusal>
     requires { IsIndexOf index.old arena.old }
-    ensures ok { IfOk result (IsSlotFor (entries_of index.old arena.old) (entries_of index.new arena.new) arena.old arena.new key) }
+    ensures ok { IfOk result
+        (IsSlotFor (entries_of index.old arena.old) (entries_of index.new arena.new) arena.old arena.new key) }
     ensures chain { IfOk result (λ chain. IsChain arena.new chain.number) }
     ensures index { OnErr result (index.new ≡ index.old) }
     ensures arena { OnErr result (arena.new ≡ arena.old) }
@@ -78,7 +81,8 @@ pub(crate) fn slot_near(
 
 fn put_near(index: &mut KeyIndex, arena: &mut Arena, key: Key, near: u32) -> Result<Chain, Refusal>
     requires { IsIndexOf index.old arena.old }
-    ensures ok { IfOk result (IsSlotFor (entries_of index.old arena.old) (entries_of index.new arena.new) arena.old arena.new key) }
+    ensures ok { IfOk result
+        (IsSlotFor (entries_of index.old arena.old) (entries_of index.new arena.new) arena.old arena.new key) }
     ensures chain { IfOk result (λ chain. IsChain arena.new chain.number) }
     ensures index { OnErr result (index.new ≡ index.old) }
     ensures arena { OnErr result (arena.new ≡ arena.old) }
@@ -99,7 +103,8 @@ fn counted_put_near<C: Ledger, W: Ledger>(
     requires own { IsIndexOf index.old arena.old }
     requires opens_compared { Opens C.name C.parts compared.name compared.parts }
     requires opens_written { Opens W.name W.parts written.name written.parts }
-    ensures ok { IfOk result (IsSlotFor (entries_of index.old arena.old) (entries_of index.new arena.new) arena.old arena.new key) }
+    ensures ok { IfOk result
+        (IsSlotFor (entries_of index.old arena.old) (entries_of index.new arena.new) arena.old arena.new key) }
     ensures chain { IfOk result (λ chain. IsChain arena.new chain.number) }
     ensures index { OnErr result (index.new ≡ index.old) }
     ensures arena { OnErr result (arena.new ≡ arena.old) }

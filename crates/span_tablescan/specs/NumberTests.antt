@@ -45,7 +45,8 @@ pub record IsNumberAt (ks : List Kind) (cell : ℕ) : Type 0 where
 
 -- a condition is known to be TRUE where the answer is true, and to be FALSE or NULL where it is not
 abbrev pub IsKnown : Condition → Bool → Type 0
-IsKnown c found = (c ≡ condition.Known (truth_of (value.Bool found))) ⊎ ((c ≡ condition.Known Unknown) × (found ≡ false))
+IsKnown c found =
+    (c ≡ condition.Known (truth_of (value.Bool found))) ⊎ ((c ≡ condition.Known Unknown) × (found ≡ false))
 
 -- what an expression comes to as a condition, at a row as it is declared
 abbrev pub condition_at : List Table → Expr → TableRow → Condition
@@ -67,7 +68,8 @@ exchanged AtLeast = AtMost
 
 -- what `operand BETWEEN low AND high` comes to
 abbrev pub between_at : List Table → Expr → Expr → Expr → TableRow → Condition
-between_at schema operand low high t = both (comparison_at schema operand AtLeast low t) (comparison_at schema operand AtMost high t)
+between_at schema operand low high t =
+    both (comparison_at schema operand AtLeast low t) (comparison_at schema operand AtMost high t)
 
 -- the test is what a condition comes to at the rows of table n
 pub record IsTestOf (schema : List Table) (n : ℕ) (of : TableRow → Condition) (test : NumberTest) : Type 0 where
@@ -89,12 +91,15 @@ pub record AreNeededFor (schema : List Table) (n : ℕ) (e : Expr) (tests : List
 -- ---- the tests of an AND, one condition after another
 
 -- the tests of some conditions, and after them those of one more: they are what the AND of them comes to
-pub record AddsTests (schema : List Table) (n : ℕ) (of : TableRow → Condition) (old new : List NumberTest) : Type 0 where
-  pub judged : (t : TableRow) → IsTyped schema t → t.table ≡ n → (c : Condition) → IsKnown c (list_all (meets t.cells) old)
+pub record AddsTests (schema : List Table) (n : ℕ) (of : TableRow → Condition)
+    (old new : List NumberTest) : Type 0 where
+  pub judged : (t : TableRow) → IsTyped schema t → t.table ≡ n → (c : Condition)
+      → IsKnown c (list_all (meets t.cells) old)
       → IsKnown (both c (of t)) (list_all (meets t.cells) new)
 
 -- ... where not all are met, the AND of them is FALSE or NULL
-pub record AddsNeeded (schema : List Table) (n : ℕ) (of : TableRow → Condition) (old new : List NumberTest) : Type 0 where
+pub record AddsNeeded (schema : List Table) (n : ℕ) (of : TableRow → Condition)
+    (old new : List NumberTest) : Type 0 where
   pub numbers : AllByRecursion (λ test. IsNumberAt (other_kinds schema n) test.cell) old
       → AllByRecursion (λ test. IsNumberAt (other_kinds schema n) test.cell) new
   pub unmet : (t : TableRow) → IsTyped schema t → t.table ≡ n → (c : Condition)
@@ -107,7 +112,8 @@ and_all schema c more t = fold and_also c (map (val (declared_row schema t)) mor
 
 -- the tests of some conditions, and after them those of several more
 pub record AreMoreTests (schema : List Table) (n : ℕ) (more : List Expr) (old new : List NumberTest) : Type 0 where
-  pub judged : (t : TableRow) → IsTyped schema t → t.table ≡ n → (c : Condition) → IsKnown c (list_all (meets t.cells) old)
+  pub judged : (t : TableRow) → IsTyped schema t → t.table ≡ n → (c : Condition)
+      → IsKnown c (list_all (meets t.cells) old)
       → IsKnown (and_all schema c more t) (list_all (meets t.cells) new)
 
 -- ... of which some are tests

@@ -55,18 +55,21 @@ pub record IsConditionAt (schema : List Table) (n : ℕ) (ms : List Bool) (w : O
 -- a row of table n passes where its cells outside the key meet all of these, and only there
 pub record AreTestsWhere (schema : List Table) (n : ℕ) (w : Option Expr) (tests : List NumberTest) : Type 0 where
   pub numbers : AllByRecursion (λ test. IsNumberAt (other_kinds schema n) test.cell) tests
-  pub judged : (t : TableRow) → IsTyped schema t → t.table ≡ n → passes w (declared_row schema t) ≡ Some (list_all (meets t.cells) tests)
+  pub judged : (t : TableRow) → IsTyped schema t → t.table ≡ n
+      → passes w (declared_row schema t) ≡ Some (list_all (meets t.cells) tests)
 
 -- a row of table n does not pass where its cells outside the key do not meet all of these
 pub record AreNeeded (schema : List Table) (n : ℕ) (w : Option Expr) (tests : List NumberTest) : Type 0 where
   pub numbers : AllByRecursion (λ test. IsNumberAt (other_kinds schema n) test.cell) tests
-  pub unmet : (t : TableRow) → IsTyped schema t → t.table ≡ n → list_all (meets t.cells) tests ≡ false → passes w (declared_row schema t) ≡ Some false
+  pub unmet : (t : TableRow) → IsTyped schema t → t.table ≡ n → list_all (meets t.cells) tests ≡ false
+      → passes w (declared_row schema t) ≡ Some false
 
 -- the test is whether a row of table n that meets the needed tests passes the condition; the mask is that of the rows that are added
 abbrev pub IsTestOf : List Table → ℕ → List Bool → Option Expr → List NumberTest → Test → Type 0
 IsTestOf schema n ms w needed Always = AreTestsWhere schema n w needed
 IsTestOf schema n ms w needed (OnRow e) = IsConditionAt schema n ms w e
-IsTestOf schema n ms w needed (OnColumns columns e) = (columns.table ≡ n) × IsReader schema columns × IsConditionAt schema n columns.mask w e
+IsTestOf schema n ms w needed (OnColumns columns e) =
+    (columns.table ≡ n) × IsReader schema columns × IsConditionAt schema n columns.mask w e
 
 -- it reads what its leaf, which is of one table, gives
 pub record IsScan (schema : List Table) (scan : TableScan) : Type 0 where
@@ -98,8 +101,11 @@ pub record IsAddedWhere (schema : List Table) (n : ℕ) (ms : List Bool) (w : Op
 -- whatever row has this coded key and these packed cells, it was added where it is one of table n that passes
 pub record IsTaken (schema : List Table) (n : ℕ) (ms : List Bool) (w : Option Expr) (key row : List ℕ)
     (found : Result (Unit {0}) Failure) (old new : List Row) : Type 0 where
-  pub of : (t : TableRow) → IsTyped schema t → key ≡ code_of schema t → row ≡ row_code t.cells → Adds found (kept_row schema n ms w t) old new
+  pub of : (t : TableRow) → IsTyped schema t → key ≡ code_of schema t → row ≡ row_code t.cells
+      → Adds found (kept_row schema n ms w t) old new
 
 -- the same, by a scan
-abbrev pub IsTakenBy : List Table → TableScan → List ℕ → List ℕ → Result (Unit {0}) Failure → List Row → List Row → Type 0
-IsTakenBy schema scan key row found old new = IsTaken schema scan.reader.table scan.leaf.now.reads scan.leaf.now.filter key row found old new
+abbrev pub IsTakenBy : List Table → TableScan → List ℕ → List ℕ → Result (Unit {0}) Failure → List Row → List Row
+    → Type 0
+IsTakenBy schema scan key row found old new =
+    IsTaken schema scan.reader.table scan.leaf.now.reads scan.leaf.now.filter key row found old new

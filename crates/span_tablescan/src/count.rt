@@ -31,7 +31,8 @@ fn is_counted(schema: &Schema, scan: &TableScan<'_>, entry: &Entry) -> bool
     requires scan { IsScan schema.now scan.now }
     requires count { IsCount scan.now }
     ensures { (rows : List Row)
-        → IsTakenBy schema.now scan.now entry.now.key.now entry.now.row.now (Ok tt) rows (if result then rows ++ [] ∷ [] else rows) }
+        → IsTakenBy schema.now scan.now entry.now.key.now entry.now.row.now (Ok tt) rows
+        (if result then rows ++ [] ∷ [] else rows) }
 {
     let reader = &scan.reader;
     if !meets_all(
@@ -55,7 +56,8 @@ fn count_entry(
     requires scan { IsScan schema.now scan.now }
     requires count { IsCount scan.now }
     ensures { IfOk result
-        (λ more. IsTakenBy schema.now scan.now entry.now.key.now entry.now.row.now (Ok tt) (replicate count []) (replicate more [])) }
+        (λ more. IsTakenBy schema.now scan.now entry.now.key.now entry.now.row.now (Ok tt) (replicate count [])
+        (replicate more [])) }
 {
     if !is_counted(schema, scan, entry) {
         return Ok(count);

@@ -161,9 +161,11 @@ fn add_comparison(
     requires { IsTable schema.now table }
     ensures all { IfOk result
         (λ all. all ≡ true
-        → AddsTests schema.now table (comparison_at schema.now left.now comparison right.now) tests.old.items tests.new.items) }
+        → AddsTests schema.now table
+        (comparison_at schema.now left.now comparison right.now) tests.old.items tests.new.items) }
     ensures some { OnOk result
-        (AddsNeeded schema.now table (comparison_at schema.now left.now comparison right.now) tests.old.items tests.new.items) }
+        (AddsNeeded schema.now table
+        (comparison_at schema.now left.now comparison right.now) tests.old.items tests.new.items) }
 {
     match number_test(schema, table, left, comparison, right) {
         None => Ok(false),
@@ -186,9 +188,11 @@ fn add_between(
     requires { IsTable schema.now table }
     ensures all { IfOk result
         (λ all. all ≡ true
-        → AddsTests schema.now table (between_at schema.now operand.now low.now high.now) tests.old.items tests.new.items) }
+        → AddsTests schema.now table
+        (between_at schema.now operand.now low.now high.now) tests.old.items tests.new.items) }
     ensures some { OnOk result
-        (AddsNeeded schema.now table (between_at schema.now operand.now low.now high.now) tests.old.items tests.new.items) }
+        (AddsNeeded schema.now table
+        (between_at schema.now operand.now low.now high.now) tests.old.items tests.new.items) }
 {
     let is_low = add_comparison(schema, table, operand, Comparison::AtLeast, low, tests)?;
     let is_high = add_comparison(schema, table, operand, Comparison::AtMost, high, tests)?;

@@ -47,7 +47,8 @@ impl Names<'_> {
     /// `TypeMismatch`, `NotGrouped`, `BadPattern`, `NoParameter`; or out of memory. What is found then does not matter.
     #[cycle(typing)]
     pub fn bind(self, mode: Mode, tree: &tree::Expr, found: &mut Seq<Aggregate>) -> TypingResult
-        ensures { Leaves result found.new (spec.typing self.entry.scope.now self.entry.params.now tree.now mode found.old) }
+        ensures { Leaves result found.new
+            (spec.typing self.entry.scope.now self.entry.params.now tree.now mode found.old) }
     {
         match tree {
             tree::Expr::Integer(literal) => Ok(integer(*literal)),
