@@ -1,5 +1,5 @@
 mod Directories
-mod Early
+mod LeftOut
 mod Ending
 mod LastJoin
 mod Running
