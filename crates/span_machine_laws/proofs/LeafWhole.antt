@@ -23,9 +23,9 @@ use Rattle.span_columns.specs.declared.leaf.LeafJoin.{LeafJoin}
 use Rattle.span_leaves.specs.Conditions.{equates, equates_all}
 use Rattle.span_leaves.specs.Leaves.{width_of, root_places}
 use Rattle.span_leaves.specs.Ranges.{KeyBound, is_of_type, range_by}
-use Rattle.span_leaves.specs.Results.{leaf_rows}
+use Rattle.span_leaves.specs.Results.{leaf_rows, AreTotalJoins, IsLost}
 use Rattle.span_leaves.proofs.Bounding.{is_in_bounds}
-use Rattle.span_leaves.proofs.Narrowed.{AreEquated, AreWideTables, AreTotalJoins, IsLost, filter_tables, passes_at, leaf_narrowed}
+use Rattle.span_leaves.proofs.Narrowed.{AreEquated, AreWideTables, filter_tables, passes_at, leaf_narrowed}
 use Rattle.span_planner.proofs.Planned.{AreRooted, IsNarrowed, IsPlanned}
 use Rattle.span_machine.specs.Meaning.{declared_row, whole_table, row_within, rows_within, tables_within}
 use Rattle.span_machine_laws.proofs.FirstColumns.{first_place, IsOfFamily, HasFirst, first_of_family, root_places_first}
