@@ -1,7 +1,7 @@
 """What was found of each edit of tests/edits, one line an edit in tests/edits/verdicts.txt, and the table of it in tests/edits/README.md.
 
-A line has the edit, a sum of its text and of the files that it changes, the date, the commit and the verdict. Where the sum is that of the files
-as they are, the verdict holds of them; a contract that is in another file may have changed since.
+A line has the edit, a sum of its text and of the code of the files that it changes, the date, the commit and the verdict. Where the sum is that of
+the files as they are, the verdict holds of them; a contract that is in another file may have changed since.
 """
 import collections
 import datetime
@@ -21,6 +21,10 @@ LOCK = threading.Lock()
 Verdict = collections.namedtuple("Verdict", "sum date commit found")
 
 
+# A text between quotation marks, a character between such marks, a comment, white space, or another character.
+WORDS = re.compile(r'"(?:\\.|[^"\\])*"|\'(?:\\.|[^\'\\])\'|//[^\n]*|\s+|.')
+
+
 def read(path):
     with open(path, encoding="utf-8") as file:
         return file.read()
@@ -32,13 +36,19 @@ def name_of(edit):
     return f"{os.path.basename(folder)}/{name.removesuffix('.edit')}"
 
 
+def code_of(text):
+    """A text of code without comments, white space and commas before a closing bracket: what the layout of a file does not change."""
+    kept = "".join(word for word in WORDS.findall(text) if not word.startswith("//") and not word.isspace())
+    return re.sub(r",(?=[)\]}])", "", kept)
+
+
 def sum_of(edit):
-    """A sum of an edit's text and of the files that it changes, as they are in the repository."""
+    """A sum of an edit's text and of the code of the files that it changes, as they are in the repository."""
     text, crate = read(edit), os.path.basename(os.path.dirname(edit))
     files = sorted(set(re.findall(r"^file: (\S+)", text, re.M)))
     changed = [os.path.join(TOP, "crates", crate, file) for file in files]
     texts = [text, *(read(file) for file in changed if os.path.isfile(file))]
-    return hashlib.sha256("\0".join(texts).encode()).hexdigest()[:12]
+    return hashlib.sha256("\0".join(map(code_of, texts)).encode()).hexdigest()[:12]
 
 
 def recorded():
