@@ -4,3 +4,4 @@ mod Ending
 mod LastJoin
 mod Running
 mod Fronts
+mod OnePass

@@ -1,3 +1,4 @@
 pub mod Pieces
 pub mod Directories
 pub mod Early
+pub mod OnePass

@@ -4,6 +4,7 @@
 mod directory;
 mod early;
 mod joined;
+mod one_pass;
 pub mod piece;
 mod rooted;
 pub mod run;
