@@ -5,3 +5,4 @@ mod LastJoin
 mod Running
 mod Fronts
 mod OnePass
+mod ThreeTables

@@ -2,3 +2,4 @@ pub mod Pieces
 pub mod Directories
 pub mod Early
 pub mod OnePass
+pub mod ThreeTables

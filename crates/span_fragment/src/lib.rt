@@ -9,3 +9,4 @@ pub mod piece;
 mod rooted;
 pub mod run;
 mod short;
+mod three_tables;
