@@ -10,3 +10,4 @@ pub mod LeafReaders
 pub mod Steps
 pub mod Reads
 pub mod WholeKeys
+pub mod KeyNumbers

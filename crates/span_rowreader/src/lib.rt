@@ -3,6 +3,7 @@
 
 mod cells;
 pub mod decode;
+mod key_numbers;
 mod keys;
 pub mod leaf_reader;
 pub mod longest;

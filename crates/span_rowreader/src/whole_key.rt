@@ -41,7 +41,7 @@ fn are_numbers(columns: &[KeyPart]) -> bool
 }
 
 /// The keys of a table without NULL. None where a column of them is not of numbers.
-fn whole_key(schema: &Schema, table: usize) -> Option<WholeKey>
+pub(crate) fn whole_key(schema: &Schema, table: usize) -> Option<WholeKey>
     requires { IsTable schema.now table }
     ensures { IfSome result (IsWholeKey schema.now table) }
 {

@@ -7,3 +7,4 @@ mod Compared
 pub mod LentRows
 pub mod RowOrders
 pub mod PairColumns
+pub mod TakenValues

@@ -1,7 +1,8 @@
 //! Rows in one buffer: no row has an allocation of its own.
-ghost use Rattle.std.specs.Prelude.{◌≡◌, ◌==◌, ◌<◌, ◌≤◌, ◌-◌, ◌++◌, ◌∷◌, [], IfOk, OnOk, OnErr, drop, length, replicate, slice_index_or, take};
+ghost use Rattle.std.specs.Prelude.{◌≡◌, ◌==◌, ◌<◌, ◌≤◌, ◌+◌, ◌-◌, ◌++◌, ◌∷◌, [], IfOk, OnOk, OnErr, drop, length, replicate, slice_index_or, take, vec_len, vec_capacity};
 ghost use Rattle.std.specs.Cmp.Lexicographic.{pointwise};
 ghost use Rattle.std.specs.List.{All};
+ghost use Rattle.span_value.specs.declared.value.Value.TheVariants.{Null};
 ghost use Rattle.span_query.specs.Groups.{are_equal};
 ghost use Rattle.span_rows.specs.Cuts.{AreEnds, cut_at, shift, start_at};
 ghost use Rattle.span_rows.specs.LentRows.{lent_rows};
@@ -12,6 +13,7 @@ use super::row::extend_row;
 use span_value::value::{Row, Value};
 use std::alloc::{AllocError, Global};
 use std::marker::Model;
+use std::mem;
 
 /// Rows. Contracts see them as a list.
 #[derive(Debug, Drop)]
@@ -100,6 +102,16 @@ impl RowList {
             return push_none(self.values.as_slice(), &mut self.ends);
         }
         push_values(&mut self.values, &mut self.ends, row)
+    }
+
+    /// Adds a row, whose values are moved; NULL is left in the place of each. An error leaves the rows and the values as they were.
+    pub fn push_values_of(&mut self, row: &mut Vec<Value>) -> Result<(), AllocError>
+        ensures ok { OnOk result (self.new ≡ self.old ++ row.old.items ∷ []) }
+        ensures err { OnErr result (self.new ≡ self.old) }
+        ensures moved { OnOk result (row.new.items ≡ replicate (length row.old.items) Null) }
+        ensures kept { OnErr result (row.new.items ≡ row.old.items) }
+    {
+        push_taken(&mut self.values, &mut self.ends, row)
     }
 
     /// Adds a number of rows of no values. An error leaves the rows as they were.
@@ -301,6 +313,61 @@ fn push_values(
     ends.reserve(1)?;
     values.append(row)?;
     ends.push(values.len()).unwrap();
+    Ok(())
+}
+
+/// Reserves capacity for one end more, where there is none.
+fn reserve_end(ends: &mut Vec<usize>) -> Result<(), AllocError>
+    ensures items { ends.new.items ≡ ends.old.items }
+    ensures ok { OnOk result (vec_len ends.new < vec_capacity ends.new) }
+{
+    if ends.len() < ends.capacity() {
+        return Ok(());
+    }
+    ends.reserve(1)
+}
+
+/// Reserves capacity for a number of values more, where it is missing.
+fn reserve_values(values: &mut Vec<Value>, count: usize) -> Result<(), AllocError>
+    ensures items { values.new.items ≡ values.old.items }
+    ensures ok { OnOk result (vec_len values.new + count ≤ vec_capacity values.new) }
+{
+    if count <= values.capacity() - values.len() {
+        return Ok(());
+    }
+    values.reserve(count)
+}
+
+/// Moves the values of a row after others, and leaves NULL in the place of each.
+fn take_values(values: &mut Vec<Value>, row: &mut Vec<Value>)
+    requires { vec_len values.old + length row.old.items ≤ vec_capacity values.old }
+    ensures values { values.new.items ≡ values.old.items ++ row.old.items }
+    ensures row { row.new.items ≡ replicate (length row.old.items) Null }
+{
+    for at in 0..row.len() {
+        values.push_reserved(mem::replace(&mut row[at], Value::Null));
+    }
+}
+
+/// Adds a row, whose values are moved; NULL is left in the place of each. An error leaves all as it was.
+#[tactic(auto, using(crate::proofs::Cutting::whole_more, crate::proofs::Cutting::rows_more))]
+fn push_taken(
+    values: &mut Vec<Value>,
+    ends: &mut Vec<usize>,
+    row: &mut Vec<Value>,
+) -> Result<(), AllocError>
+    requires { AreEnds 0 ends.old.items (length values.old.items) }
+    ensures whole { AreEnds 0 ends.new.items (length values.new.items) }
+    ensures ok { OnOk result
+        (cut_at 0 ends.new.items values.new.items ≡ cut_at 0 ends.old.items values.old.items ++ row.old.items ∷ []) }
+    ensures err { OnErr result (cut_at 0 ends.new.items values.new.items ≡ cut_at 0 ends.old.items values.old.items) }
+    ensures moved { OnOk result (row.new.items ≡ replicate (length row.old.items) Null) }
+    ensures kept { OnErr result (row.new.items ≡ row.old.items) }
+{
+    reserve_end(ends)?;
+    reserve_values(values, row.len())?;
+    take_values(values, row);
+    ends.push_reserved(values.len());
     Ok(())
 }
 
