@@ -11,3 +11,4 @@ pub mod TargetRows
 pub mod Along
 pub mod KeyReads
 pub mod WholeKeys
+pub mod NumberPlaces

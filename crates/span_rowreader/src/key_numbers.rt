@@ -1,6 +1,6 @@
 //! The numbers of a table's whole keys, each at one place: a key without NULL, all of whose columns are of numbers, has a byte for each level and nine
 //! for each number. So they are read with no walk over the columns.
-ghost use Rattle.std.specs.Prelude.{◌≡◌, ◌≤◌, IfOk, IfSome, length};
+ghost use Rattle.std.specs.Prelude.{◌≡◌, ◌+◌, ◌≤◌, IfOk, IfSome, length};
 ghost use Rattle.span_schema.specs.Numbers.{IsTable};
 ghost use Rattle.span_rowreader.specs.KeyNumbers.{AreNumbersOf, AreNumbersPut, AreWholeNumbers, AreWithin, IsNumberAdded};
 

@@ -5,13 +5,14 @@ ghost use Rattle.span_schema.specs.Numbers.{IsTable, key_places};
 ghost use Rattle.span_leaves.specs.Leaves.{width_of};
 ghost use Rattle.span_columns.specs.Picks.{picked_width};
 ghost use Rattle.span_rowreader.specs.Entries.{IsWhetherOf};
-ghost use Rattle.span_rowreader.specs.Placed.{IsNoRowOf, wants_none};
+ghost use Rattle.span_rowreader.specs.Placed.{IsKeyPut, IsNoRowOf, wants_none};
 ghost use Rattle.span_rowreader.specs.Reads.{AreReadsOf};
 ghost use Rattle.span_rowreader.specs.Steps.{key_steps};
 ghost use Rattle.span_rowreader.specs.Readers as spec;
 ghost use Rattle.span_rowreader.specs.Readers.{IsReader, ArePickedOf};
 
 use super::cells::put_cells;
+use super::key_numbers::{KeyNumbers, key_numbers, put_numbers};
 use super::longest::longest_key;
 use super::place::is_wanted;
 use super::reads::{KeyRead, key_reads, put_key};
@@ -42,6 +43,8 @@ pub struct TableReader {
     all: Seq<bool>,
     /// The columns of the key up to the last that is read, each with its place among those that are read, or a place after all of them.
     reads: Seq<KeyRead>,
+    /// The numbers among them in keys without NULL, where all columns of the table's keys are of numbers.
+    numbers: Option<KeyNumbers>,
     /// The place of each other column among those that are read, or a place after all of them.
     others: Seq<usize>,
     /// How many of the other columns there are up to the last that is read.
@@ -152,6 +155,7 @@ pub fn table_reader(
         front,
         all.as_slice(),
     )?;
+    let numbers = key_numbers(alloc, schema, table, reads.as_slice(), all.as_slice())?;
     let others = targets(alloc, front, schema.other_places(table))?;
     let others_read = count_to_last(all.as_slice(), others.as_slice());
     Ok(TableReader {
@@ -162,13 +166,40 @@ pub fn table_reader(
         mask: copy_mask(alloc, front)?,
         all,
         reads,
+        numbers,
         others,
         others_read,
     })
 }
 
-/// Makes a row one of NULLs.
+/// Whether all values of a row are NULL, and there are as many as a number says.
+fn are_nulls(row: &[Value], len: usize) -> bool
+    ensures { result ≡ true → row.now ≡ replicate len Null }
+{
+    if row.len() != len {
+        return false;
+    }
+    for value in row {
+        if !matches!(value, Value::Null) {
+            return false;
+        }
+    }
+    true
+}
+
+/// Makes a row one of NULLs. Most rows are already: what adds a row to others leaves NULLs.
 fn put_nulls(row: &mut Vec<Value>, len: usize) -> Result<(), AllocError>
+    ensures { OnOk result (row.new.items ≡ replicate len Null) }
+{
+    if are_nulls(row.as_slice(), len) {
+        return Ok(());
+    }
+    refill(row, len)
+}
+
+/// Makes a row one of NULLs, whatever it is.
+#[inline(never)]
+fn refill(row: &mut Vec<Value>, len: usize) -> Result<(), AllocError>
     ensures { OnOk result (row.new.items ≡ replicate len Null) }
 {
     row.clear();
@@ -226,9 +257,34 @@ impl TableReader {
         if !put_cells(alloc, kinds, others, all, self.others_read, cells, row)? {
             return Err(Refusal::BadRow);
         }
-        if !put_key(alloc, self.reads.as_slice(), all, key, row)? {
+        if !self.put_key_values(alloc, schema, key, row)? {
             return Err(Refusal::BadKey);
         }
         Ok(())
+    }
+
+    /// Puts the values of a coded key of the table at their places among the columns that are read. False only where the bytes code no such key.
+    fn put_key_values(
+        &self,
+        alloc: Global,
+        schema: &Schema,
+        key: &[u8],
+        row: &mut Vec<Value>,
+    ) -> Result<bool, AllocError>
+        requires { IsReader schema.now self.now }
+        ensures { IfOk result
+            (λ found.
+            IsKeyPut schema.now self.now.table
+            (map (spec.target self.now.mask) (key_places schema.now self.now.table)) self.now.all key.now row.old.items
+            row.new.items found) }
+    {
+        schema.meets_rules();
+        if let Some(numbers) = &self.numbers {
+            if key.len() == numbers.len {
+                put_numbers(numbers, key, row);
+                return Ok(true);
+            }
+        }
+        put_key(alloc, self.reads.as_slice(), self.all.as_slice(), key, row)
     }
 }
