@@ -11,3 +11,4 @@ pub mod Steps
 pub mod Reads
 pub mod WholeKeys
 pub mod KeyNumbers
+pub mod Added

@@ -8,3 +8,4 @@ pub mod LentRows
 pub mod RowOrders
 pub mod PairColumns
 pub mod TakenValues
+pub mod LastRow
