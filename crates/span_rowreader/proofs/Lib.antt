@@ -12,3 +12,4 @@ pub mod Along
 pub mod KeyReads
 pub mod WholeKeys
 pub mod NumberPlaces
+pub mod AddedCells

@@ -69,7 +69,7 @@ fn put_last_cell(
     ensures { IfOk result
         (λ found.
         MatchOption found
-        (IsNoCell kind bytes.now)
+        ((rows.new ≡ rows.old) × IsNoCell kind bytes.now)
         (λ n. IsCellPutInLast wanted.now kind place bytes.now rows.old rows.new n)) }
 {
     match read_cell(alloc, kind, bytes)? {
