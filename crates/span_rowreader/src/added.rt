@@ -27,8 +27,8 @@ pub(crate) fn put_last_numbers(numbers: &KeyNumbers, key: &[u8], width: usize, r
     }
 }
 
-/// Puts the cell of a kind at the front of bytes at its place in the last row, if it is wanted and a number, and returns how many bytes code it. A cell
-/// that is not wanted is skipped. None where the cell is wanted and no number.
+/// Puts the cell of a kind at the front of bytes at its place in the last row, if it is wanted and a number, and returns how many bytes code it. A
+/// cell that is not wanted is skipped. None where the cell is wanted and no number.
 fn put_last_number(
     kind: Kind,
     place: usize,
@@ -81,8 +81,8 @@ fn put_last_cell(
     }
 }
 
-/// Puts the wanted cells of a packed row at their places in the last row; `count` is how many cells there are up to the last that is wanted, and those
-/// after it are not looked at. False only where the bytes are no packed row of the kinds; where it is true they may be none either.
+/// Puts the wanted cells of a packed row at their places in the last row; `count` is how many cells there are up to the last that is wanted, and
+/// those after it are not looked at. False only where the bytes are no packed row of the kinds; where it is true they may be none either.
 pub(crate) fn put_last_cells(
     alloc: Global,
     kinds: &[Kind],

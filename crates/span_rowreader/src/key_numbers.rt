@@ -1,5 +1,5 @@
-//! The numbers of a table's whole keys, each at one place: a key without NULL, all of whose columns are of numbers, has a byte for each level and nine
-//! for each number. So they are read with no walk over the columns.
+//! The numbers of a table's whole keys, each at one place: a key without NULL, all of whose columns are of numbers, has a byte for each level and
+//! nine for each number. So they are read with no walk over the columns.
 ghost use Rattle.std.specs.Prelude.{◌≡◌, ◌+◌, ◌≤◌, IfOk, IfSome, length};
 ghost use Rattle.span_schema.specs.Numbers.{IsTable};
 ghost use Rattle.span_rowreader.specs.KeyNumbers.{AreNumbersOf, AreNumbersPut, AreWholeNumbers, AreWithin, IsNumberAdded};
@@ -43,8 +43,8 @@ fn number_end(at: usize, above: usize, len: usize) -> Option<usize>
     Some(next)
 }
 
-/// Adds the number of a column to those that are read, where the mask has its place; returns where the next column begins. None where keys of a length
-/// do not have its bytes.
+/// Adds the number of a column to those that are read, where the mask has its place; returns where the next column begins. None where keys of a
+/// length do not have its bytes.
 fn add_number(
     each: &mut Vec<KeyNumber>,
     read: KeyRead,
@@ -69,7 +69,8 @@ fn add_number(
     Ok(Some(next))
 }
 
-/// The numbers of columns, each of which is coded in nine bytes, where the mask has their places. None where keys of a length do not have their bytes.
+/// The numbers of columns, each of which is coded in nine bytes, where the mask has their places. None where keys of a length do not have their
+/// bytes.
 fn numbers_of(
     alloc: Global,
     reads: &[KeyRead],

@@ -67,7 +67,7 @@ fn marks_value(byte: u8, desc: bool) -> bool
 fn key_number(desc: bool, bytes: &[u8]) -> Option<i64>
     ensures { IfSome result (λ number. IsNumberOf desc bytes.now number) }
 {
-    if bytes.len() == 0 {
+    if bytes.len() < 9 {
         return None;
     }
     if !marks_value(bytes[0], desc) {
@@ -103,7 +103,7 @@ pub(crate) fn cell_number(kind: Kind, bytes: &[u8]) -> Option<i64>
 fn packed_number(bytes: &[u8]) -> Option<i64>
     ensures { IfSome result (λ number. IsCell kind.Int bytes.now (Int number) 9) }
 {
-    if bytes.len() == 0 {
+    if bytes.len() < 9 {
         return None;
     }
     if bytes[0] != 1 {

@@ -267,9 +267,9 @@ impl TableReader {
         Ok(())
     }
 
-    /// Adds a row of the table to others: its values in the columns that are read, in the order in which they are declared. `row` is used for rows whose
-    /// keys have NULLs or other values than numbers: what it was is dropped, and its memory is used again. Each text and byte string that is long takes
-    /// an allocation.
+    /// Adds a row of the table to others: its values in the columns that are read, in the order in which they are declared. `row` is used for rows
+    /// whose keys have NULLs or other values than numbers: what it was is dropped, and its memory is used again. Each text and byte string that is
+    /// long takes an allocation. An error may leave a row more.
     ///
     /// `OutOfMemory`, where the bytes are the coded key and the packed cells of a row of the table.
     pub fn add(

@@ -127,26 +127,14 @@ impl RowList {
     pub fn put_value(&mut self, width: usize, place: usize, value: Value)
         ensures { IsPutInLast width place value self.old self.new }
     {
-        put_value_in_last(
-            &mut self.values,
-            self.ends.as_slice(),
-            width,
-            place,
-            value,
-        );
+        put_value_in_last(&mut self.values, self.ends.as_slice(), width, place, value);
     }
 
     /// The same of a number. Where NULL is at the place, nothing is dropped.
     pub fn put_number(&mut self, width: usize, place: usize, number: i64)
         ensures { IsPutInLast width place (Int number) self.old self.new }
     {
-        put_number_in_last(
-            &mut self.values,
-            self.ends.as_slice(),
-            width,
-            place,
-            number,
-        );
+        put_number_in_last(&mut self.values, self.ends.as_slice(), width, place, number);
     }
 
     /// Adds a number of rows of no values. An error leaves the rows as they were.
