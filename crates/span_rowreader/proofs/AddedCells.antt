@@ -1,15 +1,15 @@
 -- Values put at places of the last row, one after another.
-use Rattle.std.proofs.Common.{◌≡◌, ℕ, ℤ, ◌+◌, ◌<◌, ◌≤◌, ◌^◌, List, [], ◌∷◌, ◌++◌, Bool, true, false, refl, sym, ◌∙◌, ap, length, length-set, drop, get_or, set}
+use Rattle.std.proofs.Common.{◌≡◌, ℕ, ℤ, ◌+◌, ◌<◌, ◌≤◌, ◌^◌, List, [], ◌∷◌, ◌++◌, Bool, true, false, refl, ◌∙◌, ap, length, length-set, drop, get_or, set}
 use Rattle.span_value.specs.declared.value.Value.{Value}
 use Rattle.span_value.specs.declared.value.Value.TheVariants.{Int}
 use Rattle.span_value.specs.declared.value.Kind.{Kind}
 use Rattle.span_schema.specs.declared.table.Table.{Table}
-use Rattle.span_rowcode.specs.Rows.{IsCell, IsCellSkip, IsNoCell}
+use Rattle.span_rowcode.specs.Rows.{IsCell, IsNoCell}
 use Rattle.span_rowcode.specs.Limits.{longest_row}
 use Rattle.span_query.specs.Rows.{Row}
 use Rattle.span_rows.specs.LastRows.{IsPutInLast}
 use Rattle.span_rowreader.specs.declared.key_numbers.KeyNumber.{KeyNumber}
-use Rattle.span_rowreader.specs.Added.{IsLastOf, IsLastPut, IsCellPutInLast, AreLastCellsPut, IsRowAdded}
+use Rattle.span_rowreader.specs.Added.{IsLastPut, IsCellPutInLast, AreLastCellsPut, IsRowAdded}
 use Rattle.span_rowreader.specs.KeyNumbers.{AreNumbersPut, IsNumberFound}
 use Rattle.span_rowreader.specs.Placed.{is_wanted, wants_none, IsCellPut, AreCellsPut}
 use Rattle.span_rowreader.specs.Readers.{ArePickedOf}

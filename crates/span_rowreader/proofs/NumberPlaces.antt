@@ -1,5 +1,5 @@
 -- The numbers of whole keys, each at one place.
-use Rattle.std.proofs.Common.{◌≡◌, ℕ, ℤ, zero, suc, ◌+◌, ◌*◌, ◌<◌, ◌≤◌, List, [], ◌∷◌, ◌++◌, Bool, true, false, Option, Some, None, IfSome, refl, sym, ◌∙◌, ap, subst, append_assoc, arith, length, length-append, length-drop, drop, take, get_or, set, if◌then◌else◌}
+use Rattle.std.proofs.Common.{◌≡◌, ℕ, ℤ, suc, ◌+◌, ◌*◌, ◌<◌, ◌≤◌, List, [], ◌∷◌, ◌++◌, Bool, true, false, Option, Some, None, IfSome, refl, sym, ◌∙◌, ap, subst, append_assoc, arith, length, length-drop, drop, take, get_or, set, if◌then◌else◌}
 use Rattle.std.specs.Int.{to_be_bytes, w64}
 use Rattle.std.specs.List.{list_all}
 use Rattle.std.proofs.Math.Seq.{drop-append_seam}
@@ -16,7 +16,7 @@ use Rattle.span_schema.specs.Lineages.{MeetsRules}
 use Rattle.span_schema.specs.Numbers.{key_columns, key_places, path_of}
 use Rattle.span_keycode.specs.Order.{flipped}
 use Rattle.span_keycode.specs.Coding.{Fits, AreFit, plain, in_direction, column_code, to_unsigned}
-use Rattle.span_keycode.specs.Keys.{IsKey, key_code, values_len}
+use Rattle.span_keycode.specs.Keys.{key_code, values_len}
 use Rattle.span_keycode.specs.Reads.{IsColumn}
 use Rattle.span_keycode.proofs.Lengths.{length_directed}
 use Rattle.span_keycode.proofs.Once.{column_once}
@@ -26,7 +26,7 @@ use Rattle.span_rowreader.specs.declared.key_numbers.KeyNumbers.{KeyNumbers}
 use Rattle.span_rowreader.specs.declared.reads.KeyRead.{KeyRead}
 use Rattle.span_rowreader.specs.declared.whole_key.WholeKey.{WholeKey}
 use Rattle.span_rowreader.specs.KeyNumbers.{IsNumberCoded, IsNumberFound, AreNumbersCoded, with_numbers, AreNumbersPut, AreWithin, with_number, numbers_of, IsNumberAdded, AreNumbersOf, HasNumbers, AreKeyNumbers, AreWholeNumbers}
-use Rattle.span_rowreader.specs.Placed.{is_wanted, put, placed, IsKeyPut}
+use Rattle.span_rowreader.specs.Placed.{is_wanted, placed, IsKeyPut}
 use Rattle.span_rowreader.specs.Reads.{key_reads, places_of, AreReadsOf, IsCodedAt, AreCoded}
 use Rattle.span_rowreader.specs.Steps.{key_steps}
 use Rattle.span_rowreader.specs.WholeKeys.{is_number, IsWholeKey}

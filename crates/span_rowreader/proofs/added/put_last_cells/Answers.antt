@@ -1,10 +1,10 @@
-use Rattle.std.proofs.Common.{◌≡◌, ◌<◌, ℕ, List, true, arith, sym, ap, subst, length, length-drop, drop, get_or}
+use Rattle.std.proofs.Common.{◌≡◌, ◌<◌, ℕ, List, true, arith, sym, subst, length, length-drop, drop, get_or}
 use Rattle.std.proofs.lemmas.Option.{MatchOption-at_some, MatchOption-at_none}
 use Rattle.span_value.specs.declared.value.Kind.TheVariants as kind
 use Rattle.span_query.specs.Rows.{Row}
 use Rattle.span_rowreader.specs.Added.{IsCellPutInLast}
 use Rattle.span_rowreader.specs.Placed.{wants_none}
-use Rattle.span_rowreader.proofs.AddedCells.{no_cell_put, next_cell_put, missing_cell_put, all_cells_put, long_cells_put}
+use Rattle.span_rowreader.proofs.AddedCells.{no_cell_put, next_cell_put, all_cells_put, long_cells_put}
 use Rattle.span_rowreader.proofs.added.put_last_cells.Goals as goal
 
 pub returns-then-bytes-gt-LONGEST_ROW : goal.returns-then-bytes-gt-LONGEST_ROW

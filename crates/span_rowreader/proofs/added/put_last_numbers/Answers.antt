@@ -1,4 +1,4 @@
-use Rattle.std.proofs.Common.{rules, ◌≡◌, ◌+◌, ◌≤◌, ℕ, ℤ, List, false, arith, ap, get_or, length, subst}
+use Rattle.std.proofs.Common.{rules, ◌+◌, ◌≤◌, ℕ, ℤ, List, false, arith, ap, get_or, length, subst}
 use Rattle.std.specs.Prelude.{FitsSigned}
 use Rattle.std.specs.Int.{w64}
 use Rattle.std.proofs.lemmas.Int.{to_z-of_z}

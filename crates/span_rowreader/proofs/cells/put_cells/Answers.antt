@@ -1,7 +1,6 @@
 use Rattle.std.proofs.Common.{◌≡◌, ◌<◌, ◌^◌, ℕ, List, true, arith, sym, ap, subst, length, length-drop, drop, get_or}
 use Rattle.std.proofs.lemmas.Option.{MatchOption-at_some, MatchOption-at_none}
 use Rattle.span_value.specs.declared.value.Kind.TheVariants as kind
-use Rattle.span_rowcode.specs.Rows.{IsNoCell}
 use Rattle.span_rowreader.specs.Placed.{IsCellPut, wants_none}
 use Rattle.span_rowreader.proofs.Placing.{all_cells_left, any_cell_put, cell_at, cells_stop, too_long}
 use Rattle.span_rowreader.proofs.cells.put_cells.Goals as goal

@@ -8,8 +8,7 @@ use Rattle.span_keycode.specs.Keys.{IsKey, key_code}
 use Rattle.span_rowcode.specs.Rows.{IsRow}
 use Rattle.span_query.specs.Rows.{Row}
 use Rattle.span_columns.specs.Picks.{picked_width}
-use Rattle.span_rowreader.specs.Added.{IsLastPut}
-use Rattle.span_rowreader.specs.Placed.{placed, AreCellsPut}
+use Rattle.span_rowreader.specs.Placed.{placed}
 use Rattle.span_rowreader.specs.Readers.{target}
 use Rattle.span_rowreader.proofs.NumberPlaces.{numbers_put}
 use Rattle.span_rowreader.proofs.PlacedRows.{others_placed}

@@ -1,11 +1,6 @@
-use Rattle.std.proofs.Common.{◌≡◌, ◌∙◌, ℕ, List, Bool, Result, Ok, Err, IfOk, map, subst, length}
+use Rattle.std.proofs.Common.{◌≡◌, ℕ, List, map, length}
 use Rattle.std.proofs.lemmas.List.{length-map}
-use Rattle.span_value.specs.declared.value.Value.{Value}
-use Rattle.span_schema.specs.declared.table.Table.{Table}
-use Rattle.span_schema.specs.Lineages.{MeetsRules}
 use Rattle.span_schema.specs.Numbers.{key_places}
-use Rattle.span_rowreader.specs.declared.reads.KeyRead.{KeyRead}
-use Rattle.span_rowreader.specs.Reads.{AreReadsPut}
 use Rattle.span_rowreader.specs.Readers.{target}
 use Rattle.span_rowreader.proofs.KeyReads.{some_key_put}
 use Rattle.span_rowreader.proofs.reader.TableReader.put_key_values.Goals as goal

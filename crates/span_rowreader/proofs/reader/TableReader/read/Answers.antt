@@ -10,10 +10,7 @@ use Rattle.span_rowcode.specs.Rows.{IsRow}
 use Rattle.span_columns.specs.Picks.{picked_width}
 use Rattle.span_rowreader.specs.Meaning.{declared_row}
 use Rattle.span_rowreader.specs.Placed.{placed}
-use Rattle.span_rowreader.specs.declared.reads.KeyRead.{KeyRead}
-use Rattle.span_rowreader.specs.Reads.{AreReadsOf, AreReadsPut}
 use Rattle.span_rowreader.specs.Readers.{target}
-use Rattle.span_rowreader.proofs.KeyReads.{key_put}
 use Rattle.span_rowreader.proofs.PlacedRows.{others_placed}
 use Rattle.span_rowreader.proofs.TargetRows.{none_picked, row_picked}
 use Rattle.span_rowreader.proofs.reader.TableReader.read.Goals as goal
