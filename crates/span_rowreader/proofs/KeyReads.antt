@@ -1,5 +1,5 @@
 -- The columns of a table's coded keys, read one after another.
-use Rattle.std.proofs.Common.{◌≡◌, ℕ, zero, suc, ◌+◌, ◌-◌, ◌<◌, ◌≤◌, List, [], ◌∷◌, ◌++◌, Bool, true, false, refl, sym, ◌∙◌, ap, subst, append_assoc, append-nil, arith, length, length-append, length-drop, drop, take, get_or}
+use Rattle.std.proofs.Common.{◌≡◌, ℕ, zero, suc, ◌+◌, ◌-◌, ◌<◌, ◌≤◌, List, [], ◌∷◌, ◌++◌, Bool, true, false, Result, Ok, Err, IfOk, refl, sym, ◌∙◌, ap, subst, append_assoc, append-nil, arith, length, length-append, length-drop, drop, take, get_or}
 use Rattle.std.proofs.Math.Seq.{drop-append_seam}
 use Rattle.std.proofs.lemmas.List.{drop_more, drop-drop, drop_all, take-map}
 use Rattle.span_value.specs.declared.value.Value.{Value}
@@ -74,7 +74,7 @@ all_added steps ps i reads above over so =
 -- ---- a key is what its columns code
 
 -- values are coded at the columns of steps, with these places
-abbrev AreAt : List KeyStep → ℕ → List ℕ → List Value → List ℕ → Type 0
+abbrev pub AreAt : List KeyStep → ℕ → List ℕ → List Value → List ℕ → Type 0
 AreAt ss above ps vs bs = AreCoded (key_reads ss above ps) vs bs × (places_of (key_reads ss above ps) ≡ ps)
 
 columns_coded : (cs : List KeyPart) (vs ws : List Value) (front bs : List ℕ) (more : List KeyStep) (ps : List ℕ) → AreFit cs vs → length ps ≡ length (vs ++ ws)
@@ -107,7 +107,7 @@ levels_coded schema (l ∷ ls) front ps fit len =
     let Q : List ℕ → Type 0 = λ bs. AreAt (column_steps cs ++ more) (length front + 1) ps (values_of (l ∷ ls)) bs in
     subst Q (append_assoc front (l.table ∷ []) after) (subst P wide inner)
 
-key_coded : (schema : List Table) → MeetsRules schema → (n : ℕ) (ps : List ℕ) (vs : List Value) → length ps ≡ length (key_places schema n) → IsKey schema n vs → AreAt (key_steps schema n) 0 ps vs (key_code schema n vs)
+pub key_coded : (schema : List Table) → MeetsRules schema → (n : ℕ) (ps : List ℕ) (vs : List Value) → length ps ≡ length (key_places schema n) → IsKey schema n vs → AreAt (key_steps schema n) 0 ps vs (key_code schema n vs)
 key_coded schema rules n ps vs many k =
     let within = place_within schema n k.0 in
     let ls : List Level = levels_at schema (n - 1) vs in
@@ -122,13 +122,13 @@ key_coded schema rules n ps vs many k =
 
 -- ---- the first of the columns
 
-coded_some : (k : ℕ) (rs : List KeyRead) (vs : List Value) (bs : List ℕ) → AreCoded rs vs bs → AreCoded (take k rs) vs bs
+pub coded_some : (k : ℕ) (rs : List KeyRead) (vs : List Value) (bs : List ℕ) → AreCoded rs vs bs → AreCoded (take k rs) vs bs
 coded_some zero rs vs bs coded = tt
 coded_some (suc k) [] vs bs coded = tt
 coded_some (suc k) (r ∷ rs) [] bs coded = absurd coded
 coded_some (suc k) (r ∷ rs) (v ∷ vs) bs coded = (coded.0, (coded.1.0, coded_some k rs vs coded.0 coded.1.1))
 
-placed_some : (ms : List Bool) (k : ℕ) (ps : List ℕ) (vs row : List Value) → wants_none ms (drop k ps) ≡ true → placed ms (take k ps) vs row ≡ placed ms ps vs row
+pub placed_some : (ms : List Bool) (k : ℕ) (ps : List ℕ) (vs row : List Value) → wants_none ms (drop k ps) ≡ true → placed ms (take k ps) vs row ≡ placed ms ps vs row
 placed_some ms zero ps vs row none = none_put ms ps vs row none
 placed_some ms (suc k) [] vs row none = refl
 placed_some ms (suc k) (p ∷ ps) [] row none = refl
@@ -149,9 +149,17 @@ key_put schema rules n ps ms rs bs old new found many of done = record {
       (put.0, put.1 ∙ ap (λ (l : List ℕ). placed ms l vs old) places ∙ placed_some ms of.count ps vs old of.left);
 }
 
+pub some_key_put : {E : Type 0} (schema : List Table) → MeetsRules schema → (n : ℕ) (ps : List ℕ) (ms : List Bool) (rs reads : List KeyRead) (wanted : List Bool) (bs : List ℕ) (old new : List Value) (r : Result Bool E) → length ps ≡ length (key_places schema n)
+    → reads ≡ rs → wanted ≡ ms → AreReadsOf schema n ps ms rs → IfOk r (AreReadsPut reads wanted bs old new) → IfOk r (IsKeyPut schema n ps ms bs old new)
+some_key_put schema rules n ps ms rs reads wanted bs old new (Err e) many same all of done = tt
+some_key_put schema rules n ps ms rs reads wanted bs old new (Ok found) many same all of done =
+    let P : List KeyRead → Type 0 = λ l. AreReadsPut l wanted bs old new found in
+    let Q : List Bool → Type 0 = λ l. AreReadsPut rs l bs old new found in
+    key_put schema rules n ps ms rs bs old new found many of (subst Q all (subst P same done))
+
 -- ---- a column after the numbers of tables
 
-past_front : (r : KeyRead) (v : Value) (bs more : List ℕ) → IsCodedAt r v bs more → drop r.above bs ≡ column_code r.column v ++ more
+pub past_front : (r : KeyRead) (v : Value) (bs more : List ℕ) → IsCodedAt r v bs more → drop r.above bs ≡ column_code r.column v ++ more
 past_front r v bs more at =
     ap (λ (k : ℕ). drop k bs) (sym at.above) ∙ ap (drop (length at.front)) at.code ∙ drop-append_seam at.front (column_code r.column v ++ more)
 

@@ -11,3 +11,5 @@ pub mod TargetRows
 pub mod Along
 pub mod KeyReads
 pub mod WholeKeys
+pub mod NumberPlaces
+pub mod AddedCells

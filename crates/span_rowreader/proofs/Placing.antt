@@ -14,11 +14,11 @@ use Rattle.span_rowreader.specs.Placed.{is_wanted, wants_none, put, placed, IsCo
 
 -- ---- one value
 
-put_wanted : (ms : List Bool) (place : ℕ) (v w : Value) (old new : List Value) → is_wanted ms place ≡ true → new ≡ set old place v → w ≡ v → new ≡ put ms place w old
+pub put_wanted : (ms : List Bool) (place : ℕ) (v w : Value) (old new : List Value) → is_wanted ms place ≡ true → new ≡ set old place v → w ≡ v → new ≡ put ms place w old
 put_wanted ms place v w old new wanted e same =
     e ∙ ap (λ (x : Value). set old place x) (sym same) ∙ sym (ap (λ (b : Bool). if b then set old place w else old) wanted)
 
-put_not : (ms : List Bool) (place : ℕ) (w : Value) (old : List Value) → is_wanted ms place ≡ false → old ≡ put ms place w old
+pub put_not : (ms : List Bool) (place : ℕ) (w : Value) (old : List Value) → is_wanted ms place ≡ false → old ≡ put ms place w old
 put_not ms place w old not_wanted = sym (ap (λ (b : Bool). if b then set old place w else old) not_wanted)
 
 pub column_put : (ms : List Bool) (c : KeyPart) (place : ℕ) (bs : List ℕ) (old new : List Value) (v : Value) (n : ℕ) → is_wanted ms place ≡ true → IsColumn c bs v n → new ≡ set old place v → IsColumnPut ms c place bs old new n
@@ -40,20 +40,14 @@ columns_read : (ms : List Bool) (c : KeyPart) (place : ℕ) (bs : List ℕ) (old
 columns_read ms c place bs old new None wanted none = none
 columns_read ms c place bs old new (Some n) wanted one = column_put ms c place bs old new one.value n wanted one.read one.put
 
-cells_read : (ms : List Bool) (k : Kind) (place : ℕ) (bs : List ℕ) (old new : List Value) (found : Option ℕ) → length bs < 2 ^ 32 → is_wanted ms place ≡ true → MatchOption found (IsNoCell k bs) (λ n. IsCellRead k place bs old new n)
-    → MatchOption found (IsNoCell k bs) (λ n. IsCellPut ms k place bs old new n)
-cells_read ms k place bs old new None small wanted none = none
-cells_read ms k place bs old new (Some n) small wanted one = cell_put ms k place bs old new one.value n small wanted one.read one.put
-
 pub any_column_put : {E : Type 0} (ms : List Bool) (c : KeyPart) (place : ℕ) (bs : List ℕ) (old new : List Value) (r : Result (Option ℕ) E) → is_wanted ms place ≡ true
     → IfOk r (λ found. MatchOption found (IsNoColumn c bs) (λ n. IsColumnRead c place bs old new n)) → IfOk r (λ found. MatchOption found (IsNoColumn c bs) (λ n. IsColumnPut ms c place bs old new n))
 any_column_put ms c place bs old new (Ok found) wanted so = columns_read ms c place bs old new found wanted so
 any_column_put ms c place bs old new (Err e) wanted so = tt
 
-pub any_cell_put : {E : Type 0} (ms : List Bool) (k : Kind) (place : ℕ) (bs : List ℕ) (old new : List Value) (r : Result (Option ℕ) E) → length bs < 2 ^ 32 → is_wanted ms place ≡ true
-    → IfOk r (λ found. MatchOption found (IsNoCell k bs) (λ n. IsCellRead k place bs old new n)) → IfOk r (λ found. MatchOption found (IsNoCell k bs) (λ n. IsCellPut ms k place bs old new n))
-any_cell_put ms k place bs old new (Ok found) small wanted so = cells_read ms k place bs old new found small wanted so
-any_cell_put ms k place bs old new (Err e) small wanted so = tt
+pub any_cell_put : (ms : List Bool) (k : Kind) (place : ℕ) (bs : List ℕ) (old row new : List Value) (n : ℕ) → length bs < 2 ^ 32 → is_wanted ms place ≡ true → row ≡ old → IsCellRead k place bs row new n → IsCellPut ms k place bs old new n
+any_cell_put ms k place bs old row new n small wanted same one =
+    cell_put ms k place bs old new one.value n small wanted one.read (one.put ∙ ap (λ (l : List Value). set l place one.value) same)
 
 -- a row is as it was where the mask has none of the places
 pub none_put : (ms : List Bool) (ps : List ℕ) (vs row : List Value) → wants_none ms ps ≡ true → row ≡ placed ms ps vs row

@@ -30,20 +30,20 @@ pub record IsFewer (len whole : ℕ) : Type 0 where
   pub nulls : ℕ
   pub is : len + 8 * nulls ≡ whole
 
-number_kind : (k : Kind) → is_number_kind k ≡ true → k ≡ kind.Int
+pub number_kind : (k : Kind) → is_number_kind k ≡ true → k ≡ kind.Int
 number_kind kind.Int e = refl
 number_kind kind.Str e = absurd (let f : false ≡ true = e in cc)
 number_kind kind.Bytes e = absurd (let f : false ≡ true = e in cc)
 number_kind kind.Bool e = absurd (let f : false ≡ true = e in cc)
 
-one_fewer : (v : Value) → Fits kind.Int v → IsFewer (length (plain v)) 9
+pub one_fewer : (v : Value) → Fits kind.Int v → IsFewer (length (plain v)) 9
 one_fewer value.Null fits = record { nulls = 1; is = omega arith }
 one_fewer (value.Int i) fits = record { nulls = 0; is = omega arith }
 one_fewer (value.Str bs) fits = absurd fits
 one_fewer (value.Bytes bs) fits = absurd fits
 one_fewer (value.Bool b) fits = absurd fits
 
-numbers_fewer : (cs : List KeyPart) (vs : List Value) → list_all is_number cs ≡ true → AreFit cs vs → IsFewer (values_len vs) (9 * length cs)
+pub numbers_fewer : (cs : List KeyPart) (vs : List Value) → list_all is_number cs ≡ true → AreFit cs vs → IsFewer (values_len vs) (9 * length cs)
 numbers_fewer [] [] all fit = record { nulls = 0; is = omega arith }
 numbers_fewer [] (v ∷ vs) all fit = absurd fit
 numbers_fewer (c ∷ cs) [] all fit = absurd fit
@@ -57,7 +57,7 @@ numbers_fewer (c ∷ cs) (v ∷ vs) all fit =
 -- ---- a whole key
 
 module _ (schema : List Table) (rules : MeetsRules schema) (n : ℕ) (vs : List Value) (is : IsKey schema n vs) where
-  code_length : length (key_code schema n vs) ≡ length (path_of schema n) + values_len vs
+  pub code_length : length (key_code schema n vs) ≡ length (path_of schema n) + values_len vs
   code_length = key_len schema rules (n - 1) (omega (arith, is.0.0, is.0.1)) vs (fit_length (key_columns schema n) vs is.1)
 
   -- a key of numbers is eight bytes shorter for each NULL

@@ -10,3 +10,5 @@ pub mod LeafReaders
 pub mod Steps
 pub mod Reads
 pub mod WholeKeys
+pub mod KeyNumbers
+pub mod Added

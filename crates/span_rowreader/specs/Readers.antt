@@ -12,6 +12,7 @@ use Rattle.span_leaves.specs.Leaves.{width_of}
 use Rattle.span_columns.specs.Picks.{picked, picked_width}
 use Rattle.span_rowreader.specs.declared.reader.TableReader.{TableReader}
 use Rattle.span_rowreader.specs.Meaning.{declared_row}
+use Rattle.span_rowreader.specs.KeyNumbers.{AreKeyNumbers}
 use Rattle.span_rowreader.specs.Longest.{IsLongest}
 use Rattle.span_rowreader.specs.Placed.{is_wanted, wants_none}
 use Rattle.span_rowreader.specs.Reads.{AreReadsOf}
@@ -30,6 +31,7 @@ pub record IsReader (schema : List Table) (r : TableReader) : Type 0 where
   pub steps : r.steps ≡ key_steps schema r.table
   pub all : r.all ≡ replicate (picked_width r.mask) true
   pub reads : AreReadsOf schema r.table (map (target r.mask) (key_places schema r.table)) r.all r.reads
+  pub numbers : IfSome r.numbers (AreKeyNumbers schema r.table (map (target r.mask) (key_places schema r.table)) r.all)
   pub others : r.others ≡ map (target r.mask) (other_places schema r.table)
   pub others_read : r.others_read ≤ length r.others
   pub others_left : wants_none r.all (drop r.others_read r.others) ≡ true

@@ -1,11 +1,11 @@
 //! Packed cells, read straight into their places in a row.
-ghost use Rattle.std.specs.Prelude.{◌≡◌, ◌≤◌, IfOk, MatchOption, drop, length, true};
+ghost use Rattle.std.specs.Prelude.{◌≡◌, ◌≤◌, IfOk, MatchOption, drop, length, replicate, true};
 ghost use Rattle.span_rowcode.specs.declared.pack.TheConstants.{LONGEST_ROW};
 ghost use Rattle.span_rowcode.specs.Rows.{IsNoCell};
-ghost use Rattle.span_rowreader.specs.Placed.{IsCellPut, IsCellRead, AreCellsPut, wants_none};
+ghost use Rattle.span_rowreader.specs.Placed.{IsCellPut, IsCellRead, AreCellsPut, is_wanted, wants_none};
 
 use super::number::cell_number;
-use super::place::{is_wanted, put_number, put_value};
+use super::place::{is_among, put_number, put_value};
 use span_rowcode::cell::{after, read_cell, skip_cell};
 use span_rowcode::pack::LONGEST_ROW;
 use span_value::value::{Kind, Value};
@@ -35,31 +35,30 @@ fn put_any_cell(
     }
 }
 
-/// Puts the cell of a kind at the front of bytes at its place, if it is wanted, and returns how many bytes code it. None
-/// if no cell of the kind is coded there. A cell that is not wanted is skipped.
-fn put_cell(
-    alloc: Global,
+/// Puts the cell of a kind at the front of bytes at its place, if it is wanted and a number, and returns how many bytes code it. A cell that is not
+/// wanted is skipped. None where the cell is wanted and no number.
+fn put_number_cell(
     kind: Kind,
     place: usize,
     wanted: &[bool],
     bytes: &[u8],
     row: &mut Vec<Value>,
-) -> Result<Option<usize>, AllocError>
-    requires { length bytes.now ≤ LONGEST_ROW }
-    ensures { IfOk result
-        (λ found.
-        MatchOption found (IsNoCell kind bytes.now)
-        (λ n. IsCellPut wanted.now kind place bytes.now row.old.items row.new.items n)) }
+) -> Option<usize>
+    requires bytes { length bytes.now ≤ LONGEST_ROW }
+    requires all { wanted.now ≡ replicate (length wanted.now) true }
+    ensures { MatchOption result
+        ((row.new.items ≡ row.old.items) × (is_wanted wanted.now place ≡ true))
+        (λ n. IsCellPut wanted.now kind place bytes.now row.old.items row.new.items n) }
 {
-    if !is_wanted(wanted, place) {
-        return Ok(Some(skip_cell(kind, bytes)));
+    if !is_among(wanted, place) {
+        return Some(skip_cell(kind, bytes));
     }
     match cell_number(kind, bytes) {
         Some(number) => {
             put_number(row, place, number);
-            Ok(Some(9))
+            Some(9)
         }
-        None => put_any_cell(alloc, kind, place, bytes, row),
+        None => None,
     }
 }
 
@@ -75,6 +74,7 @@ pub(crate) fn put_cells(
     bytes: &[u8],
     row: &mut Vec<Value>,
 ) -> Result<bool, AllocError>
+    requires all { wanted.now ≡ replicate (length wanted.now) true }
     requires kinds { count ≤ length kinds.now }
     requires places { count ≤ length places.now }
     requires rest { wants_none wanted.now (drop count places.now) ≡ true }
@@ -86,7 +86,12 @@ pub(crate) fn put_cells(
     }
     let mut at = 0;
     for i in 0..count {
-        match put_cell(alloc, kinds[i], places[i], wanted, after(bytes, at), row)? {
+        let cell = after(bytes, at);
+        if let Some(width) = put_number_cell(kinds[i], places[i], wanted, cell, row) {
+            at += width;
+            continue;
+        }
+        match put_any_cell(alloc, kinds[i], places[i], cell, row)? {
             None => return Ok(false),
             Some(width) => at += width,
         }

@@ -1,11 +1,12 @@
 //! Numbers read straight from the bytes that code them: no value is made on the way.
-ghost use Rattle.std.specs.Prelude.{◌≡◌, ◌≤◌, ◌∷◌, ◌++◌, [], IfSome, drop, length, true};
+ghost use Rattle.std.specs.Prelude.{◌≡◌, ◌+◌, ◌≤◌, ◌∷◌, ◌++◌, [], IfSome, drop, length, take, true};
 ghost use Rattle.std.specs.Int.{to_be_bytes, w64};
 ghost use Rattle.span_value.specs.declared.value.Kind.TheVariants as kind;
 ghost use Rattle.span_value.specs.declared.value.Value.TheVariants.{Int};
 ghost use Rattle.span_keycode.specs.Coding.{in_direction};
 ghost use Rattle.span_keycode.specs.Reads.{IsColumn};
 ghost use Rattle.span_rowcode.specs.Rows.{IsCell};
+ghost use Rattle.span_rowreader.specs.KeyNumbers.{IsNumberFound};
 ghost use Rattle.span_rowreader.specs.Numbers.{HasWord, IsNumberOf};
 
 use span_keycode::value::{after, to_signed};
@@ -30,6 +31,31 @@ fn directed_word(eight: [u8; 8], desc: bool) -> u64
     if desc { u64::MAX - word } else { word }
 }
 
+/// The eight bytes at a place.
+fn eight_at(bytes: &[u8], at: usize) -> [u8; 8]
+    requires { at + 8 ≤ length bytes.now }
+    ensures { result ≡ take 8 (drop at bytes.now) }
+{
+    [
+        bytes[at],
+        bytes[at + 1],
+        bytes[at + 2],
+        bytes[at + 3],
+        bytes[at + 4],
+        bytes[at + 5],
+        bytes[at + 6],
+        bytes[at + 7],
+    ]
+}
+
+/// The number whose nine bytes in a key are at a place, in a column that is descending or not.
+pub(crate) fn number_at(key: &[u8], at: usize, desc: bool) -> i64
+    requires { at + 9 ≤ length key.now }
+    ensures { IsNumberFound desc (drop at key.now) result }
+{
+    to_signed(directed_word(eight_at(key, at + 1), desc))
+}
+
 /// Whether a byte is the mark of a value that is not NULL, in a column that is descending or not.
 fn marks_value(byte: u8, desc: bool) -> bool
     ensures { result ≡ true → in_direction desc (byte ∷ []) ≡ 1 ∷ [] }
@@ -41,7 +67,7 @@ fn marks_value(byte: u8, desc: bool) -> bool
 fn key_number(desc: bool, bytes: &[u8]) -> Option<i64>
     ensures { IfSome result (λ number. IsNumberOf desc bytes.now number) }
 {
-    if bytes.len() == 0 {
+    if bytes.len() < 9 {
         return None;
     }
     if !marks_value(bytes[0], desc) {
@@ -77,7 +103,7 @@ pub(crate) fn cell_number(kind: Kind, bytes: &[u8]) -> Option<i64>
 fn packed_number(bytes: &[u8]) -> Option<i64>
     ensures { IfSome result (λ number. IsCell kind.Int bytes.now (Int number) 9) }
 {
-    if bytes.len() == 0 {
+    if bytes.len() < 9 {
         return None;
     }
     if bytes[0] != 1 {

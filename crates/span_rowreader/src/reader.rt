@@ -4,14 +4,18 @@ ghost use Rattle.span_value.specs.declared.value.Value.TheVariants.{Null};
 ghost use Rattle.span_schema.specs.Numbers.{IsTable, key_places};
 ghost use Rattle.span_leaves.specs.Leaves.{width_of};
 ghost use Rattle.span_columns.specs.Picks.{picked_width};
+ghost use Rattle.span_rowreader.specs.Added.{IsRowAdded};
 ghost use Rattle.span_rowreader.specs.Entries.{IsWhetherOf};
-ghost use Rattle.span_rowreader.specs.Placed.{IsNoRowOf, wants_none};
+ghost use Rattle.span_rowreader.specs.KeyNumbers.{AreKeyNumbers};
+ghost use Rattle.span_rowreader.specs.Placed.{IsKeyPut, IsNoRowOf, wants_none};
 ghost use Rattle.span_rowreader.specs.Reads.{AreReadsOf};
 ghost use Rattle.span_rowreader.specs.Steps.{key_steps};
 ghost use Rattle.span_rowreader.specs.Readers as spec;
 ghost use Rattle.span_rowreader.specs.Readers.{IsReader, ArePickedOf};
 
+use super::added::{put_last_cells, put_last_numbers};
 use super::cells::put_cells;
+use super::key_numbers::{KeyNumbers, key_numbers, put_numbers};
 use super::longest::longest_key;
 use super::place::is_wanted;
 use super::reads::{KeyRead, key_reads, put_key};
@@ -20,6 +24,7 @@ use super::whole_key::{WholeKey, is_own_by_length, table_by_length};
 use span_columns::narrow::picked_width;
 use span_expr::rank::rank;
 use span_leaves::table::width_of;
+use span_rows::row_list::RowList;
 use span_schema::schema::Schema;
 use span_value::refusal::Refusal;
 use span_value::seq::Seq;
@@ -42,6 +47,8 @@ pub struct TableReader {
     all: Seq<bool>,
     /// The columns of the key up to the last that is read, each with its place among those that are read, or a place after all of them.
     reads: Seq<KeyRead>,
+    /// The numbers among them in keys without NULL, where all columns of the table's keys are of numbers.
+    numbers: Option<KeyNumbers>,
     /// The place of each other column among those that are read, or a place after all of them.
     others: Seq<usize>,
     /// How many of the other columns there are up to the last that is read.
@@ -152,6 +159,7 @@ pub fn table_reader(
         front,
         all.as_slice(),
     )?;
+    let numbers = key_numbers(alloc, schema, table, reads.as_slice(), all.as_slice())?;
     let others = targets(alloc, front, schema.other_places(table))?;
     let others_read = count_to_last(all.as_slice(), others.as_slice());
     Ok(TableReader {
@@ -162,13 +170,40 @@ pub fn table_reader(
         mask: copy_mask(alloc, front)?,
         all,
         reads,
+        numbers,
         others,
         others_read,
     })
 }
 
-/// Makes a row one of NULLs.
+/// Whether all values of a row are NULL, and there are as many as a number says.
+fn are_nulls(row: &[Value], len: usize) -> bool
+    ensures { result ≡ true → row.now ≡ replicate len Null }
+{
+    if row.len() != len {
+        return false;
+    }
+    for value in row {
+        if !matches!(value, Value::Null) {
+            return false;
+        }
+    }
+    true
+}
+
+/// Makes a row one of NULLs. Most rows are already: what adds a row to others leaves NULLs.
 fn put_nulls(row: &mut Vec<Value>, len: usize) -> Result<(), AllocError>
+    ensures { OnOk result (row.new.items ≡ replicate len Null) }
+{
+    if are_nulls(row.as_slice(), len) {
+        return Ok(());
+    }
+    refill(row, len)
+}
+
+/// Makes a row one of NULLs, whatever it is.
+#[inline(never)]
+fn refill(row: &mut Vec<Value>, len: usize) -> Result<(), AllocError>
     ensures { OnOk result (row.new.items ≡ replicate len Null) }
 {
     row.clear();
@@ -226,9 +261,115 @@ impl TableReader {
         if !put_cells(alloc, kinds, others, all, self.others_read, cells, row)? {
             return Err(Refusal::BadRow);
         }
-        if !put_key(alloc, self.reads.as_slice(), all, key, row)? {
+        if !self.put_key_values(alloc, schema, key, row)? {
             return Err(Refusal::BadKey);
         }
         Ok(())
+    }
+
+    /// Adds a row of the table to others: its values in the columns that are read, in the order in which they are declared. `row` is used for rows
+    /// whose keys have NULLs or other values than numbers: what it was is dropped, and its memory is used again. Each text and byte string that is
+    /// long takes an allocation. An error may leave a row more.
+    ///
+    /// `OutOfMemory`, where the bytes are the coded key and the packed cells of a row of the table.
+    pub fn add(
+        &self,
+        alloc: Global,
+        schema: &Schema,
+        key: &[u8],
+        cells: &[u8],
+        row: &mut Vec<Value>,
+        rows: &mut RowList,
+    ) -> Result<(), Refusal>
+        requires table { IsTable schema.now self.now.table }
+        requires reader { IsReader schema.now self.now }
+        ensures { MatchResult result
+            (λ done. IsRowAdded schema.now self.now.table self.now.mask key.now cells.now rows.old rows.new)
+            (λ why. (why ≡ Refusal.OutOfMemory) ⊎ IsNoRowOf schema.now self.now.table key.now cells.now) }
+    {
+        if let Some(numbers) = &self.numbers {
+            if key.len() == numbers.len {
+                return self.add_whole(alloc, schema, numbers, key, cells, rows);
+            }
+        }
+        self.add_read(alloc, schema, key, cells, row, rows)
+    }
+
+    /// The same by way of `row`.
+    #[tactic(auto, using(crate::proofs::AddedCells::read_added))]
+    fn add_read(
+        &self,
+        alloc: Global,
+        schema: &Schema,
+        key: &[u8],
+        cells: &[u8],
+        row: &mut Vec<Value>,
+        rows: &mut RowList,
+    ) -> Result<(), Refusal>
+        requires table { IsTable schema.now self.now.table }
+        requires reader { IsReader schema.now self.now }
+        ensures { MatchResult result
+            (λ done. IsRowAdded schema.now self.now.table self.now.mask key.now cells.now rows.old rows.new)
+            (λ why. (why ≡ Refusal.OutOfMemory) ⊎ IsNoRowOf schema.now self.now.table key.now cells.now) }
+    {
+        self.read(alloc, schema, key, cells, row)?;
+        rows.push_values_of(row)?;
+        Ok(())
+    }
+
+    /// The same of a key without NULL, all of whose columns are of numbers: the row is read where it is to be.
+    fn add_whole(
+        &self,
+        alloc: Global,
+        schema: &Schema,
+        numbers: &KeyNumbers,
+        key: &[u8],
+        cells: &[u8],
+        rows: &mut RowList,
+    ) -> Result<(), Refusal>
+        requires table { IsTable schema.now self.now.table }
+        requires reader { IsReader schema.now self.now }
+        requires numbers { AreKeyNumbers schema.now self.now.table
+            (map (spec.target self.now.mask) (key_places schema.now self.now.table)) self.now.all numbers.now }
+        requires len { length key.now ≡ numbers.now.len }
+        ensures { MatchResult result
+            (λ done. IsRowAdded schema.now self.now.table self.now.mask key.now cells.now rows.old rows.new)
+            (λ why. (why ≡ Refusal.OutOfMemory) ⊎ IsNoRowOf schema.now self.now.table key.now cells.now) }
+    {
+        schema.meets_rules();
+        let all = self.all.as_slice();
+        rows.push_nulls(all.len())?;
+        let kinds = schema.other_kinds(self.table);
+        let others = self.others.as_slice();
+        if !put_last_cells(alloc, kinds, others, all, self.others_read, cells, rows)? {
+            return Err(Refusal::BadRow);
+        }
+        put_last_numbers(numbers, key, all.len(), rows);
+        Ok(())
+    }
+
+    /// Puts the values of a coded key of the table at their places among the columns that are read. False only where the bytes code no such key.
+    fn put_key_values(
+        &self,
+        alloc: Global,
+        schema: &Schema,
+        key: &[u8],
+        row: &mut Vec<Value>,
+    ) -> Result<bool, AllocError>
+        requires { IsReader schema.now self.now }
+        ensures { IfOk result
+            (λ found.
+            IsKeyPut schema.now self.now.table
+            (map (spec.target self.now.mask) (key_places schema.now self.now.table)) self.now.all key.now row.old.items
+            row.new.items found) }
+    {
+        schema.meets_rules();
+        if let Some(numbers) = &self.numbers {
+            if key.len() == numbers.len {
+                put_numbers(numbers, key, row);
+                return Ok(true);
+            }
+        }
+        put_key(alloc, self.reads.as_slice(), self.all.as_slice(), key, row)
     }
 }

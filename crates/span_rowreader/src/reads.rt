@@ -107,8 +107,8 @@ fn put_read(
     }
 }
 
-/// Puts the wanted values of a coded key at their places. What is after the last column that is read is not looked at. False only where the bytes code
-/// no such key; where it is true they may code none either.
+/// Puts the wanted values of a coded key at their places. What is after the last column that is read is not looked at. False only where the bytes
+/// code no such key; where it is true they may code none either.
 pub(crate) fn put_key(
     alloc: Global,
     reads: &[KeyRead],

@@ -1,6 +1,6 @@
 //! The table of a coded key by the key's length. Where all columns of a table's key are numbers, its keys without NULL have one length; and
 //! where each key of this length has the number of its own table at one place, the byte there decides.
-ghost use Rattle.std.specs.Prelude.{◌≡◌, IfSome, true};
+ghost use Rattle.std.specs.Prelude.{◌≡◌, IfSome, length, true};
 ghost use Rattle.std.specs.List.{list_all};
 ghost use Rattle.span_schema.specs.Numbers.{IsTable};
 ghost use Rattle.span_rowreader.specs.Entries.{IsWhetherOf};
@@ -41,7 +41,7 @@ fn are_numbers(columns: &[KeyPart]) -> bool
 }
 
 /// The keys of a table without NULL. None where a column of them is not of numbers.
-fn whole_key(schema: &Schema, table: usize) -> Option<WholeKey>
+pub(crate) fn whole_key(schema: &Schema, table: usize) -> Option<WholeKey>
     requires { IsTable schema.now table }
     ensures { IfSome result (IsWholeKey schema.now table) }
 {
@@ -112,7 +112,7 @@ pub(crate) fn table_by_length(schema: &Schema, table: usize) -> Option<WholeKey>
 }
 
 /// Whether a coded key is one of the table, where the key's length and the byte at the place of the table's number decide.
-#[tactic(auto, using(crate::proofs::WholeKeys::other_length, crate::proofs::WholeKeys::by_number))]
+#[tactic(auto, using(crate::proofs::WholeKeys::other_length))]
 pub(crate) fn is_own_by_length(
     schema: &Schema,
     table: usize,
@@ -123,19 +123,27 @@ pub(crate) fn is_own_by_length(
     ensures { IfSome result (IsWhetherOf schema.now table key.now) }
 {
     schema.meets_rules();
+    if key.len() == at.len {
+        return is_own_by_number(schema, table, at, key);
+    }
     if key.len() > at.len {
         return Some(false);
     }
     if (at.len - key.len()) % 8 != 0 {
         return Some(false);
     }
-    if key.len() != at.len {
-        // It has NULLs, or is of another table.
-        return None;
-    }
-    if at.place >= key.len() {
-        return None;
-    }
+    // It has NULLs, or is of another table.
+    None
+}
+
+/// The same of a key that has the length of a key without NULL.
+#[tactic(auto, using(crate::proofs::WholeKeys::by_number))]
+fn is_own_by_number(schema: &Schema, table: usize, at: &WholeKey, key: &[u8]) -> Option<bool>
+    requires by_length { IsTableByLength schema.now table at.now }
+    requires len { length key.now ≡ at.now.len }
+    ensures { IfSome result (IsWhetherOf schema.now table key.now) }
+{
+    schema.meets_rules();
     if key[0] as usize != at.root {
         return None;
     }

@@ -7,3 +7,5 @@ mod Compared
 pub mod LentRows
 pub mod RowOrders
 pub mod PairColumns
+pub mod TakenValues
+pub mod LastRow

@@ -8,3 +8,4 @@ pub mod Columns
 pub mod RowPlaces
 pub mod RowOrders
 pub mod Filtering
+pub mod LastRows

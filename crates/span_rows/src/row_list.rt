@@ -1,9 +1,11 @@
 //! Rows in one buffer: no row has an allocation of its own.
-ghost use Rattle.std.specs.Prelude.{◌≡◌, ◌==◌, ◌<◌, ◌≤◌, ◌-◌, ◌++◌, ◌∷◌, [], IfOk, OnOk, OnErr, drop, length, replicate, slice_index_or, take};
+ghost use Rattle.std.specs.Prelude.{◌≡◌, ◌==◌, ◌<◌, ◌≤◌, ◌+◌, ◌-◌, ◌++◌, ◌∷◌, [], IfOk, OnOk, OnErr, drop, length, replicate, slice_index_or, slice_set, MatchOption, take, vec_len, vec_capacity};
 ghost use Rattle.std.specs.Cmp.Lexicographic.{pointwise};
 ghost use Rattle.std.specs.List.{All};
+ghost use Rattle.span_value.specs.declared.value.Value.TheVariants.{Int, Null};
 ghost use Rattle.span_query.specs.Groups.{are_equal};
 ghost use Rattle.span_rows.specs.Cuts.{AreEnds, cut_at, shift, start_at};
+ghost use Rattle.span_rows.specs.LastRows.{IsPutInLast, IsPlaceInLast, IsNoPlaceInLast};
 ghost use Rattle.span_rows.specs.LentRows.{lent_rows};
 ghost use Rattle.span_rows.specs.RowPlaces.{rows_at};
 
@@ -12,6 +14,7 @@ use super::row::extend_row;
 use span_value::value::{Row, Value};
 use std::alloc::{AllocError, Global};
 use std::marker::Model;
+use std::mem;
 
 /// Rows. Contracts see them as a list.
 #[derive(Debug, Drop)]
@@ -100,6 +103,38 @@ impl RowList {
             return push_none(self.values.as_slice(), &mut self.ends);
         }
         push_values(&mut self.values, &mut self.ends, row)
+    }
+
+    /// Adds a row, whose values are moved; NULL is left in the place of each. An error leaves the rows and the values as they were.
+    pub fn push_values_of(&mut self, row: &mut Vec<Value>) -> Result<(), AllocError>
+        ensures ok { OnOk result (self.new ≡ self.old ++ row.old.items ∷ []) }
+        ensures err { OnErr result (self.new ≡ self.old) }
+        ensures moved { OnOk result (row.new.items ≡ replicate (length row.old.items) Null) }
+        ensures kept { OnErr result (row.new.items ≡ row.old.items) }
+    {
+        push_taken(&mut self.values, &mut self.ends, row)
+    }
+
+    /// Adds a row of NULLs. An error leaves the rows as they were.
+    pub fn push_nulls(&mut self, width: usize) -> Result<(), AllocError>
+        ensures ok { OnOk result (self.new ≡ self.old ++ replicate width Null ∷ []) }
+        ensures err { OnErr result (self.new ≡ self.old) }
+    {
+        add_nulls(&mut self.values, &mut self.ends, width)
+    }
+
+    /// Puts a value at a place of the last row, which has a number of values, if it has the place.
+    pub fn put_value(&mut self, width: usize, place: usize, value: Value)
+        ensures { IsPutInLast width place value self.old self.new }
+    {
+        put_value_in_last(&mut self.values, self.ends.as_slice(), width, place, value);
+    }
+
+    /// The same of a number. Where NULL is at the place, nothing is dropped.
+    pub fn put_number(&mut self, width: usize, place: usize, number: i64)
+        ensures { IsPutInLast width place (Int number) self.old self.new }
+    {
+        put_number_in_last(&mut self.values, self.ends.as_slice(), width, place, number);
     }
 
     /// Adds a number of rows of no values. An error leaves the rows as they were.
@@ -301,6 +336,169 @@ fn push_values(
     ends.reserve(1)?;
     values.append(row)?;
     ends.push(values.len()).unwrap();
+    Ok(())
+}
+
+/// Reserves capacity for one end more, where there is none.
+fn reserve_end(ends: &mut Vec<usize>) -> Result<(), AllocError>
+    ensures items { ends.new.items ≡ ends.old.items }
+    ensures ok { OnOk result (vec_len ends.new < vec_capacity ends.new) }
+{
+    if ends.len() < ends.capacity() {
+        return Ok(());
+    }
+    ends.reserve(1)
+}
+
+/// Reserves capacity for a number of values more, where it is missing.
+fn reserve_values(values: &mut Vec<Value>, count: usize) -> Result<(), AllocError>
+    ensures items { values.new.items ≡ values.old.items }
+    ensures ok { OnOk result (vec_len values.new + count ≤ vec_capacity values.new) }
+{
+    if count <= values.capacity() - values.len() {
+        return Ok(());
+    }
+    values.reserve(count)
+}
+
+/// Adds NULLs after some values, for which capacity is reserved.
+fn put_nulls(values: &mut Vec<Value>, count: usize)
+    requires { vec_len values.old + count ≤ vec_capacity values.old }
+    ensures { values.new.items ≡ values.old.items ++ replicate count Null }
+{
+    for _ in 0..count {
+        values.push_reserved(Value::Null);
+    }
+}
+
+/// Adds a row of NULLs. An error leaves all as it was.
+#[tactic(auto, using(crate::proofs::Cutting::whole_more, crate::proofs::Cutting::rows_more))]
+fn add_nulls(values: &mut Vec<Value>, ends: &mut Vec<usize>, width: usize) -> Result<(), AllocError>
+    requires { AreEnds 0 ends.old.items (length values.old.items) }
+    ensures whole { AreEnds 0 ends.new.items (length values.new.items) }
+    ensures ok { OnOk result
+        (cut_at 0 ends.new.items values.new.items
+        ≡ cut_at 0 ends.old.items values.old.items ++ replicate width Null ∷ []) }
+    ensures err { OnErr result (cut_at 0 ends.new.items values.new.items ≡ cut_at 0 ends.old.items values.old.items) }
+{
+    reserve_end(ends)?;
+    reserve_values(values, width)?;
+    put_nulls(values, width);
+    ends.push_reserved(values.len());
+    Ok(())
+}
+
+/// Where the value at a place of the last row is, which has a number of values. None where the row does not have the place.
+fn place_in_last(values: &[Value], width: usize, place: usize) -> Option<usize>
+    ensures { MatchOption result
+        (IsNoPlaceInLast (length values.now) width place)
+        (IsPlaceInLast (length values.now) width place) }
+{
+    if place >= width {
+        return None;
+    }
+    if width > values.len() {
+        return None;
+    }
+    Some(values.len() - width + place)
+}
+
+#[tactic(auto, using(crate::proofs::LastRow::put_in_last, crate::proofs::LastRow::not_put_in_last, crate::proofs::LastRow::same_ends))]
+fn put_value_in_last(
+    values: &mut Vec<Value>,
+    ends: &[usize],
+    width: usize,
+    place: usize,
+    value: Value,
+)
+    requires { AreEnds 0 ends.now (length values.old.items) }
+    ensures whole { AreEnds 0 ends.now (length values.new.items) }
+    ensures put { IsPutInLast width place value (cut_at 0 ends.now values.old.items)
+        (cut_at 0 ends.now values.new.items) }
+{
+    if let Some(at) = place_in_last(values.as_slice(), width, place) {
+        put_at(values, at, value);
+    }
+}
+
+#[tactic(auto, using(crate::proofs::LastRow::put_in_last, crate::proofs::LastRow::not_put_in_last, crate::proofs::LastRow::same_ends))]
+fn put_number_in_last(
+    values: &mut Vec<Value>,
+    ends: &[usize],
+    width: usize,
+    place: usize,
+    number: i64,
+)
+    requires { AreEnds 0 ends.now (length values.old.items) }
+    ensures whole { AreEnds 0 ends.now (length values.new.items) }
+    ensures put { IsPutInLast width place (Int number) (cut_at 0 ends.now values.old.items)
+        (cut_at 0 ends.now values.new.items) }
+{
+    if let Some(at) = place_in_last(values.as_slice(), width, place) {
+        put_number_at(values, at, number);
+    }
+}
+
+fn put_at(values: &mut Vec<Value>, at: usize, value: Value)
+    requires { at < length values.old.items }
+    ensures items { values.new.items ≡ slice_set values.old.items at value }
+    ensures len { length values.new.items ≡ length values.old.items }
+{
+    values[at] = value;
+}
+
+fn put_number_at(values: &mut Vec<Value>, at: usize, number: i64)
+    requires { at < length values.old.items }
+    ensures items { values.new.items ≡ slice_set values.old.items at (Int number) }
+    ensures len { length values.new.items ≡ length values.old.items }
+{
+    if matches!(&values[at], Value::Null) {
+        values[at] = Value::Int(number);
+    } else {
+        put_over(values, at, number);
+    }
+}
+
+/// The same where another value is at the place.
+#[inline(never)]
+fn put_over(values: &mut Vec<Value>, at: usize, number: i64)
+    requires { at < length values.old.items }
+    ensures items { values.new.items ≡ slice_set values.old.items at (Int number) }
+    ensures len { length values.new.items ≡ length values.old.items }
+{
+    put_at(values, at, Value::Int(number));
+}
+
+/// Moves the values of a row after others, and leaves NULL in the place of each.
+fn take_values(values: &mut Vec<Value>, row: &mut Vec<Value>)
+    requires { vec_len values.old + length row.old.items ≤ vec_capacity values.old }
+    ensures values { values.new.items ≡ values.old.items ++ row.old.items }
+    ensures row { row.new.items ≡ replicate (length row.old.items) Null }
+{
+    for at in 0..row.len() {
+        values.push_reserved(mem::replace(&mut row[at], Value::Null));
+    }
+}
+
+/// Adds a row, whose values are moved; NULL is left in the place of each. An error leaves all as it was.
+#[tactic(auto, using(crate::proofs::Cutting::whole_more, crate::proofs::Cutting::rows_more))]
+fn push_taken(
+    values: &mut Vec<Value>,
+    ends: &mut Vec<usize>,
+    row: &mut Vec<Value>,
+) -> Result<(), AllocError>
+    requires { AreEnds 0 ends.old.items (length values.old.items) }
+    ensures whole { AreEnds 0 ends.new.items (length values.new.items) }
+    ensures ok { OnOk result
+        (cut_at 0 ends.new.items values.new.items ≡ cut_at 0 ends.old.items values.old.items ++ row.old.items ∷ []) }
+    ensures err { OnErr result (cut_at 0 ends.new.items values.new.items ≡ cut_at 0 ends.old.items values.old.items) }
+    ensures moved { OnOk result (row.new.items ≡ replicate (length row.old.items) Null) }
+    ensures kept { OnErr result (row.new.items ≡ row.old.items) }
+{
+    reserve_end(ends)?;
+    reserve_values(values, row.len())?;
+    take_values(values, row);
+    ends.push_reserved(values.len());
     Ok(())
 }
 

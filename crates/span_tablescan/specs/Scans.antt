@@ -1,5 +1,5 @@
 -- The rows of a leaf of one table, entry by entry.
-use Rattle.std.specs.Prelude.{◌≡◌, ℕ, ◌==◌, ◌++◌, [], ◌∷◌, Bool, true, false, List, Option, Some, None, Result, length, if◌then◌else◌}
+use Rattle.std.specs.Prelude.{◌≡◌, ℕ, ◌==◌, [], ◌∷◌, Bool, true, false, List, Option, Some, None, Result, length, if◌then◌else◌}
 use Rattle.std.specs.List.{AllByRecursion, list_all}
 use Rattle.span_schema.specs.declared.table.Table.{Table}
 use Rattle.span_schema.specs.Numbers.{other_kinds}
@@ -21,6 +21,7 @@ use Rattle.span_tablescan.specs.declared.scan.Test.TheVariants.{Always, OnRow, O
 use Rattle.span_tablescan.specs.declared.scan.TableScan.{TableScan}
 use Rattle.span_rowreader.specs.Meaning.{declared_row}
 use Rattle.span_tablescan.specs.NumberTests.{meets, IsNumberAt}
+use Rattle.span_rowreader.specs.Added.{IsRowAdded}
 use Rattle.span_rowreader.specs.Readers.{IsReader}
 
 -- ---- what is kept
@@ -88,9 +89,8 @@ pub record IsCount (scan : TableScan) : Type 0 where
 -- ---- what was added
 
 -- whatever row of table n has this coded key and these packed cells, it was added
-pub record IsAdded (schema : List Table) (n : ℕ) (ms : List Bool) (key row : List ℕ) (old new : List Row) : Type 0 where
-  pub of : (t : TableRow) → IsTyped schema t → t.table ≡ n → key ≡ code_of schema t → row ≡ row_code t.cells
-      → new ≡ old ++ picked ms (declared_row schema t) ∷ []
+abbrev pub IsAdded : List Table → ℕ → List Bool → List ℕ → List ℕ → List Row → List Row → Type 0
+IsAdded schema n ms key row old new = IsRowAdded schema n ms key row old new
 
 -- whatever row of table n has this coded key and these packed cells, it was added where it passes
 pub record IsAddedWhere (schema : List Table) (n : ℕ) (ms : List Bool) (w : Option Expr) (key row : List ℕ)

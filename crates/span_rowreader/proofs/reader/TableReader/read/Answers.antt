@@ -10,10 +10,7 @@ use Rattle.span_rowcode.specs.Rows.{IsRow}
 use Rattle.span_columns.specs.Picks.{picked_width}
 use Rattle.span_rowreader.specs.Meaning.{declared_row}
 use Rattle.span_rowreader.specs.Placed.{placed}
-use Rattle.span_rowreader.specs.declared.reads.KeyRead.{KeyRead}
-use Rattle.span_rowreader.specs.Reads.{AreReadsOf, AreReadsPut}
 use Rattle.span_rowreader.specs.Readers.{target}
-use Rattle.span_rowreader.proofs.KeyReads.{key_put}
 use Rattle.span_rowreader.proofs.PlacedRows.{others_placed}
 use Rattle.span_rowreader.proofs.TargetRows.{none_picked, row_picked}
 use Rattle.span_rowreader.proofs.reader.TableReader.read.Goals as goal
@@ -43,14 +40,8 @@ returns-then-not-branch-2 c = inr (record {
       let n : ℕ = reader.table in
       let ms : List Bool = reader.mask in
       let R : ℕ → Type 0 = λ m. IsKey schema m t.key in
-      let ps : List ℕ = map (target ms) (key_places schema n) in
-      let S : List Bool → Type 0 = λ l. AreReadsOf schema n ps l reader.reads in
-      let many : length ps ≡ length (key_places schema n) = length-map (key_places schema n) (target ms) in
-      let T : List KeyRead → Type 0 = λ l. AreReadsPut l c.as_slice-all.result.now c.args.key.now c.put_cells.new.row.items c.put_key.new.row.items c.in_ok-put_key.field-0 in
-      let done = key_put schema c.meets_rules.ensures n ps c.as_slice-all.result.now reader.reads c.args.key.now c.put_cells.new.row.items c.put_key.new.row.items c.in_ok-put_key.field-0 many
-      (subst S (sym c.as_slice-all.ensures) c.requires.reader.reads) (subst T c.as_slice.ensures c.in_ok-put_key.ensures) in
-      let coded = done.put t.key (subst R is typed.0.0) (key ∙ ap (λ (m : ℕ). key_code schema m t.key) is) in
-      let refused : c.in_ok-put_key.field-0 ≡ false = c.if-not-branch-2.true in
+      let coded = c.in_ok-put_key_values.ensures.put t.key (subst R is typed.0.0) (key ∙ ap (λ (m : ℕ). key_code schema m t.key) is) in
+      let refused : c.in_ok-put_key_values.field-0 ≡ false = c.if-not-branch-2.true in
       let e : true ≡ false = sym coded.0 ∙ refused in
       cc;
 })
@@ -67,13 +58,7 @@ returns c = record {
       let Q : List Kind → Type 0 = λ ks. IsRow ks t.cells in
       let packed = c.in_ok-put_cells.ensures.put t.cells (subst Q (sym c.other_kinds-kinds.ensures) (subst P is typed.1)) cells in
       let R : ℕ → Type 0 = λ m. IsKey schema m t.key in
-      let ps : List ℕ = map (target ms) (key_places schema n) in
-      let S : List Bool → Type 0 = λ l. AreReadsOf schema n ps l reader.reads in
-      let many : length ps ≡ length (key_places schema n) = length-map (key_places schema n) (target ms) in
-      let T : List KeyRead → Type 0 = λ l. AreReadsPut l c.as_slice-all.result.now c.args.key.now c.put_cells.new.row.items c.put_key.new.row.items c.in_ok-put_key.field-0 in
-      let done = key_put schema c.meets_rules.ensures n ps c.as_slice-all.result.now reader.reads c.args.key.now c.put_cells.new.row.items c.put_key.new.row.items c.in_ok-put_key.field-0 many
-      (subst S (sym c.as_slice-all.ensures) c.requires.reader.reads) (subst T c.as_slice.ensures c.in_ok-put_key.ensures) in
-      let coded = done.put t.key (subst R is typed.0.0) (key ∙ ap (λ (m : ℕ). key_code schema m t.key) is) in
+      let coded = c.in_ok-put_key_values.ensures.put t.key (subst R is typed.0.0) (key ∙ ap (λ (m : ℕ). key_code schema m t.key) is) in
       let wanted : c.as_slice-all.result.now ≡ all = c.as_slice-all.ensures ∙ c.requires.reader.all in
       let others : c.as_slice-others.result.now ≡ map (target ms) (other_places schema n) = c.as_slice-others.ensures ∙ c.requires.reader.others in
       let width : length c.as_slice-all.result.now ≡ picked_width ms = ap (length {A = Bool}) wanted ∙ length-replicate (picked_width ms) true in
@@ -82,6 +67,6 @@ returns c = record {
       packed.1 ∙ ap (λ (ps : List ℕ). placed c.as_slice-all.result.now ps t.cells c.put_nulls.new.row.items) others
       ∙ ap (λ (l : List Bool). placed l (map (target ms) (other_places schema n)) t.cells c.put_nulls.new.row.items) wanted
       ∙ ap (λ (l : List Value). placed all (map (target ms) (other_places schema n)) t.cells l) blank in
-      coded.1 ∙ ap (λ (l : List Bool). placed l (map (target ms) (key_places schema n)) t.key c.put_cells.new.row.items) wanted
+      coded.1 ∙ ap (λ (l : List Bool). placed l (map (target ms) (key_places schema n)) t.key c.put_cells.new.row.items) c.requires.reader.all
       ∙ ap (λ (l : List Value). placed all (map (target ms) (key_places schema n)) t.key l) first ∙ row_picked schema c.meets_rules.ensures n ms t c.requires.reader.narrow typed is;
 }

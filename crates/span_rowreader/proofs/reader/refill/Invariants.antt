@@ -1,7 +1,7 @@
 use Rattle.std.proofs.Common.{◌≡◌, ◌≤◌, replicate}
 use Rattle.std.specs.Prelude.{vec_len, vec_capacity}
 use Rattle.span_value.specs.declared.value.Value.TheVariants.{Null}
-use Rattle.span_rowreader.proofs.reader.put_nulls.Given as goal
+use Rattle.span_rowreader.proofs.reader.refill.Given as goal
 
 -- the NULLs so far, and the capacity for all
 abbrev pub invariant-loop : goal.invariant-loop
