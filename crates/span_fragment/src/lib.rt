@@ -2,11 +2,8 @@
 #![tactic(auto)]
 
 mod directory;
-mod early;
 mod joined;
-mod one_pass;
 pub mod piece;
 mod rooted;
 pub mod run;
 mod short;
-mod three_tables;
