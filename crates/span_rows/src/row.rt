@@ -3,8 +3,9 @@ ghost use Rattle.std.specs.Prelude.{◌≡◌, ◌<◌, ◌+◌, ◌++◌, ◌�
 ghost use Rattle.span_query.specs.Rows.{holds, value_of};
 ghost use Rattle.span_value.specs.declared.truth.Outcome.TheVariants.{Val};
 ghost use Rattle.span_value.specs.declared.value.Value.TheVariants as value;
+ghost use Rattle.span_value.specs.Orders.{value_order};
 ghost use Rattle.span_expr.specs.Cells as cells;
-ghost use Rattle.span_expr.specs.Meaning.{all_of, val};
+ghost use Rattle.span_expr.specs.Meaning.{all_of, any_of, val};
 ghost use Rattle.span_expr.specs.Memory.{has_concatenation, RunsOutOnlyIf};
 ghost use Rattle.span_expr.specs.Operators as operators;
 ghost use Rattle.span_expr.specs.Outcomes.{is_null};
@@ -94,6 +95,16 @@ fn known_operand<'a>(expr: &'a Expr, left: &'a [Value], right: &'a [Value]) -> O
     }
 }
 
+/// The order of two values. Numbers are compared without a call.
+fn order_of(first: &Value, second: &Value) -> Ordering
+    ensures { result ≡ value_order first.now second.now }
+{
+    match (first, second) {
+        (Value::Int(a), Value::Int(b)) => a.cmp(b),
+        _ => compare(first, second),
+    }
+}
+
 /// Whether a comparison of columns and literals is TRUE at a row in two parts. None where the condition has another form, or an operand is
 /// NULL.
 fn is_comparison_met(condition: &Expr, left: &[Value], right: &[Value]) -> Option<bool>
@@ -104,30 +115,108 @@ fn is_comparison_met(condition: &Expr, left: &[Value], right: &[Value]) -> Optio
     };
     let first = known_operand(first.get(), left, right)?;
     let second = known_operand(second.get(), left, right)?;
-    Some(is_order_met(*comparison, compare(first, second)))
+    Some(is_order_met(*comparison, order_of(first, second)))
 }
 
-/// Whether such comparisons are all TRUE at the row.
+/// Whether a column of a row is NULL, as it is where the row has no such place.
+fn is_null_at(row: &[Value], place: usize) -> bool
+    ensures { result ≡ is_null (operators.column_of row.now place) }
+{
+    match row.get(place) {
+        None | Some(Value::Null) => true,
+        Some(_) => false,
+    }
+}
+
+/// The same of a row that lies in two parts.
+#[tactic(auto, using(crate::proofs::PairColumns::left_column, crate::proofs::PairColumns::from_front))]
+fn is_null_in(left: &[Value], right: &[Value], place: usize) -> bool
+    ensures { result ≡ is_null (operators.column_of (left.now ++ right.now) place) }
+{
+    if place < left.len() {
+        is_null_at(left, place)
+    } else {
+        is_null_at(right, place - left.len())
+    }
+}
+
+/// Whether `x IS NULL` of a column is TRUE at a row in two parts. None where the condition has another form.
+fn is_null_test_met(condition: &Expr, left: &[Value], right: &[Value]) -> Option<bool>
+    ensures { IfSome result (λ met. val (left.now ++ right.now) condition.now ≡ Val (value.Bool met)) }
+{
+    let Expr::IsNull(operand) = condition else {
+        return None;
+    };
+    let Expr::Column(place) = operand.get() else {
+        return None;
+    };
+    Some(is_null_in(left, right, *place))
+}
+
+/// Whether a comparison, or a test for NULL, is TRUE at a row in two parts. None where the condition has another form, or an operand of a
+/// comparison is NULL.
+fn is_test_met(condition: &Expr, left: &[Value], right: &[Value]) -> Option<bool>
+    ensures { IfSome result (λ met. val (left.now ++ right.now) condition.now ≡ Val (value.Bool met)) }
+{
+    match condition {
+        Expr::IsNull(_) => is_null_test_met(condition, left, right),
+        _ => is_comparison_met(condition, left, right),
+    }
+}
+
+/// Whether such a test, or NOT of one, is TRUE at a row in two parts.
+fn is_form_met(condition: &Expr, left: &[Value], right: &[Value]) -> Option<bool>
+    ensures { IfSome result (λ met. val (left.now ++ right.now) condition.now ≡ Val (value.Bool met)) }
+{
+    match condition {
+        Expr::Not(operand) => Some(!is_test_met(operand.get(), left, right)?),
+        _ => is_test_met(condition, left, right),
+    }
+}
+
+/// Whether such conditions are all TRUE at the row. Those after one that is FALSE are not looked at.
 fn are_all_met(first: &Expr, more: &[Expr], left: &[Value], right: &[Value]) -> Option<bool>
     ensures { IfSome result
         (λ met. all_of (val (left.now ++ right.now) first.now) (map (val (left.now ++ right.now)) more.now)
         ≡ Val (value.Bool met)) }
 {
-    let mut all = is_comparison_met(first, left, right)?;
-    for condition in more {
-        let met = is_comparison_met(condition, left, right)?;
-        all = all && met;
+    if !is_form_met(first, left, right)? {
+        return Some(false);
     }
-    Some(all)
+    for condition in more {
+        if !is_form_met(condition, left, right)? {
+            return Some(false);
+        }
+    }
+    Some(true)
 }
 
-/// Whether a comparison, or an AND of some, is TRUE at a row in two parts, which is not put together.
+/// Whether one of such conditions is TRUE at the row. Those after one that is TRUE are not looked at.
+fn is_any_met(first: &Expr, more: &[Expr], left: &[Value], right: &[Value]) -> Option<bool>
+    ensures { IfSome result
+        (λ met. any_of (val (left.now ++ right.now) first.now) (map (val (left.now ++ right.now)) more.now)
+        ≡ Val (value.Bool met)) }
+{
+    if is_form_met(first, left, right)? {
+        return Some(true);
+    }
+    for condition in more {
+        if is_form_met(condition, left, right)? {
+            return Some(true);
+        }
+    }
+    Some(false)
+}
+
+/// Whether a comparison, a test for NULL, NOT of one, or an AND or an OR of such is TRUE at a row in two parts, which is not put together.
+/// None where the condition has another form, or a comparison that is looked at is NULL.
 pub fn are_comparisons_met(condition: &Expr, left: &[Value], right: &[Value]) -> Option<bool>
     ensures { IfSome result (λ met. val (left.now ++ right.now) condition.now ≡ Val (value.Bool met)) }
 {
     match condition {
         Expr::And(first, more) => are_all_met(first.get(), more.as_slice(), left, right),
-        _ => is_comparison_met(condition, left, right),
+        Expr::Or(first, more) => is_any_met(first.get(), more.as_slice(), left, right),
+        _ => is_form_met(condition, left, right),
     }
 }
 
@@ -139,8 +228,8 @@ pub fn is_true(alloc: Global, condition: &Expr, row: &[Value]) -> Result<bool, F
     Ok(evaluate(alloc, condition, row)?.truth() == Truth::True)
 }
 
-/// Whether the condition is TRUE at the row. Comparisons of columns and literals take no walk over the tree. The error is an
-/// arithmetic error, or out of memory where the condition has a `||`.
+/// Whether the condition is TRUE at the row. Comparisons of columns and literals, and tests for NULL, take no walk over the tree. The
+/// error is an arithmetic error, or out of memory where the condition has a `||`.
 pub fn is_met(alloc: Global, condition: &Expr, row: &[Value]) -> Result<bool, Failure>
     ensures holds { Gives result (holds condition.now row.now) }
     ensures memory { RunsOutOnlyIf result (has_concatenation condition.now) }
