@@ -94,7 +94,23 @@ fn greater(best: Option<Value>, value: Value) -> Value
     }
 }
 
-/// Keeps the lesser of the best so far and a number; the best so far where neither is less.
+/// Keeps the lesser of the best so far and another value; the best so far where neither is less.
+#[inline(never)]
+fn keep_lesser_value(best: &mut Option<Value>, value: Value)
+    ensures { best.new ≡ Some (or_better spec.lesser best.old value) }
+{
+    *best = Some(lesser(best.take(), value));
+}
+
+/// Keeps the greater of the best so far and another value; the best so far where neither is greater.
+#[inline(never)]
+fn keep_greater_value(best: &mut Option<Value>, value: Value)
+    ensures { best.new ≡ Some (or_better spec.greater best.old value) }
+{
+    *best = Some(greater(best.take(), value));
+}
+
+/// The same of a number, which takes the place of another where that lies.
 fn keep_lesser_number(best: &mut Option<Value>, number: i64)
     ensures { best.new ≡ Some (or_better spec.lesser best.old (value.Int number)) }
 {
@@ -104,11 +120,11 @@ fn keep_lesser_number(best: &mut Option<Value>, number: i64)
                 *so_far = number;
             }
         }
-        _ => *best = Some(lesser(best.take(), Value::Int(number))),
+        _ => keep_lesser_value(best, Value::Int(number)),
     }
 }
 
-/// Keeps the greater of the best so far and a number; the best so far where neither is greater.
+/// The same of a number, which takes the place of another where that lies.
 fn keep_greater_number(best: &mut Option<Value>, number: i64)
     ensures { best.new ≡ Some (or_better spec.greater best.old (value.Int number)) }
 {
@@ -118,7 +134,7 @@ fn keep_greater_number(best: &mut Option<Value>, number: i64)
                 *so_far = number;
             }
         }
-        _ => *best = Some(greater(best.take(), Value::Int(number))),
+        _ => keep_greater_value(best, Value::Int(number)),
     }
 }
 
@@ -131,8 +147,7 @@ fn keep_lesser(
     ensures { OnOk result (best.new ≡ better_of spec.lesser best.old next.now) }
 {
     if let Some(value) = next {
-        let value = copy_of(alloc, value)?;
-        *best = Some(lesser(best.take(), value));
+        keep_lesser_value(best, copy_of(alloc, value)?);
     }
     Ok(())
 }
@@ -146,8 +161,7 @@ fn keep_greater(
     ensures { OnOk result (best.new ≡ better_of spec.greater best.old next.now) }
 {
     if let Some(value) = next {
-        let value = copy_of(alloc, value)?;
-        *best = Some(greater(best.take(), value));
+        keep_greater_value(best, copy_of(alloc, value)?);
     }
     Ok(())
 }
@@ -223,14 +237,12 @@ impl AggregateState {
             AggregateState::Sum(sum) => sum.add(int_of(&value)),
             AggregateState::Least(best) => {
                 if !is_no_less(&value, best) {
-                    let value = value.into_value(alloc)?;
-                    *best = Some(lesser(best.take(), value));
+                    keep_lesser_value(best, value.into_value(alloc)?);
                 }
             }
             AggregateState::Greatest(best) => {
                 if !is_no_greater(&value, best) {
-                    let value = value.into_value(alloc)?;
-                    *best = Some(greater(best.take(), value));
+                    keep_greater_value(best, value.into_value(alloc)?);
                 }
             }
         }
@@ -252,7 +264,21 @@ impl AggregateState {
         }
     }
 
-    /// The value of an operand at one more row.
+    /// The value of an operand at one more row, whatever it is.
+    #[inline(never)]
+    fn take_any(&mut self, alloc: Global, operand: &Expr, row: &[Value]) -> Result<(), Failure>
+        requires { count_of self.old + 1 < 2 ^ 64 }
+        ensures ok { OnOk result (TakesOperand row.now operand.now self.old self.new) }
+        ensures fault { result ≡ Err Fault → value_of (val row.now operand.now) ≡ None }
+    {
+        let value = operand_value(alloc, operand, row)?;
+        if !value.is_null() {
+            self.take_value(alloc, value)?;
+        }
+        Ok(())
+    }
+
+    /// The same. A number of a column is taken where it lies.
     fn take_operand(&mut self, alloc: Global, operand: &Expr, row: &[Value]) -> Result<(), Failure>
         requires { count_of self.old + 1 < 2 ^ 64 }
         ensures ok { OnOk result (TakesOperand row.now operand.now self.old self.new) }
@@ -262,11 +288,7 @@ impl AggregateState {
             self.take_number(number);
             return Ok(());
         }
-        let value = operand_value(alloc, operand, row)?;
-        if !value.is_null() {
-            self.take_value(alloc, value)?;
-        }
-        Ok(())
+        self.take_any(alloc, operand, row)
     }
 
     /// One more row.

@@ -9,7 +9,7 @@ ghost use Rattle.span_rows.specs.RowOrders.{values_order};
 
 use super::columns::put_columns;
 use super::distinct::{are_equal, is_equal};
-use span_value::order::compare;
+use super::row::order_of;
 use span_value::value::Value;
 use std::alloc::{AllocError, Global};
 use std::cmp::Ordering;
@@ -93,7 +93,7 @@ fn compare_at(left: &[Value], left_place: usize, right: &[Value], right_place: u
     ensures { result ≡ value_order (column_of left.now left_place) (column_of right.now right_place) }
 {
     let null = Value::Null;
-    compare(
+    order_of(
         left.get(left_place).unwrap_or(&null),
         right.get(right_place).unwrap_or(&null),
     )

@@ -5,6 +5,7 @@ ghost use Rattle.span_value.specs.declared.truth.Outcome.TheVariants.{Val};
 ghost use Rattle.span_value.specs.declared.value.Value.TheVariants as value;
 ghost use Rattle.span_value.specs.Orders.{value_order};
 ghost use Rattle.span_expr.specs.Cells as cells;
+ghost use Rattle.span_expr.specs.declared.expr.Expr.TheVariants.{Not};
 ghost use Rattle.span_expr.specs.Meaning.{all_of, any_of, val};
 ghost use Rattle.span_expr.specs.Memory.{has_concatenation, RunsOutOnlyIf};
 ghost use Rattle.span_expr.specs.Operators as operators;
@@ -96,7 +97,8 @@ fn known_operand<'a>(expr: &'a Expr, left: &'a [Value], right: &'a [Value]) -> O
 }
 
 /// The order of two values. Numbers are compared without a call.
-fn order_of(first: &Value, second: &Value) -> Ordering
+#[inline(always)]
+pub(crate) fn order_of(first: &Value, second: &Value) -> Ordering
     ensures { result ≡ value_order first.now second.now }
 {
     match (first, second) {
@@ -107,6 +109,7 @@ fn order_of(first: &Value, second: &Value) -> Ordering
 
 /// Whether a comparison of columns and literals is TRUE at a row in two parts. None where the condition has another form, or an operand is
 /// NULL.
+#[inline(always)]
 fn is_comparison_met(condition: &Expr, left: &[Value], right: &[Value]) -> Option<bool>
     ensures { IfSome result (λ met. val (left.now ++ right.now) condition.now ≡ Val (value.Bool met)) }
 {
@@ -141,6 +144,7 @@ fn is_null_in(left: &[Value], right: &[Value], place: usize) -> bool
 }
 
 /// Whether `x IS NULL` of a column is TRUE at a row in two parts. None where the condition has another form.
+#[inline(always)]
 fn is_null_test_met(condition: &Expr, left: &[Value], right: &[Value]) -> Option<bool>
     ensures { IfSome result (λ met. val (left.now ++ right.now) condition.now ≡ Val (value.Bool met)) }
 {
@@ -153,28 +157,33 @@ fn is_null_test_met(condition: &Expr, left: &[Value], right: &[Value]) -> Option
     Some(is_null_in(left, right, *place))
 }
 
-/// Whether a comparison, or a test for NULL, is TRUE at a row in two parts. None where the condition has another form, or an operand of a
-/// comparison is NULL.
-fn is_test_met(condition: &Expr, left: &[Value], right: &[Value]) -> Option<bool>
-    ensures { IfSome result (λ met. val (left.now ++ right.now) condition.now ≡ Val (value.Bool met)) }
+/// Whether NOT of a comparison, or of a test for NULL, is TRUE at a row in two parts. The condition is the operand of NOT. None where this has
+/// another form, or an operand of a comparison is NULL.
+#[inline(never)]
+fn is_negation_met(operand: &Expr, left: &[Value], right: &[Value]) -> Option<bool>
+    ensures { IfSome result (λ met. val (left.now ++ right.now) (Not operand.now) ≡ Val (value.Bool met)) }
 {
-    match condition {
-        Expr::IsNull(_) => is_null_test_met(condition, left, right),
-        _ => is_comparison_met(condition, left, right),
-    }
+    let met = match operand {
+        Expr::IsNull(_) => is_null_test_met(operand, left, right)?,
+        _ => is_comparison_met(operand, left, right)?,
+    };
+    Some(!met)
 }
 
-/// Whether such a test, or NOT of one, is TRUE at a row in two parts.
+/// Whether a comparison, a test for NULL, or NOT of one is TRUE at a row in two parts. None where the condition has another form, or an
+/// operand of a comparison is NULL.
 fn is_form_met(condition: &Expr, left: &[Value], right: &[Value]) -> Option<bool>
     ensures { IfSome result (λ met. val (left.now ++ right.now) condition.now ≡ Val (value.Bool met)) }
 {
     match condition {
-        Expr::Not(operand) => Some(!is_test_met(operand.get(), left, right)?),
-        _ => is_test_met(condition, left, right),
+        Expr::IsNull(_) => is_null_test_met(condition, left, right),
+        Expr::Not(operand) => is_negation_met(operand.get(), left, right),
+        _ => is_comparison_met(condition, left, right),
     }
 }
 
 /// Whether such conditions are all TRUE at the row. Those after one that is FALSE are not looked at.
+#[inline(never)]
 fn are_all_met(first: &Expr, more: &[Expr], left: &[Value], right: &[Value]) -> Option<bool>
     ensures { IfSome result
         (λ met. all_of (val (left.now ++ right.now) first.now) (map (val (left.now ++ right.now)) more.now)
@@ -192,6 +201,7 @@ fn are_all_met(first: &Expr, more: &[Expr], left: &[Value], right: &[Value]) -> 
 }
 
 /// Whether one of such conditions is TRUE at the row. Those after one that is TRUE are not looked at.
+#[inline(never)]
 fn is_any_met(first: &Expr, more: &[Expr], left: &[Value], right: &[Value]) -> Option<bool>
     ensures { IfSome result
         (λ met. any_of (val (left.now ++ right.now) first.now) (map (val (left.now ++ right.now)) more.now)

@@ -1,10 +1,8 @@
-use Rattle.std.proofs.Common.{rules, ◌≡◌, ◌++◌, ◌∷◌, [], ℤ, List, false, Some, refl, subst, w64}
+use Rattle.std.proofs.Common.{rules, ◌≡◌, ◌++◌, ◌∷◌, [], ℤ, List, Some, refl, subst, w64}
 use Rattle.std.proofs.lemmas.Int.{to_z-of_z}
 use Rattle.span_value.specs.declared.value.Value.{Value}
 use Rattle.span_value.specs.declared.value.Value.TheVariants as value
-use Rattle.span_expr.specs.Cells.{owned_value}
 use Rattle.span_expr.specs.Meaning.{val}
-use Rattle.span_expr.specs.Outcomes.{is_null}
 use Rattle.span_query.specs.declared.query.Function.{Function}
 use Rattle.span_query.specs.Rows.{value_of}
 use Rattle.span_groups.specs.States.{HasTaken}
@@ -21,13 +19,3 @@ returns-in-Some-clause-ok c =
       takes_value v c.args.self.now c.take_number.new.self refl
           (subst (λ (z : ℤ). (f : Function) (vs : List Value) → HasTaken f vs c.args.self.now → HasTaken f (vs ++ value.Int z ∷ []) c.take_number.new.self) (to_z-of_z w64 n (search rules)) c.take_number.ensures),
     )
-
-pub returns-in_ok-take_value : goal.returns-in_ok-take_value
-returns-in_ok-take_value c =
-    let v : Value = owned_value c.in_ok-value.value in
-    let gives : value_of (val c.args.row.now c.args.operand.now) ≡ Some v = search rules in
-    let some : is_null v ≡ false = search rules in
-    record {
-      ok = (v, gives, takes_value v c.args.self.now c.take_value.new.self some c.in_ok-take_value.ensures);
-      fault = λ is. absurd cc;
-    }
