@@ -107,6 +107,32 @@ pub(crate) fn order_of(first: &Value, second: &Value) -> Ordering
     }
 }
 
+/// Whether a comparison of two numbers is TRUE.
+#[inline(always)]
+fn is_number_met(comparison: Comparison, first: i64, second: i64) -> bool
+    ensures { result ≡ operators.holds comparison (value_order (value.Int first) (value.Int second)) }
+{
+    match comparison {
+        Comparison::Equal => first == second,
+        Comparison::NotEqual => first != second,
+        Comparison::Less => first < second,
+        Comparison::AtMost => first <= second,
+        Comparison::Greater => first > second,
+        Comparison::AtLeast => first >= second,
+    }
+}
+
+/// Whether a comparison of two values that are not NULL is TRUE. Numbers are compared without a call.
+#[inline(always)]
+fn is_met_by(comparison: Comparison, first: &Value, second: &Value) -> bool
+    ensures { result ≡ operators.holds comparison (value_order first.now second.now) }
+{
+    match (first, second) {
+        (Value::Int(a), Value::Int(b)) => is_number_met(comparison, *a, *b),
+        _ => is_order_met(comparison, compare(first, second)),
+    }
+}
+
 /// Whether a comparison of columns and literals is TRUE at a row in two parts. None where the condition has another form, or an operand is
 /// NULL.
 #[inline(always)]
@@ -118,7 +144,7 @@ fn is_comparison_met(condition: &Expr, left: &[Value], right: &[Value]) -> Optio
     };
     let first = known_operand(first.get(), left, right)?;
     let second = known_operand(second.get(), left, right)?;
-    Some(is_order_met(*comparison, order_of(first, second)))
+    Some(is_met_by(*comparison, first, second))
 }
 
 /// Whether a column of a row is NULL, as it is where the row has no such place.
@@ -220,6 +246,7 @@ fn is_any_met(first: &Expr, more: &[Expr], left: &[Value], right: &[Value]) -> O
 
 /// Whether a comparison, a test for NULL, NOT of one, or an AND or an OR of such is TRUE at a row in two parts, which is not put together.
 /// None where the condition has another form, or a comparison that is looked at is NULL.
+#[inline(always)]
 pub fn are_comparisons_met(condition: &Expr, left: &[Value], right: &[Value]) -> Option<bool>
     ensures { IfSome result (λ met. val (left.now ++ right.now) condition.now ≡ Val (value.Bool met)) }
 {
