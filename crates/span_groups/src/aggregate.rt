@@ -279,6 +279,7 @@ impl AggregateState {
     }
 
     /// The same. A number of a column is taken where it lies.
+    #[inline(always)]
     fn take_operand(&mut self, alloc: Global, operand: &Expr, row: &[Value]) -> Result<(), Failure>
         requires { count_of self.old + 1 < 2 ^ 64 }
         ensures ok { OnOk result (TakesOperand row.now operand.now self.old self.new) }
@@ -292,6 +293,7 @@ impl AggregateState {
     }
 
     /// One more row.
+    #[inline(always)]
     pub(crate) fn take(
         &mut self,
         alloc: Global,

@@ -198,6 +198,7 @@ fn is_negation_met(operand: &Expr, left: &[Value], right: &[Value]) -> Option<bo
 
 /// Whether a comparison, a test for NULL, or NOT of one is TRUE at a row in two parts. None where the condition has another form, or an
 /// operand of a comparison is NULL.
+#[inline(always)]
 fn is_form_met(condition: &Expr, left: &[Value], right: &[Value]) -> Option<bool>
     ensures { IfSome result (λ met. val (left.now ++ right.now) condition.now ≡ Val (value.Bool met)) }
 {
