@@ -95,7 +95,6 @@ fn greater(best: Option<Value>, value: Value) -> Value
 }
 
 /// Keeps the lesser of the best so far and another value; the best so far where neither is less.
-#[inline(never)]
 fn keep_lesser_value(best: &mut Option<Value>, value: Value)
     ensures { best.new ≡ Some (or_better spec.lesser best.old value) }
 {
@@ -103,11 +102,18 @@ fn keep_lesser_value(best: &mut Option<Value>, value: Value)
 }
 
 /// Keeps the greater of the best so far and another value; the best so far where neither is greater.
-#[inline(never)]
 fn keep_greater_value(best: &mut Option<Value>, value: Value)
     ensures { best.new ≡ Some (or_better spec.greater best.old value) }
 {
     *best = Some(greater(best.take(), value));
+}
+
+/// The same of a number beside what may be no number. It is out of line, so that no value is made for two numbers.
+#[inline(never)]
+fn keep_lesser_beside(best: &mut Option<Value>, number: i64)
+    ensures { best.new ≡ Some (or_better spec.lesser best.old (value.Int number)) }
+{
+    keep_lesser_value(best, Value::Int(number));
 }
 
 /// The same of a number, which takes the place of another where that lies.
@@ -120,8 +126,16 @@ fn keep_lesser_number(best: &mut Option<Value>, number: i64)
                 *so_far = number;
             }
         }
-        _ => keep_lesser_value(best, Value::Int(number)),
+        _ => keep_lesser_beside(best, number),
     }
+}
+
+/// The same of a number beside what may be no number. It is out of line, so that no value is made for two numbers.
+#[inline(never)]
+fn keep_greater_beside(best: &mut Option<Value>, number: i64)
+    ensures { best.new ≡ Some (or_better spec.greater best.old (value.Int number)) }
+{
+    keep_greater_value(best, Value::Int(number));
 }
 
 /// The same of a number, which takes the place of another where that lies.
@@ -134,7 +148,7 @@ fn keep_greater_number(best: &mut Option<Value>, number: i64)
                 *so_far = number;
             }
         }
-        _ => keep_greater_value(best, Value::Int(number)),
+        _ => keep_greater_beside(best, number),
     }
 }
 
@@ -250,6 +264,7 @@ impl AggregateState {
     }
 
     /// One more number.
+    #[inline(always)]
     fn take_number(&mut self, number: i64)
         requires { count_of self.old + 1 < 2 ^ 64 }
         ensures { (f : Function) (vs : List Value)
