@@ -7,18 +7,21 @@ ghost use Rattle.span_rows.specs.Columns.{distinct_at};
 ghost use Rattle.span_rows.specs.LentRows.{lent_rows};
 
 use super::key::{LentKey, LentRow};
-use super::row::order_of;
 use super::row_list::RowList;
 use indexmap::IndexSet;
 use span_expr::cell::Failure;
+use span_value::order::compare;
 use span_value::value::Value;
 use std::alloc::{AllocError, Global};
 
 /// Whether the two are the same value; NULL equals NULL.
-pub(crate) fn is_equal(left: &Value, right: &Value) -> bool
+fn is_equal(left: &Value, right: &Value) -> bool
     ensures { result ≡ is_equal left.now right.now }
 {
-    order_of(left, right).is_eq()
+    match (left, right) {
+        (Value::Int(a), Value::Int(b)) => a == b,
+        _ => compare(left, right).is_eq(),
+    }
 }
 
 /// Whether the rows have the same number of values, each equal to the one at its place.

@@ -96,17 +96,6 @@ fn known_operand<'a>(expr: &'a Expr, left: &'a [Value], right: &'a [Value]) -> O
     }
 }
 
-/// The order of two values. Numbers are compared without a call.
-#[inline(always)]
-pub(crate) fn order_of(first: &Value, second: &Value) -> Ordering
-    ensures { result ≡ value_order first.now second.now }
-{
-    match (first, second) {
-        (Value::Int(a), Value::Int(b)) => a.cmp(b),
-        _ => compare(first, second),
-    }
-}
-
 /// Whether a comparison of two numbers is TRUE.
 #[inline(always)]
 fn is_number_met(comparison: Comparison, first: i64, second: i64) -> bool
