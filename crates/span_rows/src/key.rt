@@ -10,6 +10,7 @@ ghost use Rattle.span_rows.specs.RowOrders.{values_order};
 
 use super::columns::put_columns;
 use super::distinct::are_equal;
+use super::row::number_at;
 use span_value::order::compare;
 use span_value::value::Value;
 use std::alloc::{AllocError, Global};
@@ -55,16 +56,6 @@ fn hash_columns<H: Hasher>(row: &[Value], places: &[usize], state: &mut H)
 {
     for place in places {
         hash_column(row, *place, state);
-    }
-}
-
-/// The number that a row has at a place. None where it has none there.
-fn number_at(row: &[Value], place: usize) -> Option<i64>
-    ensures { IfSome result (λ n. column_of row.now place ≡ value.Int n) }
-{
-    match row.get(place) {
-        Some(Value::Int(number)) => Some(*number),
-        _ => None,
     }
 }
 

@@ -96,6 +96,40 @@ fn known_operand<'a>(expr: &'a Expr, left: &'a [Value], right: &'a [Value]) -> O
     }
 }
 
+/// The number that a row has at a place. None where it has none there.
+pub(crate) fn number_at(row: &[Value], place: usize) -> Option<i64>
+    ensures { IfSome result (λ n. operators.column_of row.now place ≡ value.Int n) }
+{
+    match row.get(place) {
+        Some(Value::Int(number)) => Some(*number),
+        _ => None,
+    }
+}
+
+/// The same of a row that lies in two parts.
+#[tactic(auto, using(crate::proofs::PairColumns::left_column, crate::proofs::PairColumns::from_front))]
+fn number_in(left: &[Value], right: &[Value], place: usize) -> Option<i64>
+    ensures { IfSome result (λ n. operators.column_of (left.now ++ right.now) place ≡ value.Int n) }
+{
+    if place < left.len() {
+        number_at(left, place)
+    } else {
+        number_at(right, place - left.len())
+    }
+}
+
+/// The number that a column or a literal comes to at a row in two parts. None where it comes to none, or the expression is another.
+#[inline(always)]
+fn number_of(expr: &Expr, left: &[Value], right: &[Value]) -> Option<i64>
+    ensures { IfSome result (λ n. val (left.now ++ right.now) expr.now ≡ Val (value.Int n)) }
+{
+    match expr {
+        Expr::Column(place) => number_in(left, right, *place),
+        Expr::Literal(Value::Int(number)) => Some(*number),
+        _ => None,
+    }
+}
+
 /// Whether a comparison of two numbers is TRUE.
 #[inline(always)]
 fn is_number_met(comparison: Comparison, first: i64, second: i64) -> bool
@@ -111,21 +145,10 @@ fn is_number_met(comparison: Comparison, first: i64, second: i64) -> bool
     }
 }
 
-/// Whether a comparison of two values that are not NULL is TRUE. Numbers are compared without a call.
-#[inline(always)]
-fn is_met_by(comparison: Comparison, first: &Value, second: &Value) -> bool
-    ensures { result ≡ operators.holds comparison (value_order first.now second.now) }
-{
-    match (first, second) {
-        (Value::Int(a), Value::Int(b)) => is_number_met(comparison, *a, *b),
-        _ => is_order_met(comparison, compare(first, second)),
-    }
-}
-
 /// Whether a comparison of columns and literals is TRUE at a row in two parts. None where the condition has another form, or an operand is
 /// NULL.
-#[inline(always)]
-fn is_comparison_met(condition: &Expr, left: &[Value], right: &[Value]) -> Option<bool>
+#[inline(never)]
+fn is_any_comparison_met(condition: &Expr, left: &[Value], right: &[Value]) -> Option<bool>
     ensures { IfSome result (λ met. val (left.now ++ right.now) condition.now ≡ Val (value.Bool met)) }
 {
     let Expr::Compare(first, comparison, second) = condition else {
@@ -133,7 +156,24 @@ fn is_comparison_met(condition: &Expr, left: &[Value], right: &[Value]) -> Optio
     };
     let first = known_operand(first.get(), left, right)?;
     let second = known_operand(second.get(), left, right)?;
-    Some(is_met_by(*comparison, first, second))
+    Some(is_order_met(*comparison, compare(first, second)))
+}
+
+/// The same. Numbers are compared with no call.
+#[inline(always)]
+fn is_comparison_met(condition: &Expr, left: &[Value], right: &[Value]) -> Option<bool>
+    ensures { IfSome result (λ met. val (left.now ++ right.now) condition.now ≡ Val (value.Bool met)) }
+{
+    let Expr::Compare(first, comparison, second) = condition else {
+        return None;
+    };
+    match (
+        number_of(first.get(), left, right),
+        number_of(second.get(), left, right),
+    ) {
+        (Some(a), Some(b)) => Some(is_number_met(*comparison, a, b)),
+        _ => is_any_comparison_met(condition, left, right),
+    }
 }
 
 /// Whether a column of a row is NULL, as it is where the row has no such place.
