@@ -4483,3 +4483,461 @@ rows 6
 1,3
 5,0
 256,1
+
+# Conditions at pairs of rows, of columns of either: tests for NULL, NOT, AND and OR, with NULL in key columns and in others, with an error
+# after a condition that decides.
+
+SELECT a.k, c.c FROM Accts a LEFT JOIN Calls c ON c.k = a.k WHERE c.k IS NULL
+rows 3
+\N,\N
+3,\N
+8,\N
+
+SELECT a.k, c.c FROM Accts a LEFT JOIN Calls c ON c.k = a.k WHERE c.k IS NOT NULL
+rows 12
+-3,1
+0,514
+0,0
+0,\N
+1,3
+1,2
+1,1
+2,1
+5,4
+5,2
+256,1
+9223372036854775807,-1
+
+SELECT a.k, c.c FROM Accts a LEFT JOIN Calls c ON c.k = a.k WHERE c.kind IS NULL
+rows 4
+\N,\N
+3,\N
+8,\N
+256,1
+
+SELECT a.k, c.c FROM Accts a LEFT JOIN Calls c ON c.k = a.k WHERE NOT c.kind IS NULL
+rows 11
+-3,1
+0,514
+0,0
+0,\N
+1,3
+1,2
+1,1
+2,1
+5,4
+5,2
+9223372036854775807,-1
+
+SELECT a.k, c.c FROM Accts a LEFT JOIN Calls c ON c.k = a.k WHERE a.k IS NULL
+rows 1
+\N,\N
+
+SELECT a.k, c.c FROM Accts a LEFT JOIN Calls c ON c.k = a.k WHERE NOT a.k IS NOT NULL
+rows 1
+\N,\N
+
+SELECT a.k, c.c FROM Accts a LEFT JOIN Calls c ON c.k = a.k WHERE a.region IS NULL AND c.c IS NULL
+rows 2
+0,\N
+8,\N
+
+SELECT a.k, c.c FROM Accts a LEFT JOIN Calls c ON c.k = a.k WHERE a.region IS NOT NULL AND c.k IS NULL
+rows 2
+\N,\N
+3,\N
+
+SELECT a.k, c.c FROM Accts a LEFT JOIN Calls c ON c.k = a.k WHERE c.c IS NULL AND a.tier > 1
+rows 2
+\N,\N
+0,\N
+
+SELECT a.k, c.c FROM Accts a LEFT JOIN Calls c ON c.k = a.k WHERE a.tier > 1 AND c.c IS NULL
+rows 2
+\N,\N
+0,\N
+
+SELECT a.k, c.c FROM Accts a LEFT JOIN Calls c ON c.k = a.k WHERE c.c IS NULL AND a.k IS NULL AND c.cents IS NULL
+rows 1
+\N,\N
+
+SELECT a.k, c.c FROM Accts a LEFT JOIN Calls c ON c.k = a.k WHERE c.n = 5 AND c.kind IS NULL
+rows 0
+
+SELECT a.k, c.c FROM Accts a LEFT JOIN Calls c ON c.k = a.k WHERE c.kind IS NULL AND NOT c.n = 5
+rows 1
+256,1
+
+SELECT a.k, c.c FROM Accts a LEFT JOIN Calls c ON c.k = a.k WHERE c.c IS NULL OR c.cents > 5
+rows 7
+\N,\N
+0,0
+0,\N
+1,3
+3,\N
+5,2
+8,\N
+
+SELECT a.k, c.c FROM Accts a LEFT JOIN Calls c ON c.k = a.k WHERE c.cents > 5 OR c.c IS NULL
+rows 7
+\N,\N
+0,0
+0,\N
+1,3
+3,\N
+5,2
+8,\N
+
+SELECT a.k, c.c FROM Accts a LEFT JOIN Calls c ON c.k = a.k WHERE c.kind IS NULL OR a.region IS NULL
+rows 7
+\N,\N
+0,514
+0,0
+0,\N
+3,\N
+8,\N
+256,1
+
+SELECT a.k, c.c FROM Accts a LEFT JOIN Calls c ON c.k = a.k WHERE a.tier IS NULL OR NOT c.n = 5
+rows 9
+-3,1
+1,3
+1,2
+2,1
+5,4
+5,2
+8,\N
+256,1
+9223372036854775807,-1
+
+SELECT a.k, c.c FROM Accts a LEFT JOIN Calls c ON c.k = a.k WHERE NOT a.tier > 1
+rows 5
+1,3
+1,2
+1,1
+3,\N
+9223372036854775807,-1
+
+SELECT a.k, c.c FROM Accts a LEFT JOIN Calls c ON c.k = a.k WHERE NOT a.tier = 1 AND c.c IS NULL
+rows 2
+\N,\N
+0,\N
+
+SELECT a.k, c.c FROM Accts a LEFT JOIN Calls c ON c.k = a.k WHERE NOT (c.c IS NULL OR a.tier = 2)
+rows 5
+1,3
+1,2
+1,1
+256,1
+9223372036854775807,-1
+
+SELECT a.k, c.c FROM Accts a LEFT JOIN Calls c ON c.k = a.k WHERE NOT NOT c.c IS NULL
+rows 4
+\N,\N
+0,\N
+3,\N
+8,\N
+
+SELECT a.k, c.c FROM Accts a LEFT JOIN Calls c ON c.k = a.k WHERE NOT (a.tier = 2 AND c.c IS NULL)
+rows 12
+-3,1
+0,514
+0,0
+1,3
+1,2
+1,1
+2,1
+3,\N
+5,4
+5,2
+256,1
+9223372036854775807,-1
+
+SELECT a.k, c.c FROM Accts a LEFT JOIN Calls c ON c.k = a.k WHERE c.kind = a.region OR c.kind IS NULL
+rows 4
+\N,\N
+3,\N
+8,\N
+256,1
+
+SELECT a.k, c.c FROM Accts a LEFT JOIN Calls c ON c.k = a.k WHERE NOT c.kind = 'talk' AND NOT a.region = 'south'
+rows 3
+1,3
+1,2
+2,1
+
+SELECT a.k, c.c FROM Accts a LEFT JOIN Calls c ON c.k = a.k WHERE NULL IS NULL AND c.c IS NULL
+rows 4
+\N,\N
+0,\N
+3,\N
+8,\N
+
+SELECT a.k, c.c FROM Accts a LEFT JOIN Calls c ON c.k = a.k WHERE 5 IS NULL OR c.c IS NULL
+rows 4
+\N,\N
+0,\N
+3,\N
+8,\N
+
+SELECT a.k, c.c FROM Accts a LEFT JOIN Calls c ON c.k = a.k AND c.kind IS NULL
+rows 10
+\N,\N
+-3,\N
+0,\N
+1,\N
+2,\N
+3,\N
+5,\N
+8,\N
+256,1
+9223372036854775807,\N
+
+SELECT a.k, c.c FROM Accts a LEFT JOIN Calls c ON c.k = a.k AND NOT c.kind = 'talk'
+rows 13
+\N,\N
+-3,\N
+0,514
+0,0
+0,\N
+1,3
+1,2
+2,1
+3,\N
+5,2
+8,\N
+256,\N
+9223372036854775807,-1
+
+SELECT a.k, c.c FROM Accts a LEFT JOIN Calls c ON c.k = a.k AND a.region IS NOT NULL
+rows 13
+\N,\N
+-3,1
+0,\N
+1,3
+1,2
+1,1
+2,1
+3,\N
+5,4
+5,2
+8,\N
+256,1
+9223372036854775807,-1
+
+SELECT a.k, c.c FROM Accts a LEFT JOIN Calls c ON c.k = a.k OR c.k IS NULL
+rows 32
+\N,2
+\N,\N
+-3,2
+-3,\N
+-3,1
+0,2
+0,\N
+0,514
+0,0
+0,\N
+1,2
+1,\N
+1,3
+1,2
+1,1
+2,2
+2,\N
+2,1
+3,2
+3,\N
+5,2
+5,\N
+5,4
+5,2
+8,2
+8,\N
+256,2
+256,\N
+256,1
+9223372036854775807,2
+9223372036854775807,\N
+9223372036854775807,-1
+
+SELECT a.k, c.c FROM Accts a LEFT JOIN Calls c ON c.k IS NULL
+rows 20
+\N,2
+\N,\N
+-3,2
+-3,\N
+0,2
+0,\N
+1,2
+1,\N
+2,2
+2,\N
+3,2
+3,\N
+5,2
+5,\N
+8,2
+8,\N
+256,2
+256,\N
+9223372036854775807,2
+9223372036854775807,\N
+
+SELECT a.k, c.c FROM Accts a LEFT JOIN Calls c ON c.k = a.k AND (c.n IS NULL OR a.tier IS NULL)
+rows 11
+\N,\N
+-3,1
+0,\N
+1,\N
+2,\N
+3,\N
+5,4
+5,2
+8,\N
+256,\N
+9223372036854775807,\N
+
+SELECT a.k, c.c FROM Accts a LEFT JOIN Calls c ON c.k = a.k AND c.c IS NULL WHERE c.k IS NULL AND a.tier = 2
+rows 2
+\N,\N
+2,\N
+
+SELECT a.k, b.k FROM Accts a LEFT JOIN Accts b ON b.k = a.k AND b.tier > 1 WHERE b.k IS NULL
+rows 7
+\N,\N
+-3,\N
+1,\N
+3,\N
+5,\N
+8,\N
+9223372036854775807,\N
+
+SELECT a.k, c.c, i.i FROM Accts a LEFT JOIN Calls c ON c.k = a.k LEFT JOIN Items i ON i.k = a.k AND i.c = c.c WHERE i.i IS NULL AND c.c IS NOT NULL
+rows 6
+0,514,\N
+0,0,\N
+1,2,\N
+2,1,\N
+256,1,\N
+9223372036854775807,-1,\N
+
+SELECT a.k, c.c, i.i FROM Accts a LEFT JOIN Calls c ON c.k = a.k LEFT JOIN Items i ON i.k = a.k AND i.c = c.c WHERE c.c IS NULL
+rows 4
+\N,\N,\N
+0,\N,\N
+3,\N,\N
+8,\N,\N
+
+SELECT a.k, c.c, i.i FROM Accts a LEFT JOIN Calls c ON c.k = a.k LEFT JOIN Items i ON i.k = a.k AND i.c = c.c WHERE i.m IS NULL OR c.kind IS NULL
+rows 10
+\N,\N,\N
+0,0,\N
+0,\N,\N
+1,3,1
+1,2,\N
+2,1,\N
+3,\N,\N
+8,\N,\N
+256,1,\N
+9223372036854775807,-1,\N
+
+SELECT a.k, c.c FROM Accts a LEFT JOIN Calls c ON c.k = a.k WHERE a.tier = 3 AND DIV(10, c.n) > 0
+rows 1
+256,1
+
+SELECT a.k, c.c FROM Accts a LEFT JOIN Calls c ON c.k = a.k WHERE a.tier = 99 AND DIV(1, 0) = 1
+rows 0
+
+SELECT a.k, c.c FROM Accts a LEFT JOIN Calls c ON c.k = a.k WHERE a.tier IS NOT NULL AND DIV(1, a.tier - 2) = 1
+refused 62
+
+SELECT a.k, c.c FROM Accts a LEFT JOIN Calls c ON c.k = a.k WHERE a.k IS NULL OR DIV(6, a.k) > 0
+refused 62
+
+SELECT a.k, c.c FROM Accts a LEFT JOIN Calls c ON c.k = a.k WHERE a.k = 0 OR DIV(6, a.k) > 0
+rows 10
+0,514
+0,0
+0,\N
+1,3
+1,2
+1,1
+2,1
+3,\N
+5,4
+5,2
+
+SELECT a.k, c.c FROM Accts a LEFT JOIN Calls c ON c.k = a.k WHERE c.c IS NOT NULL AND c.n IS NOT NULL AND DIV(6, c.n) = 1
+rows 6
+0,514
+0,0
+1,2
+1,1
+256,1
+9223372036854775807,-1
+
+SELECT a.k, c.c FROM Accts a LEFT JOIN Calls c ON c.k = a.k WHERE c.c IS NULL OR c.n IS NULL OR DIV(6, c.n) = 1
+rows 11
+\N,\N
+0,514
+0,0
+0,\N
+1,2
+1,1
+3,\N
+5,2
+8,\N
+256,1
+9223372036854775807,-1
+
+SELECT kind, COUNT(*) FROM Calls GROUP BY kind HAVING kind IS NULL OR COUNT(*) > 3
+rows 2
+\N,2
+talk,4
+
+SELECT kind, MIN(n) FROM Calls GROUP BY kind HAVING NOT kind IS NULL AND MIN(n) > 1
+rows 3
+abcdefgh2,5
+abcdefgh,5
+text,4
+
+# The least, the greatest and the sum of numbers at the ends of INT64, of others and of none.
+
+SELECT MIN(cents), MAX(cents), SUM(n), COUNT(kind), COUNT(*) FROM Calls
+rows 1
+-9223372036854775808,9223372036854775807,44,12,14
+
+SELECT k, MIN(cents), MAX(cents), MIN(kind), MAX(kind), COUNT(n) FROM Calls GROUP BY k
+rows 8
+\N,7,7,talk,talk,2
+-3,5,5,talk,talk,1
+0,4,6,abcdefgh,abcdefgh2,2
+1,5,9223372036854775807,talk,text,3
+2,-9223372036854775808,-9223372036854775808,,,1
+5,5,6,abcdefgh10,talk,1
+256,0,0,\N,\N,1
+9223372036854775807,-5,-5,text,text,1
+
+SELECT MIN(cents), MAX(cents), SUM(cents), COUNT(cents) FROM Calls WHERE cents IS NULL
+rows 1
+\N,\N,\N,0
+
+SELECT a.tier, MIN(c.cents), MAX(c.n), SUM(c.n) FROM Accts a LEFT JOIN Calls c ON c.k = a.k GROUP BY a.tier
+rows 5
+2,-9223372036854775808,5,11
+\N,5,3,4
+1,5,7,18
+3,0,4,4
+-1,-5,4,4
+
+SELECT SUM(cents), MIN(cents), MAX(cents) FROM Calls
+rows 1
+37,-9223372036854775808,9223372036854775807
+
+SELECT MIN(open), MAX(open), MIN(seal), MAX(seal), MIN(region), MAX(region) FROM Accts
+rows 1
+false,true,\x,\xff,,south
+
+SELECT MIN(n + m), MAX(n - m), SUM(n), MIN(m), MAX(n) FROM Items
+rows 1
+0,1,44,1,6

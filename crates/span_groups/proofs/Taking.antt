@@ -1,5 +1,5 @@
 -- States that take one more row.
-use Rattle.std.proofs.Common.{◌≡◌, ℕ, ℤ, ◌+◌, ◌+ℤ◌, Bool, true, false, cond, not, List, [], ◌∷◌, ◌++◌, length, Some, sym, ap, ◌∙◌, subst, arith}
+use Rattle.std.proofs.Common.{◌≡◌, ℕ, ℤ, ◌+◌, ◌+ℤ◌, true, false, cond, not, List, [], ◌∷◌, ◌++◌, length, Some, sym, ap, ◌∙◌, subst, arith}
 use Rattle.std.specs.Option.{option_map}
 use Rattle.std.proofs.lemmas.Int.{ints}
 use Rattle.std.proofs.lemmas.List.{append-nil, length-append}
@@ -18,7 +18,7 @@ use Rattle.span_query.proofs.Results.{concat_map-append}
 use Rattle.span_groups.specs.declared.sum.Sum.{Sum}
 use Rattle.span_groups.specs.declared.aggregate.AggregateState.{AggregateState}
 use Rattle.span_groups.specs.declared.aggregate.AggregateState.TheVariants as state
-use Rattle.span_groups.specs.States.{HasCounted, HasTaken, IsStateOf}
+use Rattle.span_groups.specs.States.{HasCounted, HasTaken, IsStateOf, TakesOperand, TakesValue}
 
 total-push : (vs : List Value) (v : Value) → total (vs ++ v ∷ []) ≡ total vs +ℤ int_of v
 total-push [] v = omega (arith, ints)
@@ -45,8 +45,21 @@ each-push f xs x ys y is gives =
     ∙ ap (λ o. append_results o (concat_map (λ x. option_map singleton (f x)) (x ∷ []))) is
     ∙ ap (λ o. append_results (Some ys) (append_results (option_map singleton o) (Some []))) gives
 
-without_nulls-push : (vs : List Value) (v : Value) (b : Bool) → is_null v ≡ b → without_nulls (vs ++ v ∷ []) ≡ without_nulls vs ++ cond (not b) (v ∷ []) []
-without_nulls-push vs v b is = filter-append (λ (w : Value). not (is_null w)) vs (v ∷ []) ∙ ap (λ c. without_nulls vs ++ cond (not c) (v ∷ []) []) is
+-- ---- one value
+
+-- one that is not NULL
+pub takes_value : (v : Value) (old new : AggregateState) → is_null v ≡ false → ((f : Function) (vs : List Value) → HasTaken f vs old → HasTaken f (vs ++ v ∷ []) new) → TakesValue v old new
+takes_value v old new some step f vs h =
+    let one : without_nulls (v ∷ []) ≡ v ∷ [] = ap (λ b. cond (not b) (v ∷ []) []) some in
+    subst (λ (ws : List Value). HasTaken f (vs ++ ws) new) (sym one) (step f vs h)
+
+-- NULL
+pub passes_null : (v : Value) (state : AggregateState) → is_null v ≡ true → TakesValue v state state
+passes_null v state none f vs h =
+    let no_value : without_nulls (v ∷ []) ≡ [] = ap (λ b. cond (not b) (v ∷ []) []) none in
+    subst (λ (ws : List Value). HasTaken f ws state) (sym (ap (λ (ws : List Value). vs ++ ws) no_value ∙ append-nil vs)) h
+
+-- ---- one row
 
 module _ (a : Aggregate) (row : Row) (old new : AggregateState) where
   pub counts_row : a ≡ CountRows → ((n : ℕ) → HasCounted n old → HasCounted (n + 1) new)
@@ -56,17 +69,10 @@ module _ (a : Aggregate) (row : Row) (old new : AggregateState) where
       let more : length rows + 1 ≡ length (rows ++ row ∷ []) = omega (arith, length-append rows (row ∷ [])) in
       subst (λ (b : Aggregate). IsStateOf b (rows ++ row ∷ []) new) (sym is) (subst (λ (n : ℕ). HasCounted n new) more (step (length rows) counted))
 
-  module _ (f : Function) (e : Expr) (v : Value) (is : a ≡ Of f e) (gives : value_of (val row e) ≡ Some v) where
-    pub takes_value : is_null v ≡ false → ((f : Function) (vs : List Value) → HasTaken f vs old → HasTaken f (vs ++ v ∷ []) new)
-        → (rows : List Row) → IsStateOf a rows old → IsStateOf a (rows ++ row ∷ []) new
-    takes_value some step rows h =
-        let was : IsStateOf (Of f e) rows old = subst (λ (b : Aggregate). IsStateOf b rows old) is h in
-        let now : IsStateOf (Of f e) (rows ++ row ∷ []) new = (was.0 ++ v ∷ [], each-push (λ (r : Row). value_of (val r e)) rows row was.0 v was.1 gives, subst (λ (vs : List Value). HasTaken f vs new) (sym (without_nulls-push was.0 v false some)) (step f (without_nulls was.0) was.2)) in
-        subst (λ (b : Aggregate). IsStateOf b (rows ++ row ∷ []) new) (sym is) now
-
-    pub passes_null : is_null v ≡ true → old ≡ new → (rows : List Row) → IsStateOf a rows old → IsStateOf a (rows ++ row ∷ []) new
-    passes_null none same rows h =
-        let was : IsStateOf (Of f e) rows old = subst (λ (b : Aggregate). IsStateOf b rows old) is h in
-        let vs : without_nulls was.0 ≡ without_nulls (was.0 ++ v ∷ []) = sym (without_nulls-push was.0 v true none ∙ append-nil (without_nulls was.0)) in
-        let now : IsStateOf (Of f e) (rows ++ row ∷ []) new = (was.0 ++ v ∷ [], each-push (λ (r : Row). value_of (val r e)) rows row was.0 v was.1 gives, subst (λ (s : AggregateState). HasTaken f (without_nulls (was.0 ++ v ∷ [])) s) same (subst (λ (ws : List Value). HasTaken f ws old) vs was.2)) in
-        subst (λ (b : Aggregate). IsStateOf b (rows ++ row ∷ []) new) (sym is) now
+  pub takes_operand : (f : Function) (e : Expr) → a ≡ Of f e → TakesOperand row e old new → (rows : List Row) → IsStateOf a rows old → IsStateOf a (rows ++ row ∷ []) new
+  takes_operand f e is takes rows h =
+      let was : IsStateOf (Of f e) rows old = subst (λ (b : Aggregate). IsStateOf b rows old) is h in
+      let v : Value = takes.0 in
+      let all : without_nulls (was.0 ++ v ∷ []) ≡ without_nulls was.0 ++ without_nulls (v ∷ []) = filter-append (λ (w : Value). not (is_null w)) was.0 (v ∷ []) in
+      let now : IsStateOf (Of f e) (rows ++ row ∷ []) new = (was.0 ++ v ∷ [], each-push (λ (r : Row). value_of (val r e)) rows row was.0 v was.1 takes.1, subst (λ (vs : List Value). HasTaken f vs new) (sym all) (takes.2 f (without_nulls was.0) was.2)) in
+      subst (λ (b : Aggregate). IsStateOf b (rows ++ row ∷ []) new) (sym is) now

@@ -1,8 +1,9 @@
 -- What holds of a state of an aggregate after the rows that it has taken.
-use Rattle.std.specs.Prelude.{◌≡◌, ℕ, ◌+◌, ◌<◌, ◌^◌, List, [], ◌∷◌, length, take, drop, slice_get, Option, Some, None}
+use Rattle.std.specs.Prelude.{◌≡◌, ℕ, ◌+◌, ◌<◌, ◌^◌, List, [], ◌∷◌, ◌++◌, length, take, drop, slice_get, Option, Some, None}
 use Rattle.std.specs.List.{fold}
 use Rattle.span_value.specs.declared.value.Value.{Value}
 use Rattle.span_value.specs.declared.value.Value.TheVariants.{Null}
+use Rattle.span_expr.specs.declared.expr.Expr.{Expr}
 use Rattle.span_expr.specs.Meaning.{val}
 use Rattle.span_query.specs.declared.query.Aggregate.{Aggregate}
 use Rattle.span_query.specs.declared.query.Aggregate.TheVariants.{CountRows, Of}
@@ -50,6 +51,14 @@ HasTaken Sum vs (state.Sum s) = (s.values ≡ length vs) × (s.total ≡ total v
 HasTaken Min vs (state.Least v) = v ≡ best lesser vs
 HasTaken Max vs (state.Greatest v) = v ≡ best greater vs
 HasTaken f vs s = ⊥
+
+-- the state after one more value, which is passed over where it is NULL
+abbrev pub TakesValue : Value → AggregateState → AggregateState → Type 0
+TakesValue v old new = (f : Function) (vs : List Value) → HasTaken f vs old → HasTaken f (vs ++ without_nulls (v ∷ [])) new
+
+-- the state after the value of an operand at one more row
+abbrev pub TakesOperand : Row → Expr → AggregateState → AggregateState → Type 0
+TakesOperand row e old new = (v : Value) × (value_of (val row e) ≡ Some v) × TakesValue v old new
 
 -- the state of an aggregate that has taken these rows
 abbrev pub IsStateOf : Aggregate → List Row → AggregateState → Type 0

@@ -1,8 +1,11 @@
 //! Aggregates as states that take one row after another.
-ghost use Rattle.std.specs.Prelude.{◌≡◌, ◌+◌, ◌^◌, ◌<◌, ℕ, pos, [], ◌∷◌, ◌++◌, List, Err, None, Some, IfOk, IsTrue, OnOk};
+ghost use Rattle.std.specs.Prelude.{◌≡◌, ◌+◌, ◌^◌, ◌<◌, ℕ, pos, [], ◌∷◌, ◌++◌, List, Err, None, Some, IfOk, IfSome, IsTrue, OnOk};
 ghost use Rattle.span_value.specs.declared.value.Value.{Value};
 ghost use Rattle.span_value.specs.declared.value.Value.TheVariants as value;
+ghost use Rattle.span_value.specs.declared.truth.Outcome.TheVariants.{Val};
 ghost use Rattle.span_expr.specs.declared.cell.Failure.TheVariants.{Fault};
+ghost use Rattle.span_expr.specs.Meaning.{val};
+ghost use Rattle.span_expr.specs.Operators as operators;
 ghost use Rattle.span_expr.specs.Operators.{number};
 ghost use Rattle.span_expr.specs.Cells.{owned_value};
 ghost use Rattle.span_query.specs.declared.query.Aggregate.{Aggregate};
@@ -10,15 +13,36 @@ ghost use Rattle.span_query.specs.declared.query.Function.{Function};
 ghost use Rattle.span_query.specs.Rows.{Row, value_of};
 ghost use Rattle.span_query.specs.Groups as spec;
 ghost use Rattle.span_rows.specs.Answers.{Gives};
-ghost use Rattle.span_groups.specs.States.{better_of, count_of, HasCounted, HasTaken, IsStateOf, operand_at, or_better, or_null};
+ghost use Rattle.span_groups.specs.States.{better_of, count_of, HasCounted, HasTaken, IsStateOf, TakesOperand, operand_at, or_better, or_null};
 
 use super::sum::{Sum, number};
 use span_expr::cell::{Failure, LentValue};
+use span_expr::expr::Expr;
 use span_query::query::{Aggregate, Function};
 use span_rows::row::{copy_of, operand_value};
 use span_value::order::compare;
 use span_value::value::Value;
 use std::alloc::{AllocError, Global};
+
+/// The number that a row has at a place. None where it has none there.
+fn number_in(row: &[Value], place: usize) -> Option<i64>
+    ensures { IfSome result (λ n. operators.column_of row.now place ≡ value.Int n) }
+{
+    match row.get(place) {
+        Some(Value::Int(number)) => Some(*number),
+        _ => None,
+    }
+}
+
+/// The number that an operand comes to at a row, where it is a column. None where it is another, or has no number there.
+fn number_at(operand: &Expr, row: &[Value]) -> Option<i64>
+    ensures { IfSome result (λ n. val row.now operand.now ≡ Val (value.Int n)) }
+{
+    match operand {
+        Expr::Column(place) => number_in(row, *place),
+        _ => None,
+    }
+}
 
 /// The number of an INT64 value.
 fn int_of(value: &LentValue<'_>) -> i64
@@ -70,6 +94,64 @@ fn greater(best: Option<Value>, value: Value) -> Value
     }
 }
 
+/// Keeps the lesser of the best so far and another value; the best so far where neither is less.
+fn keep_lesser_value(best: &mut Option<Value>, value: Value)
+    ensures { best.new ≡ Some (or_better spec.lesser best.old value) }
+{
+    *best = Some(lesser(best.take(), value));
+}
+
+/// Keeps the greater of the best so far and another value; the best so far where neither is greater.
+fn keep_greater_value(best: &mut Option<Value>, value: Value)
+    ensures { best.new ≡ Some (or_better spec.greater best.old value) }
+{
+    *best = Some(greater(best.take(), value));
+}
+
+/// The same of a number beside what may be no number. It is out of line, so that no value is made for two numbers.
+#[inline(never)]
+fn keep_lesser_beside(best: &mut Option<Value>, number: i64)
+    ensures { best.new ≡ Some (or_better spec.lesser best.old (value.Int number)) }
+{
+    keep_lesser_value(best, Value::Int(number));
+}
+
+/// The same of a number, which takes the place of another where that lies.
+fn keep_lesser_number(best: &mut Option<Value>, number: i64)
+    ensures { best.new ≡ Some (or_better spec.lesser best.old (value.Int number)) }
+{
+    match best {
+        Some(Value::Int(so_far)) => {
+            if number < *so_far {
+                *so_far = number;
+            }
+        }
+        _ => keep_lesser_beside(best, number),
+    }
+}
+
+/// The same of a number beside what may be no number. It is out of line, so that no value is made for two numbers.
+#[inline(never)]
+fn keep_greater_beside(best: &mut Option<Value>, number: i64)
+    ensures { best.new ≡ Some (or_better spec.greater best.old (value.Int number)) }
+{
+    keep_greater_value(best, Value::Int(number));
+}
+
+/// The same of a number, which takes the place of another where that lies.
+fn keep_greater_number(best: &mut Option<Value>, number: i64)
+    ensures { best.new ≡ Some (or_better spec.greater best.old (value.Int number)) }
+{
+    match best {
+        Some(Value::Int(so_far)) => {
+            if number > *so_far {
+                *so_far = number;
+            }
+        }
+        _ => keep_greater_beside(best, number),
+    }
+}
+
 /// Keeps the lesser of the best so far and another, if there is one; the best so far where neither is less.
 fn keep_lesser(
     alloc: Global,
@@ -79,8 +161,7 @@ fn keep_lesser(
     ensures { OnOk result (best.new ≡ better_of spec.lesser best.old next.now) }
 {
     if let Some(value) = next {
-        let value = copy_of(alloc, value)?;
-        *best = Some(lesser(best.take(), value));
+        keep_lesser_value(best, copy_of(alloc, value)?);
     }
     Ok(())
 }
@@ -94,8 +175,7 @@ fn keep_greater(
     ensures { OnOk result (best.new ≡ better_of spec.greater best.old next.now) }
 {
     if let Some(value) = next {
-        let value = copy_of(alloc, value)?;
-        *best = Some(greater(best.take(), value));
+        keep_greater_value(best, copy_of(alloc, value)?);
     }
     Ok(())
 }
@@ -171,21 +251,64 @@ impl AggregateState {
             AggregateState::Sum(sum) => sum.add(int_of(&value)),
             AggregateState::Least(best) => {
                 if !is_no_less(&value, best) {
-                    let value = value.into_value(alloc)?;
-                    *best = Some(lesser(best.take(), value));
+                    keep_lesser_value(best, value.into_value(alloc)?);
                 }
             }
             AggregateState::Greatest(best) => {
                 if !is_no_greater(&value, best) {
-                    let value = value.into_value(alloc)?;
-                    *best = Some(greater(best.take(), value));
+                    keep_greater_value(best, value.into_value(alloc)?);
                 }
             }
         }
         Ok(())
     }
 
+    /// One more number.
+    #[inline(always)]
+    fn take_number(&mut self, number: i64)
+        requires { count_of self.old + 1 < 2 ^ 64 }
+        ensures { (f : Function) (vs : List Value)
+            → HasTaken f vs self.old
+            → HasTaken f (vs ++ value.Int number ∷ []) self.new }
+    {
+        match self {
+            AggregateState::Count(count) => *count += 1,
+            AggregateState::Sum(sum) => sum.add(number),
+            AggregateState::Least(best) => keep_lesser_number(best, number),
+            AggregateState::Greatest(best) => keep_greater_number(best, number),
+        }
+    }
+
+    /// The value of an operand at one more row, whatever it is.
+    #[inline(never)]
+    fn take_any(&mut self, alloc: Global, operand: &Expr, row: &[Value]) -> Result<(), Failure>
+        requires { count_of self.old + 1 < 2 ^ 64 }
+        ensures ok { OnOk result (TakesOperand row.now operand.now self.old self.new) }
+        ensures fault { result ≡ Err Fault → value_of (val row.now operand.now) ≡ None }
+    {
+        let value = operand_value(alloc, operand, row)?;
+        if !value.is_null() {
+            self.take_value(alloc, value)?;
+        }
+        Ok(())
+    }
+
+    /// The same. A number of a column is taken where it lies.
+    #[inline(always)]
+    fn take_operand(&mut self, alloc: Global, operand: &Expr, row: &[Value]) -> Result<(), Failure>
+        requires { count_of self.old + 1 < 2 ^ 64 }
+        ensures ok { OnOk result (TakesOperand row.now operand.now self.old self.new) }
+        ensures fault { result ≡ Err Fault → value_of (val row.now operand.now) ≡ None }
+    {
+        if let Some(number) = number_at(operand, row) {
+            self.take_number(number);
+            return Ok(());
+        }
+        self.take_any(alloc, operand, row)
+    }
+
     /// One more row.
+    #[inline(always)]
     pub(crate) fn take(
         &mut self,
         alloc: Global,
@@ -201,12 +324,7 @@ impl AggregateState {
     {
         match aggregate {
             Aggregate::CountRows => self.count_row(),
-            Aggregate::Of(_, operand) => {
-                let value = operand_value(alloc, operand, row)?;
-                if !value.is_null() {
-                    self.take_value(alloc, value)?;
-                }
-            }
+            Aggregate::Of(_, operand) => self.take_operand(alloc, operand, row)?,
         }
         Ok(())
     }

@@ -15,7 +15,7 @@ ghost use Rattle.span_groups.specs.MergedGroups.{AreWholeGroups, HasGroupAt};
 ghost use Rattle.span_groups.specs.States.{operand_at};
 
 use super::aggregate::AggregateState;
-use super::counted::counted_group;
+use super::one_group::one_group;
 use super::states::{add_states, put_row, states_at, take_all};
 use indexmap::IndexSet;
 use span_expr::cell::Failure;
@@ -281,7 +281,7 @@ fn groups_by_row(
     Ok(groups)
 }
 
-/// The groups of the rows where the condition is TRUE. Where the number of all rows alone is wanted, no row is looked at.
+/// The groups of the rows where the condition is TRUE. Where they are one group of all rows, no group is looked up.
 pub(crate) fn groups_where(
     alloc: Global,
     filter: &Option<Expr>,
@@ -294,8 +294,8 @@ pub(crate) fn groups_where(
         (unless_fault (filter_where filter.now rows.now) (spec.groups grouping.now))) }
 {
     if let None = filter {
-        if let Some(groups) = counted_group(alloc, grouping, rows)? {
-            return Ok(groups);
+        if grouping.keys.is_empty() {
+            return one_group(alloc, grouping, rows);
         }
     }
     groups_by_row(alloc, filter, grouping, rows)

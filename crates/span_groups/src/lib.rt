@@ -7,6 +7,7 @@ mod firsts;
 pub mod group;
 mod lent;
 mod merge;
+mod one_group;
 pub mod part_rows;
 pub mod parts;
 mod states;

@@ -30,6 +30,7 @@ pub(crate) fn add_states(
 }
 
 /// One more row for the states from a place on.
+#[inline(always)]
 pub(crate) fn take_all(
     alloc: Global,
     aggregates: &[Aggregate],

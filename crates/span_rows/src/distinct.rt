@@ -15,10 +15,13 @@ use span_value::value::Value;
 use std::alloc::{AllocError, Global};
 
 /// Whether the two are the same value; NULL equals NULL.
-pub(crate) fn is_equal(left: &Value, right: &Value) -> bool
+fn is_equal(left: &Value, right: &Value) -> bool
     ensures { result ≡ is_equal left.now right.now }
 {
-    compare(left, right).is_eq()
+    match (left, right) {
+        (Value::Int(a), Value::Int(b)) => a == b,
+        _ => compare(left, right).is_eq(),
+    }
 }
 
 /// Whether the rows have the same number of values, each equal to the one at its place.

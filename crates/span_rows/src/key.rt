@@ -1,6 +1,7 @@
 //! Rows as the keys of an index by hash: a whole row, and the values of a lent row at some places. NULL equals NULL.
-ghost use Rattle.std.specs.Prelude.{◌≡◌, OnOk, fold};
+ghost use Rattle.std.specs.Prelude.{◌≡◌, IfSome, OnOk, fold};
 ghost use Rattle.std.specs.Ordering.{is_gt};
+ghost use Rattle.span_value.specs.declared.value.Value.TheVariants as value;
 ghost use Rattle.span_value.specs.Orders.{value_order};
 ghost use Rattle.span_expr.specs.Operators.{column_of};
 ghost use Rattle.span_query.specs.Groups.{is_equal, are_equal, columns_at};
@@ -8,7 +9,8 @@ ghost use Rattle.span_rows.specs.Hashes.{value_writes, row_writes};
 ghost use Rattle.span_rows.specs.RowOrders.{values_order};
 
 use super::columns::put_columns;
-use super::distinct::{are_equal, is_equal};
+use super::distinct::are_equal;
+use super::row::number_at;
 use span_value::order::compare;
 use span_value::value::Value;
 use std::alloc::{AllocError, Global};
@@ -57,15 +59,40 @@ fn hash_columns<H: Hasher>(row: &[Value], places: &[usize], state: &mut H)
     }
 }
 
-/// Whether the value at a place of a row equals that at a place of another; a place that a row does not have counts as NULL.
-fn is_equal_at(left: &[Value], left_place: usize, right: &[Value], right_place: usize) -> bool
-    ensures { result ≡ is_equal (column_of left.now left_place) (column_of right.now right_place) }
+/// The order of the value at a place of a row and that at a place of another; a place that a row does not have counts as NULL.
+#[inline(never)]
+fn compare_any_at(
+    left: &[Value],
+    left_place: usize,
+    right: &[Value],
+    right_place: usize,
+) -> Ordering
+    ensures { result ≡ value_order (column_of left.now left_place) (column_of right.now right_place) }
 {
     let null = Value::Null;
-    is_equal(
+    compare(
         left.get(left_place).unwrap_or(&null),
         right.get(right_place).unwrap_or(&null),
     )
+}
+
+/// The same. Numbers are compared where they lie.
+#[inline(always)]
+fn compare_at(left: &[Value], left_place: usize, right: &[Value], right_place: usize) -> Ordering
+    ensures { result ≡ value_order (column_of left.now left_place) (column_of right.now right_place) }
+{
+    match (number_at(left, left_place), number_at(right, right_place)) {
+        (Some(a), Some(b)) => a.cmp(&b),
+        _ => compare_any_at(left, left_place, right, right_place),
+    }
+}
+
+/// Whether the value at a place of a row equals that at a place of another; a place that a row does not have counts as NULL.
+#[inline(always)]
+fn is_equal_at(left: &[Value], left_place: usize, right: &[Value], right_place: usize) -> bool
+    ensures { result ≡ is_equal (column_of left.now left_place) (column_of right.now right_place) }
+{
+    compare_at(left, left_place, right, right_place).is_eq()
 }
 
 /// Whether two rows have equal values at some places of each.
@@ -86,17 +113,6 @@ fn have_equal_columns(
         }
     }
     true
-}
-
-/// The order of the value at a place of a row and that at a place of another; a place that a row does not have counts as NULL.
-fn compare_at(left: &[Value], left_place: usize, right: &[Value], right_place: usize) -> Ordering
-    ensures { result ≡ value_order (column_of left.now left_place) (column_of right.now right_place) }
-{
-    let null = Value::Null;
-    compare(
-        left.get(left_place).unwrap_or(&null),
-        right.get(right_place).unwrap_or(&null),
-    )
 }
 
 /// The order of two rows by their values at some places of each.

@@ -3,8 +3,10 @@ ghost use Rattle.std.specs.Prelude.{◌≡◌, ◌<◌, ◌+◌, ◌++◌, ◌�
 ghost use Rattle.span_query.specs.Rows.{holds, value_of};
 ghost use Rattle.span_value.specs.declared.truth.Outcome.TheVariants.{Val};
 ghost use Rattle.span_value.specs.declared.value.Value.TheVariants as value;
+ghost use Rattle.span_value.specs.Orders.{value_order};
 ghost use Rattle.span_expr.specs.Cells as cells;
-ghost use Rattle.span_expr.specs.Meaning.{all_of, val};
+ghost use Rattle.span_expr.specs.declared.expr.Expr.TheVariants.{Not};
+ghost use Rattle.span_expr.specs.Meaning.{all_of, any_of, val};
 ghost use Rattle.span_expr.specs.Memory.{has_concatenation, RunsOutOnlyIf};
 ghost use Rattle.span_expr.specs.Operators as operators;
 ghost use Rattle.span_expr.specs.Outcomes.{is_null};
@@ -94,9 +96,59 @@ fn known_operand<'a>(expr: &'a Expr, left: &'a [Value], right: &'a [Value]) -> O
     }
 }
 
+/// The number that a row has at a place. None where it has none there.
+pub(crate) fn number_at(row: &[Value], place: usize) -> Option<i64>
+    ensures { IfSome result (λ n. operators.column_of row.now place ≡ value.Int n) }
+{
+    match row.get(place) {
+        Some(Value::Int(number)) => Some(*number),
+        _ => None,
+    }
+}
+
+/// The same of a row that lies in two parts.
+#[tactic(auto, using(crate::proofs::PairColumns::left_column, crate::proofs::PairColumns::from_front))]
+fn number_in(left: &[Value], right: &[Value], place: usize) -> Option<i64>
+    ensures { IfSome result (λ n. operators.column_of (left.now ++ right.now) place ≡ value.Int n) }
+{
+    if place < left.len() {
+        number_at(left, place)
+    } else {
+        number_at(right, place - left.len())
+    }
+}
+
+/// The number that a column or a literal comes to at a row in two parts. None where it comes to none, or the expression is another.
+#[inline(always)]
+fn number_of(expr: &Expr, left: &[Value], right: &[Value]) -> Option<i64>
+    ensures { IfSome result (λ n. val (left.now ++ right.now) expr.now ≡ Val (value.Int n)) }
+{
+    match expr {
+        Expr::Column(place) => number_in(left, right, *place),
+        Expr::Literal(Value::Int(number)) => Some(*number),
+        _ => None,
+    }
+}
+
+/// Whether a comparison of two numbers is TRUE.
+#[inline(always)]
+fn is_number_met(comparison: Comparison, first: i64, second: i64) -> bool
+    ensures { result ≡ operators.holds comparison (value_order (value.Int first) (value.Int second)) }
+{
+    match comparison {
+        Comparison::Equal => first == second,
+        Comparison::NotEqual => first != second,
+        Comparison::Less => first < second,
+        Comparison::AtMost => first <= second,
+        Comparison::Greater => first > second,
+        Comparison::AtLeast => first >= second,
+    }
+}
+
 /// Whether a comparison of columns and literals is TRUE at a row in two parts. None where the condition has another form, or an operand is
 /// NULL.
-fn is_comparison_met(condition: &Expr, left: &[Value], right: &[Value]) -> Option<bool>
+#[inline(never)]
+fn is_any_comparison_met(condition: &Expr, left: &[Value], right: &[Value]) -> Option<bool>
     ensures { IfSome result (λ met. val (left.now ++ right.now) condition.now ≡ Val (value.Bool met)) }
 {
     let Expr::Compare(first, comparison, second) = condition else {
@@ -107,27 +159,131 @@ fn is_comparison_met(condition: &Expr, left: &[Value], right: &[Value]) -> Optio
     Some(is_order_met(*comparison, compare(first, second)))
 }
 
-/// Whether such comparisons are all TRUE at the row.
+/// The same. Numbers are compared with no call.
+#[inline(always)]
+fn is_comparison_met(condition: &Expr, left: &[Value], right: &[Value]) -> Option<bool>
+    ensures { IfSome result (λ met. val (left.now ++ right.now) condition.now ≡ Val (value.Bool met)) }
+{
+    let Expr::Compare(first, comparison, second) = condition else {
+        return None;
+    };
+    match (
+        number_of(first.get(), left, right),
+        number_of(second.get(), left, right),
+    ) {
+        (Some(a), Some(b)) => Some(is_number_met(*comparison, a, b)),
+        _ => is_any_comparison_met(condition, left, right),
+    }
+}
+
+/// Whether a column of a row is NULL, as it is where the row has no such place.
+fn is_null_at(row: &[Value], place: usize) -> bool
+    ensures { result ≡ is_null (operators.column_of row.now place) }
+{
+    match row.get(place) {
+        None | Some(Value::Null) => true,
+        Some(_) => false,
+    }
+}
+
+/// The same of a row that lies in two parts.
+#[tactic(auto, using(crate::proofs::PairColumns::left_column, crate::proofs::PairColumns::from_front))]
+fn is_null_in(left: &[Value], right: &[Value], place: usize) -> bool
+    ensures { result ≡ is_null (operators.column_of (left.now ++ right.now) place) }
+{
+    if place < left.len() {
+        is_null_at(left, place)
+    } else {
+        is_null_at(right, place - left.len())
+    }
+}
+
+/// Whether `x IS NULL` of a column is TRUE at a row in two parts. None where the condition has another form.
+#[inline(always)]
+fn is_null_test_met(condition: &Expr, left: &[Value], right: &[Value]) -> Option<bool>
+    ensures { IfSome result (λ met. val (left.now ++ right.now) condition.now ≡ Val (value.Bool met)) }
+{
+    let Expr::IsNull(operand) = condition else {
+        return None;
+    };
+    let Expr::Column(place) = operand.get() else {
+        return None;
+    };
+    Some(is_null_in(left, right, *place))
+}
+
+/// Whether NOT of a comparison, or of a test for NULL, is TRUE at a row in two parts. The condition is the operand of NOT. None where this has
+/// another form, or an operand of a comparison is NULL.
+#[inline(never)]
+fn is_negation_met(operand: &Expr, left: &[Value], right: &[Value]) -> Option<bool>
+    ensures { IfSome result (λ met. val (left.now ++ right.now) (Not operand.now) ≡ Val (value.Bool met)) }
+{
+    let met = match operand {
+        Expr::IsNull(_) => is_null_test_met(operand, left, right)?,
+        _ => is_comparison_met(operand, left, right)?,
+    };
+    Some(!met)
+}
+
+/// Whether a comparison, a test for NULL, or NOT of one is TRUE at a row in two parts. None where the condition has another form, or an
+/// operand of a comparison is NULL.
+#[inline(always)]
+fn is_form_met(condition: &Expr, left: &[Value], right: &[Value]) -> Option<bool>
+    ensures { IfSome result (λ met. val (left.now ++ right.now) condition.now ≡ Val (value.Bool met)) }
+{
+    match condition {
+        Expr::IsNull(_) => is_null_test_met(condition, left, right),
+        Expr::Not(operand) => is_negation_met(operand.get(), left, right),
+        _ => is_comparison_met(condition, left, right),
+    }
+}
+
+/// Whether such conditions are all TRUE at the row. Those after one that is FALSE are not looked at.
+#[inline(never)]
 fn are_all_met(first: &Expr, more: &[Expr], left: &[Value], right: &[Value]) -> Option<bool>
     ensures { IfSome result
         (λ met. all_of (val (left.now ++ right.now) first.now) (map (val (left.now ++ right.now)) more.now)
         ≡ Val (value.Bool met)) }
 {
-    let mut all = is_comparison_met(first, left, right)?;
-    for condition in more {
-        let met = is_comparison_met(condition, left, right)?;
-        all = all && met;
+    if !is_form_met(first, left, right)? {
+        return Some(false);
     }
-    Some(all)
+    for condition in more {
+        if !is_form_met(condition, left, right)? {
+            return Some(false);
+        }
+    }
+    Some(true)
 }
 
-/// Whether a comparison, or an AND of some, is TRUE at a row in two parts, which is not put together.
+/// Whether one of such conditions is TRUE at the row. Those after one that is TRUE are not looked at.
+#[inline(never)]
+fn is_any_met(first: &Expr, more: &[Expr], left: &[Value], right: &[Value]) -> Option<bool>
+    ensures { IfSome result
+        (λ met. any_of (val (left.now ++ right.now) first.now) (map (val (left.now ++ right.now)) more.now)
+        ≡ Val (value.Bool met)) }
+{
+    if is_form_met(first, left, right)? {
+        return Some(true);
+    }
+    for condition in more {
+        if is_form_met(condition, left, right)? {
+            return Some(true);
+        }
+    }
+    Some(false)
+}
+
+/// Whether a comparison, a test for NULL, NOT of one, or an AND or an OR of such is TRUE at a row in two parts, which is not put together.
+/// None where the condition has another form, or a comparison that is looked at is NULL.
+#[inline(always)]
 pub fn are_comparisons_met(condition: &Expr, left: &[Value], right: &[Value]) -> Option<bool>
     ensures { IfSome result (λ met. val (left.now ++ right.now) condition.now ≡ Val (value.Bool met)) }
 {
     match condition {
         Expr::And(first, more) => are_all_met(first.get(), more.as_slice(), left, right),
-        _ => is_comparison_met(condition, left, right),
+        Expr::Or(first, more) => is_any_met(first.get(), more.as_slice(), left, right),
+        _ => is_form_met(condition, left, right),
     }
 }
 
@@ -139,8 +295,8 @@ pub fn is_true(alloc: Global, condition: &Expr, row: &[Value]) -> Result<bool, F
     Ok(evaluate(alloc, condition, row)?.truth() == Truth::True)
 }
 
-/// Whether the condition is TRUE at the row. Comparisons of columns and literals take no walk over the tree. The error is an
-/// arithmetic error, or out of memory where the condition has a `||`.
+/// Whether the condition is TRUE at the row. Comparisons of columns and literals, and tests for NULL, take no walk over the tree. The
+/// error is an arithmetic error, or out of memory where the condition has a `||`.
 pub fn is_met(alloc: Global, condition: &Expr, row: &[Value]) -> Result<bool, Failure>
     ensures holds { Gives result (holds condition.now row.now) }
     ensures memory { RunsOutOnlyIf result (has_concatenation condition.now) }
