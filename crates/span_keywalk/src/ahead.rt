@@ -11,7 +11,7 @@
 
 use crate::batch::{BATCH_KEYS, Batch};
 use span_arena::arena::Arena;
-use span_arena::token::{Chain, NO_CHAIN};
+use span_arena::token::NO_CHAIN;
 use span_keycode::key::LONGEST_KEY;
 use span_keytree::next::{NextLinks, number_of};
 use span_keytree::tree::TreeRoot;
@@ -275,19 +275,7 @@ fn lanes_from(
 
 // Looks at the newest row of a chain; whether it begins as no row does, with neither of the bytes that a cell begins with.
 fn is_no_row(arena: &Arena, number: u32) -> bool {
-    if !arena.is_chain(number) {
-        return false;
-    }
-    let Some(version) = arena.newest_at(Chain { number }, u64::MAX) else {
-        return false;
-    };
-    let Some(row) = version.image() else {
-        return false;
-    };
-    match row.as_slice().first() {
-        None => false,
-        Some(begin) => *begin > 1,
-    }
+    arena.look_at_newest(number) > 1
 }
 
 // Looks at a key, and at its newest row where the caller is to read it; whether it is too long to be a key, or its row is none.
@@ -310,34 +298,25 @@ fn step(arena: &Arena, nexts: &NextLinks, lane: WalkPart, ahead: &Ahead) -> u32 
     nexts.number_after(lane.at)
 }
 
-// Looks at the keys of a batch; whether each may be one.
-fn look_at_keys(arena: &Arena, batch: &Batch) -> bool {
-    let numbers = batch.numbers();
-    let mut are_keys = true;
-    for i in 0..batch.len().min(BATCH_KEYS) {
-        let number = numbers[i];
-        if (number as usize) < arena.numbers() {
-            are_keys = are_keys && arena.key(number).len() <= LONGEST_KEY;
-        }
+// Looks at a key; whether it is too long to be one.
+fn is_no_key(arena: &Arena, number: u32) -> bool {
+    if number as usize >= arena.numbers() {
+        return false;
     }
-    are_keys
+    arena.key(number).len() > LONGEST_KEY
 }
 
-// Looks at the newest row of each key of a batch; whether each may be one.
-fn look_at_rows(arena: &Arena, batch: &Batch) -> bool {
-    let numbers = batch.numbers();
-    let mut are_rows = true;
-    for i in 0..batch.len().min(BATCH_KEYS) {
-        let is_row = !is_no_row(arena, numbers[i]);
-        are_rows = are_rows && is_row;
-    }
-    are_rows
-}
-
-// Looks at the keys of a batch, first at all of them and then at their newest rows: so that several wait for memory at once. Whether each
-// may be one.
+// Looks at the keys of a batch, with their newest rows where the caller is to read them: no look waits for another. Whether each may be
+// one.
 fn look_at_batch(arena: &Arena, batch: &Batch, has_rows: bool) -> bool {
-    look_at_keys(arena, batch) && (!has_rows || look_at_rows(arena, batch))
+    let numbers = batch.numbers();
+    let mut is_none = false;
+    for i in 0..batch.len().min(BATCH_KEYS) {
+        let is_no_key = is_no_key(arena, numbers[i]);
+        let is_no_row = has_rows && is_no_row(arena, numbers[i]);
+        is_none = is_none | is_no_key | is_no_row;
+    }
+    !is_none
 }
 
 // How many lanes have gone on.

@@ -1,6 +1,7 @@
 //! The next short keys of a walk, found a batch at a time.
-ghost use Rattle.std.specs.Prelude.{◌≡◌, ◌<◌, ◌≤◌, [], ◌∷◌, false, length, take, IsTrue, MatchOption};
-ghost use Rattle.span_keywalk.specs.Walks.{walked_in, AreBelow, AreShortOf};
+ghost use Rattle.std.specs.Prelude.{◌≡◌, ℕ, ◌+◌, ◌^◌, ◌<◌, ◌≤◌, [], ◌∷◌, true, false, get_or, length, take, IsTrue, MatchOption};
+ghost use Rattle.span_arena.specs.Limits.{most_chains};
+ghost use Rattle.span_keywalk.specs.Walks.{is_stop, walked_in, AreBelow, AreShortOf, IsPassed, IsRun};
 
 use crate::walk::is_stop;
 use span_arena::arena::Arena;
@@ -10,6 +11,9 @@ use std::marker::Model;
 
 /// How many keys a batch has at most.
 pub(crate) const BATCH_KEYS: usize = 32;
+
+/// How many keys are passed over together where their chains have numbers that follow one another.
+const RUN_KEYS: usize = 8;
 
 /// Numbers of chains whose keys are short. Contracts see those that were not handed out.
 #[derive(Debug, Drop)]
@@ -109,8 +113,104 @@ impl Refill {
     }
 }
 
-/// Goes on from a chain over at most `keys` keys, and finds those of at most `most` bytes. Lengths and links alone are read. Each number is
-/// put, and that of a short key stays: which are short can't be guessed, and a wrong guess takes longer than both.
+/// Whether none of a chain and the seven after it, by their numbers, is where the walk ends.
+fn is_stop_apart(number: u32, stop: Option<u32>) -> bool
+    requires { number + 8 < 2 ^ 32 }
+    ensures { result ≡ true → (k : ℕ) → k < 8 → is_stop (number + k) stop ≡ false }
+{
+    match stop {
+        None => true,
+        Some(stop) => stop < number || stop >= number + RUN_KEYS as u32,
+    }
+}
+
+/// Whether each of eight links, from that of a chain on, leads to the next number.
+fn are_next_numbers(links: &[u32], number: u32) -> bool
+    requires within { number + 8 < length links.now }
+    requires few { length links.now ≤ most_chains }
+    ensures { result ≡ true → (k : ℕ) → k < 8 → get_or links.now (number + k) 0 ≡ number + k + 1 }
+{
+    let at = number as usize;
+    let mut are = true;
+    for i in 0..RUN_KEYS {
+        let is_next = links[at + i] == number + i as u32 + 1;
+        are = are & is_next;
+    }
+    are
+}
+
+/// Whether a walk that is at a chain comes to the numbers that follow its own, and may pass over eight of them at once.
+#[inline]
+fn has_run(
+    arena: &Arena,
+    nexts: &NextLinks,
+    most: usize,
+    number: u32,
+    stop: Option<u32>,
+    keys: usize,
+) -> bool
+    requires { length nexts.now.next ≡ length arena.now.cells }
+    ensures run { result ≡ true → IsRun nexts.now (length arena.now.cells) stop number }
+    ensures most { result ≡ true → most < 65535 }
+    ensures keys { result ≡ true → 8 ≤ keys }
+    ensures fits { result ≡ true → number + 8 < 2 ^ 32 }
+{
+    if keys < RUN_KEYS {
+        return false;
+    }
+    if most >= u16::MAX as usize {
+        return false;
+    }
+    if number as usize + RUN_KEYS >= arena.numbers() {
+        return false;
+    }
+    if !is_stop_apart(number, stop) {
+        return false;
+    }
+    are_next_numbers(nexts.numbers(), number)
+}
+
+/// Passes over a run. Each number is put, and that of a short key stays: which are short can't be guessed, and a wrong guess takes longer
+/// than both. How many numbers there are then.
+fn pass_run(
+    arena: &Arena,
+    most: u16,
+    number: u32,
+    numbers: &mut [u32; BATCH_KEYS],
+    mut count: usize,
+) -> usize
+    requires within { number + 8 < length arena.now.cells }
+    requires fits { number + 8 < 2 ^ 32 }
+    requires most { most < 65535 }
+    requires room { count ≤ 24 }
+    ensures room { result ≤ 32 }
+    ensures passed { IsPassed arena.now.cells most number (take count numbers.old) (take result numbers.new) }
+{
+    let lengths = arena.key_lengths();
+    for i in 0..RUN_KEYS {
+        numbers[count] = number + i as u32;
+        count += (lengths[number as usize + i] <= most) as usize;
+    }
+    count
+}
+
+/// How many keys a walk is to go on by links before it looks for a run: at first.
+fn first_wait(nexts: &NextLinks, number: u32) -> usize {
+    if nexts.number_after(number).abs_diff(number) == 1 {
+        0
+    } else {
+        usize::MAX
+    }
+}
+
+/// The same after a place where there is none.
+fn next_wait(wait: usize) -> usize {
+    if wait == 0 { RUN_KEYS } else { wait - 1 }
+}
+
+/// Goes on from a chain over at most `keys` keys, and finds those of at most `most` bytes. Lengths and links alone are read. Where the
+/// next chains have the numbers that follow one another, as those have that were put in order, they are passed over together; else one
+/// by its link.
 pub(crate) fn find_short(
     arena: &Arena,
     nexts: &NextLinks,
@@ -133,11 +233,19 @@ pub(crate) fn find_short(
     let last = left.saturating_sub(keys);
     let mut numbers = [NO_CHAIN; BATCH_KEYS];
     let mut count: usize = 0;
+    let mut wait = first_wait(nexts, number);
     while left > last {
-        if is_stop(number, stop) {
+        if count > BATCH_KEYS - RUN_KEYS {
             return Refill::of(numbers, count, Some(number), left, false);
         }
-        if count >= BATCH_KEYS {
+        if wait == 0 && has_run(arena, nexts, most, number, stop, left - last) {
+            count = pass_run(arena, most as u16, number, &mut numbers, count);
+            number += RUN_KEYS as u32;
+            left -= RUN_KEYS;
+            continue;
+        }
+        wait = next_wait(wait);
+        if is_stop(number, stop) {
             return Refill::of(numbers, count, Some(number), left, false);
         }
         numbers[count] = number;
