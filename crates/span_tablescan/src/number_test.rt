@@ -344,6 +344,7 @@ fn meets_test(test: &NumberTest, kinds: &[Kind], bytes: &[u8]) -> bool
 }
 
 /// Whether the cells of a packed row meet all of some tests.
+#[inline]
 pub(crate) fn meets_all(tests: &[NumberTest], kinds: &[Kind], bytes: &[u8]) -> bool
     requires { AllByRecursion (λ test. IsNumberAt kinds.now test.cell) tests.now }
     ensures { IsWhetherPass kinds.now bytes.now (λ cells. list_all (spec.meets cells) tests.now) result }
