@@ -278,12 +278,14 @@ fn is_no_row(arena: &Arena, number: u32) -> bool {
     arena.look_at_newest(number) > 1
 }
 
-// Looks at a key, and at its newest row where the caller is to read it; whether it is too long to be a key, or its row is none.
+// Looks at a key; whether it is too long to be one, or there is no chain of this number.
+fn is_no_key(arena: &Arena, number: u32) -> bool {
+    number as usize >= arena.numbers() || arena.key(number).len() > LONGEST_KEY
+}
+
+// Looks at a key, and at its newest row where the caller is to read it; whether one of them is none.
 fn is_none(arena: &Arena, number: u32, ahead: &Ahead) -> bool {
-    if number as usize >= arena.numbers() {
-        return true;
-    }
-    arena.key(number).len() > LONGEST_KEY || (ahead.has_rows && is_no_row(arena, number))
+    is_no_key(arena, number) || (ahead.has_rows && is_no_row(arena, number))
 }
 
 // A key on. A lane stays at its end, and at what is none.
@@ -298,25 +300,19 @@ fn step(arena: &Arena, nexts: &NextLinks, lane: WalkPart, ahead: &Ahead) -> u32 
     nexts.number_after(lane.at)
 }
 
-// Looks at a key; whether it is too long to be one.
-fn is_no_key(arena: &Arena, number: u32) -> bool {
-    if number as usize >= arena.numbers() {
-        return false;
-    }
-    arena.key(number).len() > LONGEST_KEY
-}
-
 // Looks at the keys of a batch, with their newest rows where the caller is to read them: no look waits for another. Whether each may be
-// one.
+// one: each bit that the first bytes of the rows have is noted, and a row begins with 0 or 1.
 fn look_at_batch(arena: &Arena, batch: &Batch, has_rows: bool) -> bool {
     let numbers = batch.numbers();
     let mut is_none = false;
+    let mut begins: u8 = 0;
     for i in 0..batch.len().min(BATCH_KEYS) {
-        let is_no_key = is_no_key(arena, numbers[i]);
-        let is_no_row = has_rows && is_no_row(arena, numbers[i]);
-        is_none = is_none | is_no_key | is_no_row;
+        is_none = is_none | is_no_key(arena, numbers[i]);
+        if has_rows {
+            begins = begins | arena.look_at_newest(numbers[i]);
+        }
     }
-    !is_none
+    !is_none && begins <= 1
 }
 
 // How many lanes have gone on.
