@@ -1,6 +1,6 @@
 -- Comparisons of numbers with literals, at packed rows.
-use Rattle.std.proofs.Common.{◌≡◌, inl, inr, ◌∙◌, ℕ, ℤ, zero, suc, ◌+◌, ◌<◌, ◌==◌, Bool, true, false, not, List, [], ◌∷◌, ◌++◌, Option, Some, None, length, map, take, drop, get_or, refl, sym, ap, subst, arith, if◌then◌else◌}
-use Rattle.std.specs.Prelude.{◌&&◌, ◌||◌, IfSome}
+use Rattle.std.proofs.Common.{◌≡◌, inl, inr, ◌∙◌, ℕ, ℤ, zero, suc, ◌+◌, ◌<◌, ◌==◌, Bool, true, false, not, List, [], ◌∷◌, ◌++◌, Option, Some, None, length, length-drop, map, take, drop, get_or, refl, sym, ap, subst, arith, if◌then◌else◌}
+use Rattle.std.specs.Prelude.{◌⊎◌, ◌≤◌, ◌&&◌, ◌||◌, IfSome, min}
 use Rattle.std.specs.List.{fold, list_all}
 use Rattle.std.specs.Option.{unwrap_or, option_or}
 use Rattle.std.specs.Ordering.{ordering_reverse}
@@ -8,7 +8,7 @@ use Rattle.std.specs.declared.cmp.Ordering.{Ordering}
 use Rattle.std.specs.declared.cmp.Ordering.TheVariants as order
 use Rattle.std.proofs.lemmas.Bool.{and_parts, not-true}
 use Rattle.std.proofs.Math.Seq.{take-suc}
-use Rattle.std.proofs.lemmas.List.{drop_more, drop-drop, map-append}
+use Rattle.std.proofs.lemmas.List.{drop_all, drop_more, drop-drop, map-append}
 use Rattle.std.proofs.lemmas.List.Sums.{fold-append}
 use Rattle.std.proofs.Math.Bool.{and-true}
 use Rattle.span_value.specs.declared.value.Value.{Value}
@@ -24,7 +24,7 @@ use Rattle.span_value.proofs.Lists.{all_push, all_at}
 use Rattle.span_schema.specs.declared.table.Table.{Table}
 use Rattle.span_schema.specs.Fitting.{Fits}
 use Rattle.span_schema.specs.Numbers.{key_places, other_places, other_kinds}
-use Rattle.span_rowcode.specs.Rows.{AreCells, IsCellSkip, row_code}
+use Rattle.span_rowcode.specs.Rows.{AreCells, row_code}
 use Rattle.span_mutate.specs.declared.row.TableRow.{TableRow}
 use Rattle.span_mutate.specs.Typed.{IsTyped}
 use Rattle.span_expr.specs.declared.expr.Expr.{Expr}
@@ -40,6 +40,7 @@ use Rattle.span_expr.specs.Operators as operators
 use Rattle.span_expr.specs.Outcomes.{both, condition_of, is_null, outcome_of, strict}
 use Rattle.span_query.specs.Rows.{Row}
 use Rattle.span_tablescan.specs.declared.number_test.NumberTest.{NumberTest}
+use Rattle.span_tablescan.specs.Ends.{IsCellEnd}
 use Rattle.span_rowreader.specs.Meaning.{value_for, declared_row}
 use Rattle.span_tablescan.specs.NumberTests.{meets_value, meets, AddsNeeded, AddsTests, AreMoreTests, AreNeededFor, AreSomeTests, AreTestsOf, IsKnown, IsNumberAt, IsNumberCell, IsRestOf, IsTestOf, number_or_null, IsNumberFound, IsWhetherPass, and_all, between_at, comparison_at, condition_at, exchanged}
 use Rattle.span_rowreader.proofs.KeyPlaces.{ArePlacesApart}
@@ -51,18 +52,32 @@ use Rattle.span_rowreader.proofs.PlacedRows.{others_placed, others_apart}
 abbrev pub RestAt : List Kind → List ℕ → ℕ → ℕ → Type 0
 RestAt ks bs i at = (vs : List Value) → AreCells ks vs → bs ≡ row_code vs → AreCells (drop i ks) (drop i vs) × (drop at bs ≡ row_code (drop i vs))
 
-one_past : (k : Kind) (ks : List Kind) (us : List Value) (rest : List ℕ) (w : ℕ) → IsCellSkip k rest w → AreCells (k ∷ ks) us → rest ≡ row_code us → AreCells ks (drop 1 us) × (drop w rest ≡ row_code (drop 1 us))
-one_past k ks [] rest w skip are code = absurd are
-one_past k ks (v ∷ us) rest w skip are code = (are.1, sym (skip.past v (row_code us) are.0 code))
+one_past : (k : Kind) (ks : List Kind) (us : List Value) (bs : List ℕ) (at n : ℕ) → IsCellEnd k bs at n → AreCells (k ∷ ks) us → drop at bs ≡ row_code us → AreCells ks (drop 1 us) × (drop n bs ≡ row_code (drop 1 us))
+one_past k ks [] bs at n end are code = absurd are
+one_past k ks (v ∷ us) bs at n end are code = (are.1, sym (end.past v (row_code us) are.0 code))
 
-pub rest_more : (ks : List Kind) (bs : List ℕ) (i at w : ℕ) → i < length ks → IsCellSkip (get_or ks i kind.Int) (drop at bs) w → RestAt ks bs i at → RestAt ks bs (i + 1) (at + w)
-rest_more ks bs i at w less skip so vs are code =
+pub rest_more : (ks : List Kind) (bs : List ℕ) (i at n : ℕ) → i < length ks → IsCellEnd (get_or ks i kind.Int) bs at n → RestAt ks bs i at → RestAt ks bs (i + 1) n
+rest_more ks bs i at n less end so vs are code =
     let here = so vs are code in
     let P : List Kind → Type 0 = λ ds. AreCells ds (drop i vs) in
-    let next = one_past (get_or ks i kind.Int) (drop (i + 1) ks) (drop i vs) (drop at bs) w skip (subst P (drop_more ks i kind.Int less) here.0) here.1 in
+    let next = one_past (get_or ks i kind.Int) (drop (i + 1) ks) (drop i vs) bs at n end (subst P (drop_more ks i kind.Int less) here.0) here.1 in
     let place : drop 1 (drop i vs) ≡ drop (i + 1) vs = drop-drop 1 i vs in
     let Q : List Value → Type 0 = λ us. AreCells (drop (i + 1) ks) us in
-    (subst Q place next.0, sym (drop-drop w at bs) ∙ next.1 ∙ ap row_code place)
+    (subst Q place next.0, next.1 ∙ ap row_code place)
+
+-- what is left from a place on, which may be past the end
+dropped_to_end : (bs : List ℕ) (at n : ℕ) → n ≡ min at (length bs) → drop n bs ≡ drop at bs
+dropped_to_end bs at n is = by_place (grind arith)
+  where
+    by_place : (n ≡ at) ⊎ ((n ≡ length bs) × (length bs ≤ at)) → drop n bs ≡ drop at bs
+    by_place (inl same) = ap (λ (m : ℕ). drop m bs) same
+    by_place (inr past) = ap (λ (m : ℕ). drop m bs) past.0 ∙ drop_all (length bs) bs (omega arith) ∙ sym (drop_all at bs past.1)
+
+pub rest_is : (ks : List Kind) (bs rest : List ℕ) (i at n : ℕ) → n ≡ min at (length bs) → rest ≡ drop n bs → RestAt ks bs i at → IsRestOf ks i bs rest
+rest_is ks bs rest i at n place is so = record {
+  within = omega (arith, ap (length {A = ℕ}) is, length-drop n bs);
+  of = λ vs are code. is ∙ dropped_to_end bs at n place ∙ (so vs are code).1;
+}
 
 -- ---- whether a row passes
 

@@ -18,7 +18,6 @@ use Rattle.span_shard.specs.Reading.{has_short_key, IsNoTableRow}
 use Rattle.span_expr.specs.declared.cell.Failure.{Failure}
 use Rattle.span_expr.specs.declared.cell.Failure.TheVariants.{Fault, OutOfMemory}
 use Rattle.span_expr.specs.declared.expr.Expr.{Expr}
-use Rattle.span_expr.specs.declared.condition.Condition.TheVariants as condition
 use Rattle.span_expr.specs.Places.{is_in, reads_only, moved, rank}
 use Rattle.span_expr.proofs.Places.{reads_only-wider}
 use Rattle.span_query.specs.Rows.{Row, OrFault, Rows, ◌>>=◌, value_of, is_true, append_results, keep_if, holds, filter_rows, filter_where}

@@ -11,9 +11,10 @@ ghost use Rattle.span_expr.specs.Operators.{holds};
 ghost use Rattle.span_tablescan.specs.NumberTests as spec;
 ghost use Rattle.span_tablescan.specs.NumberTests.{AddsNeeded, AddsTests, AreMoreTests, AreNeededFor, AreSomeTests, AreTestsOf, IsNumberAt, IsNumberCell, IsNumberFound, IsRestOf, IsWhetherPass, between_at, comparison_at, condition_at};
 
+use crate::ends::cell_end;
 use span_expr::expr::{Comparison, Expr};
 use span_leaves::table::width_of;
-use span_rowcode::cell::{after, skip_cell};
+use span_rowcode::cell::after;
 use span_rowcode::pack::LONGEST_ROW;
 use span_schema::schema::Schema;
 use span_value::seq::Seq;
@@ -282,9 +283,9 @@ fn cells_from<'a>(kinds: &[Kind], cell: usize, bytes: &'a [u8]) -> &'a [u8]
 {
     let mut at = 0;
     for i in 0..cell {
-        at += skip_cell(kinds[i], after(bytes, at));
+        at = cell_end(kinds[i], bytes, at);
     }
-    after(bytes, at)
+    after(bytes, at.min(bytes.len()))
 }
 
 /// The number in the first eight bytes.
@@ -344,7 +345,7 @@ fn meets_test(test: &NumberTest, kinds: &[Kind], bytes: &[u8]) -> bool
 }
 
 /// Whether the cells of a packed row meet all of some tests.
-#[inline]
+#[inline(always)]
 pub(crate) fn meets_all(tests: &[NumberTest], kinds: &[Kind], bytes: &[u8]) -> bool
     requires { AllByRecursion (λ test. IsNumberAt kinds.now test.cell) tests.now }
     ensures { IsWhetherPass kinds.now bytes.now (λ cells. list_all (spec.meets cells) tests.now) result }

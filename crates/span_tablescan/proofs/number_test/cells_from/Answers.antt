@@ -1,21 +1,21 @@
-use Rattle.std.proofs.Common.{◌<◌, ℕ, List, arith, subst, length, length-drop, get_or}
-use Rattle.span_value.specs.declared.value.Kind.TheVariants as kind
-use Rattle.span_rowcode.specs.Rows.{IsCellSkip}
-use Rattle.span_tablescan.proofs.NumberTests.{rest_more}
+use Rattle.std.proofs.Common.{◌≡◌, ◌<◌, ℕ, arith, length, subst}
+use Rattle.span_tablescan.specs.NumberTests.{IsRestOf}
+use Rattle.span_tablescan.proofs.NumberTests.{rest_is, rest_more}
 use Rattle.span_tablescan.proofs.number_test.cells_from.Goals as goal
 
 pub loop-i-preserved : goal.loop-i-preserved
 loop-i-preserved c =
-    let ks = c.args.kinds.now in
-    let bs = c.args.bytes.now in
     let i = c.loop-i.i in
-    let at = c.loop-i.at in
-    let w = c.skip_cell-at.result in
-    let P : List ℕ → Type 0 = λ xs. IsCellSkip (get_or ks i kind.Int) xs w in
-    let skip = subst P c.after.ensures c.skip_cell-at.ensures in
-    let less : i < length ks = omega (arith, c.requires.cell, c.loop-i-test.true) in
+    let less : i < length c.args.kinds.now = omega (arith, c.requires.cell, c.loop-i-test.true) in
     record {
       most = omega (arith, c.loop-i-test.true);
-      within = omega (arith, skip.within, c.loop-i.invariant.within, length-drop at bs);
-      left = rest_more ks bs i at w less skip c.loop-i.invariant.left;
+      place = c.cell_end-at.ensures.at;
+      left = rest_more c.args.kinds.now c.args.bytes.now i c.loop-i.at c.cell_end-at.result less c.cell_end-at.ensures.end c.loop-i.invariant.left;
     }
+
+pub returns : goal.returns
+returns c =
+    let ks = c.args.kinds.now in
+    let bs = c.args.bytes.now in
+    let all : c.loop-i.i ≡ c.args.cell = omega (arith, c.loop-i-test.false, c.loop-i.auto.i-end) in
+    subst (λ (k : ℕ). IsRestOf ks k bs c.after.result.now) all (rest_is ks bs c.after.result.now c.loop-i.i c.loop-i.at c.min.result c.min.ensures c.after.ensures c.loop-i.invariant.left)
