@@ -1,6 +1,6 @@
 -- Keys in a run of chains, found one by one.
-use Rattle.std.proofs.Common.{◌≡◌, ℕ, ◌+◌, ◌-◌, ◌<◌, ◌≤◌, List, refl, sym, ◌∙◌, ap, arith, length, take, map, set, get_or, true, false, Option, Some, None, subst}
-use Rattle.std.specs.Prelude.{Bool, nat_eq, nat_le, min}
+use Rattle.std.proofs.Common.{◌≡◌, ◌≢◌, ℕ, ◌+◌, ◌-◌, ◌<◌, ◌≤◌, List, refl, sym, ◌∙◌, ap, arith, length, take, map, set, get_or, true, false, Option, Some, None, subst}
+use Rattle.std.specs.Prelude.{IfSome, Bool, nat_eq, nat_le, min}
 use Rattle.std.proofs.lemmas.Bool.Decides.{nat_tests}
 use Rattle.std.proofs.lemmas.List.{get_or-map, length-map}
 use Rattle.span_arena.specs.declared.cell.Cell.{Cell}
@@ -8,8 +8,9 @@ use Rattle.span_arena.specs.Cells.{cell_at, kept_length, blank}
 use Rattle.span_arena.specs.Limits.{most_chains}
 use Rattle.span_keytree.specs.Entries.{KeyEntry}
 use Rattle.span_keytree.specs.Nexts.{Nexts, link_to, next_of}
-use Rattle.span_keywalk.specs.Walks.{AreShortOf, IsRun}
+use Rattle.span_keywalk.specs.Walks.{is_stop, AreShortOf, IsRun}
 use Rattle.span_keywalk.proofs.Batches.{found_step}
+use Rattle.span_keywalk.proofs.Walking.{other_eq}
 use mir.Val.{bool_byte}
 
 capped : (m most : ℕ) → most < 65535 → nat_le (min m 65535) most ≡ nat_le m most
@@ -27,6 +28,11 @@ next_kept links ns n is within few next =
     let there : get_or ns.next n None ≡ link_to (get_or links n 0) = ap (λ (ls : List (Option ℕ)). get_or ls n None) (sym is) ∙ get_or-map link_to links n 0 None (omega arith) in
     let some : nat_eq (n + 1) most_chains ≡ false = grind (arith, nat_tests) in
     there ∙ ap link_to next ∙ (rw some refl)
+
+-- a walk does not end at another chain than its end
+pub goes_past : (stop : Option ℕ) (i end : ℕ) → IfSome stop (λ (j : ℕ). end ≡ j) → i ≢ end → is_stop i stop ≡ false
+goes_past None i end is apart = refl
+goes_past (Some j) i end is apart = other_eq i j (λ (same : j ≡ i). apart (sym same ∙ sym is))
 
 -- there are as many links as cells
 pub links_length : (links : List ℕ) (ns : Nexts) (n : ℕ) → map link_to links ≡ ns.next → length ns.next ≡ n → length links ≡ n

@@ -1,7 +1,7 @@
 //! The next short keys of a walk, found a batch at a time.
-ghost use Rattle.std.specs.Prelude.{◌≡◌, ℕ, ◌+◌, ◌^◌, ◌<◌, ◌≤◌, [], ◌∷◌, true, false, get_or, length, take, IsTrue, MatchOption};
+ghost use Rattle.std.specs.Prelude.{◌≡◌, ◌≢◌, ℕ, Option, ◌+◌, ◌^◌, ◌<◌, ◌≤◌, [], ◌∷◌, true, false, get_or, length, take, IfSome, IsTrue, MatchOption};
 ghost use Rattle.span_arena.specs.Limits.{most_chains};
-ghost use Rattle.span_keywalk.specs.Walks.{is_stop, walked_in, AreBelow, AreShortOf, IsPassed, IsRun};
+ghost use Rattle.span_keywalk.specs.Walks.{walked_in, AreBelow, AreShortOf, IsPassed, IsRun};
 
 use crate::walk::is_stop;
 use span_arena::arena::Arena;
@@ -113,15 +113,22 @@ impl Refill {
     }
 }
 
-/// Whether none of a chain and the seven after it, by their numbers, is where the walk ends.
-fn is_stop_apart(number: u32, stop: Option<u32>) -> bool
-    requires { number + 8 < 2 ^ 32 }
-    ensures { result ≡ true → (k : ℕ) → k < 8 → is_stop (number + k) stop ≡ false }
+/// The number of the chain where a walk ends; that of no chain where it has no such end.
+fn end_of(stop: Option<u32>) -> u32
+    ensures { IfSome stop (λ number. result ≡ number) }
 {
     match stop {
-        None => true,
-        Some(stop) => stop < number || stop >= number + RUN_KEYS as u32,
+        None => NO_CHAIN,
+        Some(number) => number,
     }
+}
+
+/// Whether a number is none of eight, from a number on.
+fn is_apart(end: u32, number: u32) -> bool
+    requires { number + 8 < 2 ^ 32 }
+    ensures { result ≡ true → (k : ℕ) → k < 8 → number + k ≢ end }
+{
+    end < number || end >= number + RUN_KEYS as u32
 }
 
 /// Whether each of eight links, from that of a chain on, leads to the next number.
@@ -146,11 +153,12 @@ fn has_run(
     nexts: &NextLinks,
     most: usize,
     number: u32,
-    stop: Option<u32>,
+    end: u32,
     keys: usize,
 ) -> bool
     requires { length nexts.now.next ≡ length arena.now.cells }
-    ensures run { result ≡ true → IsRun nexts.now (length arena.now.cells) stop number }
+    ensures run { result ≡ true → (stop : Option ℕ) → IfSome stop (λ number. end ≡ number)
+        → IsRun nexts.now (length arena.now.cells) stop number }
     ensures most { result ≡ true → most < 65535 }
     ensures keys { result ≡ true → 8 ≤ keys }
     ensures fits { result ≡ true → number + 8 < 2 ^ 32 }
@@ -164,7 +172,7 @@ fn has_run(
     if number as usize + RUN_KEYS >= arena.numbers() {
         return false;
     }
-    if !is_stop_apart(number, stop) {
+    if !is_apart(end, number) {
         return false;
     }
     are_next_numbers(nexts.numbers(), number)
@@ -234,11 +242,12 @@ pub(crate) fn find_short(
     let mut numbers = [NO_CHAIN; BATCH_KEYS];
     let mut count: usize = 0;
     let mut wait = first_wait(nexts, number);
+    let end = end_of(stop);
     while left > last {
         if count > BATCH_KEYS - RUN_KEYS {
             return Refill::of(numbers, count, Some(number), left, false);
         }
-        if wait == 0 && has_run(arena, nexts, most, number, stop, left - last) {
+        if wait == 0 && has_run(arena, nexts, most, number, end, left - last) {
             count = pass_run(arena, most as u16, number, &mut numbers, count);
             number += RUN_KEYS as u32;
             left -= RUN_KEYS;
