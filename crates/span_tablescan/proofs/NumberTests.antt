@@ -1,6 +1,6 @@
 -- Comparisons of numbers with literals, at packed rows.
-use Rattle.std.proofs.Common.{◌≡◌, inl, inr, ◌∙◌, ℕ, ℤ, zero, suc, ◌+◌, ◌<◌, ◌==◌, Bool, true, false, not, List, [], ◌∷◌, ◌++◌, Option, Some, None, length, length-drop, map, take, drop, get_or, refl, sym, ap, subst, arith, if◌then◌else◌}
-use Rattle.std.specs.Prelude.{◌⊎◌, ◌≤◌, ◌&&◌, ◌||◌, IfSome, min}
+use Rattle.std.proofs.Common.{◌≡◌, inl, inr, ◌∙◌, ℕ, ℤ, zero, suc, ◌+◌, ◌<◌, ◌==◌, Bool, true, false, not, List, [], ◌∷◌, ◌++◌, Option, Some, None, length, length-append, map, take, drop, get_or, refl, sym, ap, subst, arith, if◌then◌else◌}
+use Rattle.std.specs.Prelude.{◌&&◌, ◌||◌, IfSome}
 use Rattle.std.specs.List.{fold, list_all}
 use Rattle.std.specs.Option.{unwrap_or, option_or}
 use Rattle.std.specs.Ordering.{ordering_reverse}
@@ -8,7 +8,7 @@ use Rattle.std.specs.declared.cmp.Ordering.{Ordering}
 use Rattle.std.specs.declared.cmp.Ordering.TheVariants as order
 use Rattle.std.proofs.lemmas.Bool.{and_parts, not-true}
 use Rattle.std.proofs.Math.Seq.{take-suc}
-use Rattle.std.proofs.lemmas.List.{drop_all, drop_more, drop-drop, map-append}
+use Rattle.std.proofs.lemmas.List.{drop_more, drop-drop, map-append}
 use Rattle.std.proofs.lemmas.List.Sums.{fold-append}
 use Rattle.std.proofs.Math.Bool.{and-true}
 use Rattle.span_value.specs.declared.value.Value.{Value}
@@ -24,7 +24,7 @@ use Rattle.span_value.proofs.Lists.{all_push, all_at}
 use Rattle.span_schema.specs.declared.table.Table.{Table}
 use Rattle.span_schema.specs.Fitting.{Fits}
 use Rattle.span_schema.specs.Numbers.{key_places, other_places, other_kinds}
-use Rattle.span_rowcode.specs.Rows.{AreCells, row_code}
+use Rattle.span_rowcode.specs.Rows.{AreCells, cell_code, row_code}
 use Rattle.span_mutate.specs.declared.row.TableRow.{TableRow}
 use Rattle.span_mutate.specs.Typed.{IsTyped}
 use Rattle.span_expr.specs.declared.expr.Expr.{Expr}
@@ -42,7 +42,7 @@ use Rattle.span_query.specs.Rows.{Row}
 use Rattle.span_tablescan.specs.declared.number_test.NumberTest.{NumberTest}
 use Rattle.span_tablescan.specs.Ends.{IsCellEnd}
 use Rattle.span_rowreader.specs.Meaning.{value_for, declared_row}
-use Rattle.span_tablescan.specs.NumberTests.{meets_value, meets, AddsNeeded, AddsTests, AreMoreTests, AreNeededFor, AreSomeTests, AreTestsOf, IsKnown, IsNumberAt, IsNumberCell, IsRestOf, IsTestOf, number_or_null, IsNumberFound, IsWhetherPass, and_all, between_at, comparison_at, condition_at, exchanged}
+use Rattle.span_tablescan.specs.NumberTests.{meets_value, meets, AddsNeeded, AddsTests, AreMoreTests, AreNeededFor, AreSomeTests, AreTestsOf, IsKnown, IsNumberAt, IsNumberCell, IsPlaceOf, IsTestOf, number_or_null, IsNumberFound, IsWhetherPass, and_all, between_at, comparison_at, condition_at, exchanged}
 use Rattle.span_rowreader.proofs.KeyPlaces.{ArePlacesApart}
 use Rattle.span_rowreader.proofs.DeclaredRows.{column_at}
 use Rattle.span_rowreader.proofs.PlacedRows.{others_placed, others_apart}
@@ -65,19 +65,21 @@ rest_more ks bs i at n less end so vs are code =
     let Q : List Value → Type 0 = λ us. AreCells (drop (i + 1) ks) us in
     (subst Q place next.0, next.1 ∙ ap row_code place)
 
--- what is left from a place on, which may be past the end
-dropped_to_end : (bs : List ℕ) (at n : ℕ) → n ≡ min at (length bs) → drop n bs ≡ drop at bs
-dropped_to_end bs at n is = by_place (grind arith)
-  where
-    by_place : (n ≡ at) ⊎ ((n ≡ length bs) × (length bs ≤ at)) → drop n bs ≡ drop at bs
-    by_place (inl same) = ap (λ (m : ℕ). drop m bs) same
-    by_place (inr past) = ap (λ (m : ℕ). drop m bs) past.0 ∙ drop_all (length bs) bs (omega arith) ∙ sym (drop_all at bs past.1)
+pub place_is : (ks : List Kind) (bs : List ℕ) (i at : ℕ) → RestAt ks bs i at → IsPlaceOf ks i bs at
+place_is ks bs i at so = record { of = λ vs are code. (so vs are code).1 }
 
-pub rest_is : (ks : List Kind) (bs rest : List ℕ) (i at n : ℕ) → n ≡ min at (length bs) → rest ≡ drop n bs → RestAt ks bs i at → IsRestOf ks i bs rest
-rest_is ks bs rest i at n place is so = record {
-  within = omega (arith, ap (length {A = ℕ}) is, length-drop n bs);
-  of = λ vs are code. is ∙ dropped_to_end bs at n place ∙ (so vs are code).1;
-}
+-- no number is coded in fewer bytes
+pub none_found : (bs : List ℕ) → length bs < 9 → IsNumberFound bs None
+none_found bs few = record { of = by_value }
+  where
+    by_value : (v : Value) (more : List ℕ) → Fits kind.Int v → bs ≡ cell_code v ++ more → v ≡ Null
+    by_value Null more f e = refl
+    by_value (Int i) more f e =
+        let nine : length (cell_code (Int i)) ≡ suc (suc (suc (suc (suc (suc (suc (suc (suc zero)))))))) = refl in
+        absurd (omega (arith, few, nine, ap (length {A = ℕ}) e, length-append (cell_code (Int i)) more))
+    by_value (Str t) more f e = absurd f
+    by_value (Bytes t) more f e = absurd f
+    by_value (Flag b) more f e = absurd f
 
 -- ---- whether a row passes
 
@@ -98,14 +100,14 @@ cells_dropped [] (v ∷ vs) (suc i) are = absurd are
 cells_dropped (k ∷ ks) [] (suc i) are = absurd are
 cells_dropped (k ∷ ks) (v ∷ vs) (suc i) are = cells_dropped ks vs i are.1
 
-pub cell_met : (ks : List Kind) (bs rest : List ℕ) (test : NumberTest) (found : Option ℤ) (met : Bool) → IsNumberAt ks test.cell → IsRestOf ks test.cell bs rest → IsNumberFound rest found
+pub cell_met : (ks : List Kind) (bs : List ℕ) (at : ℕ) (test : NumberTest) (found : Option ℤ) (met : Bool) → IsNumberAt ks test.cell → IsPlaceOf ks test.cell bs at → IsNumberFound (drop at bs) found
     → met ≡ meets_value test (number_or_null found) → IsWhetherPass ks bs (λ cells. meets cells test) met
-cell_met ks bs rest test found met at left number so = record {
+cell_met ks bs at test found met is left number so = record {
   of = λ vs row code.
       let split : drop test.cell ks ≡ kind.Int ∷ drop (test.cell + 1) ks =
-      drop_more ks test.cell kind.Int at.within ∙ ap (λ (k : Kind). k ∷ drop (test.cell + 1) ks) at.kind in
+      drop_more ks test.cell kind.Int is.within ∙ ap (λ (k : Kind). k ∷ drop (test.cell + 1) ks) is.kind in
       let P : List Kind → Type 0 = λ ds. AreCells ds (drop test.cell vs) in
-      let first = first_cell (drop (test.cell + 1) ks) (drop test.cell vs) rest found (subst P split (cells_dropped ks vs test.cell row.0)) (left.of vs row.0 code) number in
+      let first = first_cell (drop (test.cell + 1) ks) (drop test.cell vs) (drop at bs) found (subst P split (cells_dropped ks vs test.cell row.0)) (left.of vs row.0 code) number in
       so ∙ ap (meets_value test) (sym first ∙ dropped_first vs test.cell);
 }
 

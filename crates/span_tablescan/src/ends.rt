@@ -1,5 +1,5 @@
 //! Where the cells of a packed row end, found without a look at what most of them hold.
-ghost use Rattle.std.specs.Prelude.{◌≡◌, ◌⊎◌, ◌≤◌, ◌^◌, [], ◌∷◌, get_or, length};
+ghost use Rattle.std.specs.Prelude.{◌≡◌, ◌⊎◌, ◌≤◌, ◌^◌, [], ◌∷◌, get_or, length, true};
 ghost use Rattle.std.specs.Int.{from_be_bytes, w32};
 ghost use Rattle.span_value.specs.declared.value.Kind.TheVariants.{Str as Texts, Bytes as Strings};
 ghost use Rattle.span_rowcode.specs.declared.pack.TheConstants.{LONGEST_ROW};
@@ -52,6 +52,17 @@ fn text_end(kind: Kind, bytes: &[u8], at: usize) -> usize
     at + BEGIN + coded_length(code) as usize
 }
 
+/// Whether the cells of a kind that are no NULL have a length in their code.
+fn has_length(kind: Kind) -> bool
+    ensures { result ≡ true → (kind ≡ Texts) ⊎ (kind ≡ Strings) }
+{
+    match kind {
+        Kind::Str => true,
+        Kind::Bytes => true,
+        _ => false,
+    }
+}
+
 /// Where a cell of a kind ends that begins at a place of a packed row. That is past the row's end where the row is cut off.
 pub(crate) fn cell_end(kind: Kind, bytes: &[u8], at: usize) -> usize
     requires len { length bytes.now ≤ LONGEST_ROW }
@@ -59,9 +70,9 @@ pub(crate) fn cell_end(kind: Kind, bytes: &[u8], at: usize) -> usize
     ensures at { result ≤ 2 ^ 33 }
     ensures end { IsCellEnd kind bytes.now at result }
 {
-    match kind {
-        Kind::Str => text_end(kind, bytes, at),
-        Kind::Bytes => text_end(kind, bytes, at),
-        _ => skipped_end(kind, bytes, at),
+    if has_length(kind) {
+        text_end(kind, bytes, at)
+    } else {
+        skipped_end(kind, bytes, at)
     }
 }

@@ -1,6 +1,6 @@
 use Rattle.std.proofs.Common.{◌≤◌, ◌^◌}
 use Rattle.span_tablescan.proofs.NumberTests.{RestAt}
-use Rattle.span_tablescan.proofs.number_test.cells_from.Given as goal
+use Rattle.span_tablescan.proofs.number_test.cell_place.Given as goal
 
 -- the cells that are left
 abbrev pub invariant-loop-i : goal.invariant-loop-i
