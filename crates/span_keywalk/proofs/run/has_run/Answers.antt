@@ -1,6 +1,6 @@
 use Rattle.std.proofs.Common.{◌≡◌, ◌+◌, arith, length}
 use Rattle.span_keywalk.proofs.Runs.{goes_past, links_length, next_kept}
-use Rattle.span_keywalk.proofs.batch.has_run.Goals as goal
+use Rattle.span_keywalk.proofs.run.has_run.Goals as goal
 
 pub returns-clause-run : goal.returns-clause-run
 returns-clause-run c = λ is stop end.

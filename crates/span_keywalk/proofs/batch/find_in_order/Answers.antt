@@ -1,7 +1,7 @@
 use Rattle.std.proofs.Common.{◌∙◌, ◌<◌, sym, arith, length, length-set, Some, None}
 use Rattle.span_keywalk.proofs.Batches.{counted, ended, found_step, none_counted, none_left, none_taken, same_short}
-use Rattle.span_keywalk.proofs.batch.find_short.Goals as goal
-use Rattle.span_keywalk.proofs.batch.find_short.Goals.{then-count-eq0, else-count-eq0}
+use Rattle.span_keywalk.proofs.batch.find_in_order.Goals as goal
+use Rattle.span_keywalk.proofs.batch.find_in_order.Goals.{then-count-eq0, else-count-eq0}
 
 pub returns-then-count-clause-none : goal.returns-then-count-clause-none
 returns-then-count-clause-none c = λ has empty.
@@ -16,7 +16,7 @@ returns-in_default-clause-short c =
     let r = c.of-in_default.ensures in
     let fits : l.count < length l.numbers = omega (arith, l.invariant.places, c.if-count.false) in
     same_short cs ns c.args.most c.args.stop _ _ _ _ _ _ _ r.batch r.left r.at
-    (found_step cs ns c.args.most l.number l.left l.count c.args.stop l.numbers c.has_short_key.result None _ (omega arith) (sym c.is_stop.ensures ∙ c.if-is_stop.false) fits c.has_short_key.ensures c.in_default.ensures l.invariant.short)
+    (found_step cs ns c.args.most l.at l.left l.count c.args.stop l.numbers c.has_short_key.result None _ (omega arith) (sym c.is_stop.ensures ∙ c.if-is_stop.false) fits c.has_short_key.ensures c.in_default.ensures l.invariant.short)
 
 pub loop-left-preserved : goal.loop-left-preserved
 loop-left-preserved c =
@@ -25,9 +25,9 @@ loop-left-preserved c =
     let l = c.loop-left in
     let fits : l.count < length l.numbers = omega (arith, l.invariant.places, c.if-count.false) in
     record {
-      short = found_step cs ns c.args.most l.number l.left l.count c.args.stop l.numbers c.has_short_key.result (Some c.in-Some.next) _ (omega arith) (sym c.is_stop.ensures ∙ c.if-is_stop.false) fits c.has_short_key.ensures c.in-Some.ensures l.invariant.short;
+      short = found_step cs ns c.args.most l.at l.left l.count c.args.stop l.numbers c.has_short_key.result (Some c.in-Some.next) _ (omega arith) (sym c.is_stop.ensures ∙ c.if-is_stop.false) fits c.has_short_key.ensures c.in-Some.ensures l.invariant.short;
       count = counted c.has_short_key.result l.count (omega (arith, c.if-count.false));
-      places = length-set l.numbers l.count l.number ∙ l.invariant.places;
+      places = length-set l.numbers l.count l.at ∙ l.invariant.places;
       left = omega (arith, l.invariant.left);
     }
 

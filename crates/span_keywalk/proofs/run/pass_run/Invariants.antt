@@ -2,7 +2,7 @@ use Rattle.std.proofs.Common.{◌≡◌, ℕ, ◌+◌, ◌-◌, ◌≤◌, List,
 use Rattle.span_keytree.specs.Entries.{KeyEntry}
 use Rattle.span_keytree.specs.Nexts.{Nexts}
 use Rattle.span_keywalk.specs.Walks.{AreShortOf, IsRun}
-use Rattle.span_keywalk.proofs.batch.pass_run.Given as goal
+use Rattle.span_keywalk.proofs.run.pass_run.Given as goal
 
 -- what was right before the run is right after the keys so far
 abbrev pub invariant-loop-i : goal.invariant-loop-i

@@ -1,5 +1,5 @@
 use Rattle.std.proofs.Common.{◌≡◌, ℕ, ◌+◌, ◌<◌, true, get_or}
-use Rattle.span_keywalk.proofs.batch.are_next_numbers.Given as goal
+use Rattle.span_keywalk.proofs.run.are_next_numbers.Given as goal
 
 -- the links before lead to the next numbers
 abbrev pub invariant-loop-i : goal.invariant-loop-i

@@ -2,7 +2,7 @@ use Rattle.std.proofs.Common.{◌≡◌, ◌∙◌, ℕ, ◌+◌, ◌-◌, ◌<�
 use Rattle.std.specs.Prelude.{Bool, nat_le}
 use Rattle.span_keywalk.specs.Walks.{AreShortOf}
 use Rattle.span_keywalk.proofs.Runs.{counted_more, kept_short, run_step}
-use Rattle.span_keywalk.proofs.batch.pass_run.Goals as goal
+use Rattle.span_keywalk.proofs.run.pass_run.Goals as goal
 
 pub loop-i-preserved : goal.loop-i-preserved
 loop-i-preserved c =
