@@ -340,6 +340,7 @@ fn meets_number(test: &NumberTest, number: i64) -> bool
 }
 
 /// Whether the cells of a packed row meet a test.
+#[inline(always)]
 fn meets_test(test: &NumberTest, kinds: &[Kind], bytes: &[u8]) -> bool
     requires number { IsNumberAt kinds.now test.now.cell }
     requires len { length bytes.now ≤ LONGEST_ROW }
