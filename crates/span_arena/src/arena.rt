@@ -1,8 +1,8 @@
 //! The arena: its nodes, its chains and its free ones.
-ghost use Rattle.std.specs.Prelude.{◌≡◌, ◌<◌, ◌≤◌, ◌^◌, true, [], None, Some, length, IfOk, IfErr, OnErr, OnOk, MatchOption, nat_le, nat_lt, is_some, slice_index_or};
+ghost use Rattle.std.specs.Prelude.{◌≡◌, ◌<◌, ◌≤◌, ◌^◌, true, [], None, Some, length, IfOk, IfErr, OnErr, OnOk, MatchOption, map, nat_le, nat_lt, is_some, slice_index_or};
 ghost use Rattle.span_arena.specs.Runs.{is_used};
 ghost use Rattle.span_keycode.specs.Order.{byte_order};
-ghost use Rattle.span_arena.specs.Cells.{cell_at, is_past, new_cell, with_links, IsCompared, IsWritten};
+ghost use Rattle.span_arena.specs.Cells.{cell_at, is_past, kept_length, new_cell, with_links, IsCompared, IsWritten};
 ghost use Rattle.span_arena.specs.Limits.{most_chains, most_nodes};
 ghost use Rattle.span_arena.specs.declared.arena.TheConstants.{MOST_CHAINS, MOST_NODES};
 ghost use Rattle.span_arena.specs.Order.{IsNewestUpto, IsLaterFor, AreInTimeOrder};
@@ -278,6 +278,28 @@ impl Arena {
         ensures { result ≡ nat_le (length (cell_at self.now.cells number).key) most }
     {
         self.cells.is_short(number, most)
+    }
+
+    /// The lengths of the keys of all chains, by their numbers: `u16::MAX` where a key has that many bytes or more. They lie together, so that
+    /// many are judged in little time.
+    pub fn key_lengths(&self) -> &[u16]
+        ensures { result.now ≡ map kept_length self.now.cells }
+    {
+        self.cells.lengths()
+    }
+
+    /// A look at the newest row of a chain, so that it is near when it is read: its first byte, or 0. Nothing is promised of it.
+    pub fn look_at_newest(&self, number: u32) -> u8 {
+        let Some(ChainRecord::Used(links)) = self.chains.get(number as usize) else {
+            return 0;
+        };
+        let Some(node) = self.nodes.get(links.newest as usize) else {
+            return 0;
+        };
+        match node.image.as_slice().first() {
+            None => 0,
+            Some(begin) => *begin,
+        }
     }
 
     /// The links of a chain in the tree of keys.

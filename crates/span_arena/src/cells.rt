@@ -1,5 +1,5 @@
 //! The keys of all chains, each with its links in the tree of keys and, apart from it, its length.
-ghost use Rattle.std.specs.Prelude.{◌≡◌, ◌<◌, ◌++◌, [], ◌∷◌, length, nat_le, slice_set, OnErr, OnOk};
+ghost use Rattle.std.specs.Prelude.{◌≡◌, ◌<◌, ◌++◌, [], ◌∷◌, length, map, nat_le, slice_set, OnErr, OnOk};
 ghost use Rattle.span_arena.specs.Cells.{cell_at, kept_length, with_links};
 
 use crate::cell::{Cell, Links, StoredLinks};
@@ -92,6 +92,13 @@ impl Cells {
         } else {
             self.key(number).len() <= most
         }
+    }
+
+    /// The lengths of all keys, as they are kept: `u16::MAX` where a key has that many bytes or more.
+    pub(crate) fn lengths(&self) -> &[u16]
+        ensures { result.now ≡ map kept_length self.now }
+    {
+        self.lengths.as_slice()
     }
 
     /// The links of a cell.

@@ -1,5 +1,5 @@
 //! The chains in the order of their keys, as links from each to the next.
-ghost use Rattle.std.specs.Prelude.{◌≡◌, ◌<◌, [], length, None, IfErr, IfSome, OnErr, OnOk};
+ghost use Rattle.std.specs.Prelude.{◌≡◌, ◌<◌, [], length, map, None, IfErr, IfSome, OnErr, OnOk};
 ghost use Rattle.span_keytree.specs.Nexts.{link_to, next_of, with_cell, with_empty_link, without_first, without_last};
 
 use span_arena::token::NO_CHAIN;
@@ -83,6 +83,13 @@ impl NextLinks {
             None => NO_CHAIN,
             Some(next) => *next,
         }
+    }
+
+    /// The number of the chain after each chain, by their numbers: `NO_CHAIN` where there is none. They lie together.
+    pub fn numbers(&self) -> &[u32]
+        ensures { map link_to result.now ≡ self.now.next }
+    {
+        self.next.as_slice()
     }
 
     /// A place for one chain more, to which no link leads. `Refusal::OutOfMemory` leaves all as it was. There are no more places than

@@ -1,5 +1,5 @@
 pub mod Batches
 pub mod From
 pub mod Fronts
-pub mod Looks
+pub mod Runs
 pub mod Walking

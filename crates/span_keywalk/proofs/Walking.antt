@@ -43,7 +43,7 @@ walked_more f g (suc n) i stop some miss =
 
 -- ---- a whole walk
 
-other_eq : (i j : ℕ) → j ≢ i → nat_eq i j ≡ false
+pub other_eq : (i j : ℕ) → j ≢ i → nat_eq i j ≡ false
 other_eq i j differs = grind (arith, nat_tests)
 
 not_stop : (i : ℕ) (es fs : List KeyEntry) → ((j : ℕ) → one_at j i + holders j (es ++ fs) ≤ 1) → is_stop i (head_cell None fs) ≡ false

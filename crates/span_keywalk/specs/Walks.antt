@@ -1,5 +1,5 @@
 -- What a walk hands out.
-use Rattle.std.specs.Prelude.{◌≡◌, ℕ, zero, suc, ◌<◌, List, [], ◌∷◌, ◌++◌, length, Option, Some, None, Bool, false, nat_eq, nat_le, filter, map, if◌then◌else◌}
+use Rattle.std.specs.Prelude.{◌≡◌, ℕ, zero, suc, ◌+◌, ◌-◌, ◌<◌, ◌≤◌, List, [], ◌∷◌, ◌++◌, length, Option, Some, None, Bool, false, nat_eq, nat_le, filter, map, if◌then◌else◌}
 use Rattle.std.specs.List.{AllByRecursion}
 use Rattle.span_arena.specs.declared.cell.Cell.{Cell}
 use Rattle.span_arena.specs.declared.token.Chain.{Chain}
@@ -39,6 +39,18 @@ pub record AreShortOf (cs : List Cell) (ns : Nexts) (most : ℕ) (stop : Option 
   pub short : cell_entries cs numbers ++ short_entries most (walked_in cs ns left at stop) ≡ short_entries most es
   pub found : AreBelow (length cs) (cell_entries cs numbers)
   pub below : AreBelow (length cs) (walked_in cs ns left at stop)
+
+-- the links of eight cells, from cell i on, lead each to the next number, and the end is none of the eight
+pub record IsRun (ns : Nexts) (cells : ℕ) (stop : Option ℕ) (i : ℕ) : Type 0 where
+  pub within : i + 8 < cells
+  pub next : (k : ℕ) → k < 8 → next_of ns (i + k) ≡ Some (i + k + 1)
+  pub goes_on : (k : ℕ) → k < 8 → is_stop (i + k) stop ≡ false
+
+-- where the eight cells from i on are a run, numbers that are right before it and others that are right after it
+abbrev pub IsPassed : List Cell → ℕ → ℕ → List ℕ → List ℕ → Type 0
+IsPassed cs most i before after =
+    (ns : Nexts) (stop : Option ℕ) (left : ℕ) (es : List KeyEntry) → IsRun ns (length cs) stop i → 8 ≤ left
+    → AreShortOf cs ns most stop es before left (Some i) → AreShortOf cs ns most stop es after (left - 8) (Some (i + 8))
 
 -- the chains from one on, by the links, and at most n of them
 abbrev pub chains_from : (ℕ → Option ℕ) → ℕ → Option ℕ → List Chain

@@ -11,7 +11,7 @@
 
 use crate::batch::{BATCH_KEYS, Batch};
 use span_arena::arena::Arena;
-use span_arena::token::{Chain, NO_CHAIN};
+use span_arena::token::NO_CHAIN;
 use span_keycode::key::LONGEST_KEY;
 use span_keytree::next::{NextLinks, number_of};
 use span_keytree::tree::TreeRoot;
@@ -275,27 +275,17 @@ fn lanes_from(
 
 // Looks at the newest row of a chain; whether it begins as no row does, with neither of the bytes that a cell begins with.
 fn is_no_row(arena: &Arena, number: u32) -> bool {
-    if !arena.is_chain(number) {
-        return false;
-    }
-    let Some(version) = arena.newest_at(Chain { number }, u64::MAX) else {
-        return false;
-    };
-    let Some(row) = version.image() else {
-        return false;
-    };
-    match row.as_slice().first() {
-        None => false,
-        Some(begin) => *begin > 1,
-    }
+    arena.look_at_newest(number) > 1
 }
 
-// Looks at a key, and at its newest row where the caller is to read it; whether it is too long to be a key, or its row is none.
+// Looks at a key; whether it is too long to be one, or there is no chain of this number.
+fn is_no_key(arena: &Arena, number: u32) -> bool {
+    number as usize >= arena.numbers() || arena.key(number).len() > LONGEST_KEY
+}
+
+// Looks at a key, and at its newest row where the caller is to read it; whether one of them is none.
 fn is_none(arena: &Arena, number: u32, ahead: &Ahead) -> bool {
-    if number as usize >= arena.numbers() {
-        return true;
-    }
-    arena.key(number).len() > LONGEST_KEY || (ahead.has_rows && is_no_row(arena, number))
+    is_no_key(arena, number) || (ahead.has_rows && is_no_row(arena, number))
 }
 
 // A key on. A lane stays at its end, and at what is none.
@@ -310,34 +300,19 @@ fn step(arena: &Arena, nexts: &NextLinks, lane: WalkPart, ahead: &Ahead) -> u32 
     nexts.number_after(lane.at)
 }
 
-// Looks at the keys of a batch; whether each may be one.
-fn look_at_keys(arena: &Arena, batch: &Batch) -> bool {
+// Looks at the keys of a batch, with their newest rows where the caller is to read them: no look waits for another. Whether each may be
+// one: each bit that the first bytes of the rows have is noted, and a row begins with 0 or 1.
+fn look_at_batch(arena: &Arena, batch: &Batch, has_rows: bool) -> bool {
     let numbers = batch.numbers();
-    let mut are_keys = true;
+    let mut is_none = false;
+    let mut begins: u8 = 0;
     for i in 0..batch.len().min(BATCH_KEYS) {
-        let number = numbers[i];
-        if (number as usize) < arena.numbers() {
-            are_keys = are_keys && arena.key(number).len() <= LONGEST_KEY;
+        is_none = is_none | is_no_key(arena, numbers[i]);
+        if has_rows {
+            begins = begins | arena.look_at_newest(numbers[i]);
         }
     }
-    are_keys
-}
-
-// Looks at the newest row of each key of a batch; whether each may be one.
-fn look_at_rows(arena: &Arena, batch: &Batch) -> bool {
-    let numbers = batch.numbers();
-    let mut are_rows = true;
-    for i in 0..batch.len().min(BATCH_KEYS) {
-        let is_row = !is_no_row(arena, numbers[i]);
-        are_rows = are_rows && is_row;
-    }
-    are_rows
-}
-
-// Looks at the keys of a batch, first at all of them and then at their newest rows: so that several wait for memory at once. Whether each
-// may be one.
-fn look_at_batch(arena: &Arena, batch: &Batch, has_rows: bool) -> bool {
-    look_at_keys(arena, batch) && (!has_rows || look_at_rows(arena, batch))
+    !is_none && begins <= 1
 }
 
 // How many lanes have gone on.

@@ -2,6 +2,7 @@
 ghost use Rattle.std.specs.Prelude.{◌≡◌, ◌<◌, ◌≤◌, [], ◌∷◌, false, length, take, IsTrue, MatchOption};
 ghost use Rattle.span_keywalk.specs.Walks.{walked_in, AreBelow, AreShortOf};
 
+use crate::run::{RUN_KEYS, end_of, has_run, next_wait, pass_run};
 use crate::walk::is_stop;
 use span_arena::arena::Arena;
 use span_arena::token::NO_CHAIN;
@@ -109,9 +110,60 @@ impl Refill {
     }
 }
 
-/// Goes on from a chain over at most `keys` keys, and finds those of at most `most` bytes. Lengths and links alone are read. Each number is
-/// put, and that of a short key stays: which are short can't be guessed, and a wrong guess takes longer than both.
-pub(crate) fn find_short(
+/// As `find_short`, where each chain leads to the next number mostly: eight are passed over together where they do, and else one by its
+/// link.
+fn find_in_order(
+    arena: &Arena,
+    nexts: &NextLinks,
+    most: usize,
+    number: u32,
+    stop: Option<u32>,
+    mut left: usize,
+    keys: usize,
+) -> Refill
+    requires below { AreBelow (length arena.now.cells) (walked_in arena.now.cells nexts.now left (Some number) stop) }
+    requires places { length nexts.now.next ≡ length arena.now.cells }
+    requires keys { 0 < keys }
+    ensures short { let all = walked_in arena.now.cells nexts.now left (Some number) stop in
+        AreShortOf arena.now.cells nexts.now most stop all result.batch result.left result.at }
+    ensures more { IsTrue result.goes_on → result.left < left }
+    ensures empty { IsTrue result.goes_on → result.batch ≡ [] }
+    ensures none { result.goes_on ≡ false → result.batch ≡ []
+        → walked_in arena.now.cells nexts.now result.left result.at stop ≡ [] }
+{
+    let last = left.saturating_sub(keys);
+    let mut numbers = [NO_CHAIN; BATCH_KEYS];
+    let mut count: usize = 0;
+    let mut at = number;
+    let mut wait: usize = 0;
+    let end = end_of(stop);
+    while left > last {
+        if count > BATCH_KEYS - RUN_KEYS {
+            return Refill::of(numbers, count, Some(at), left, false);
+        }
+        if wait == 0 && has_run(arena, nexts, most, at, end, left - last) {
+            count = pass_run(arena, most as u16, at, &mut numbers, count);
+            at += RUN_KEYS as u32;
+            left -= RUN_KEYS;
+            continue;
+        }
+        wait = next_wait(wait);
+        if is_stop(at, stop) {
+            return Refill::of(numbers, count, Some(at), left, false);
+        }
+        numbers[count] = at;
+        count += arena.has_short_key(at, most) as usize;
+        left -= 1;
+        let Some(next) = nexts.after(at) else {
+            return Refill::of(numbers, count, None, left, false);
+        };
+        at = next;
+    }
+    Refill::of(numbers, count, Some(at), left, count == 0 && left > 0)
+}
+
+/// As `find_short`, one by one. Each number is put, and that of a short key stays.
+fn find_by_links(
     arena: &Arena,
     nexts: &NextLinks,
     most: usize,
@@ -149,4 +201,31 @@ pub(crate) fn find_short(
         number = next;
     }
     Refill::of(numbers, count, Some(number), left, count == 0 && left > 0)
+}
+
+/// Goes on from a chain over at most `keys` keys, and finds those of at most `most` bytes. Lengths and links alone are read.
+pub(crate) fn find_short(
+    arena: &Arena,
+    nexts: &NextLinks,
+    most: usize,
+    number: u32,
+    stop: Option<u32>,
+    left: usize,
+    keys: usize,
+) -> Refill
+    requires below { AreBelow (length arena.now.cells) (walked_in arena.now.cells nexts.now left (Some number) stop) }
+    requires places { length nexts.now.next ≡ length arena.now.cells }
+    requires keys { 0 < keys }
+    ensures short { let all = walked_in arena.now.cells nexts.now left (Some number) stop in
+        AreShortOf arena.now.cells nexts.now most stop all result.batch result.left result.at }
+    ensures more { IsTrue result.goes_on → result.left < left }
+    ensures empty { IsTrue result.goes_on → result.batch ≡ [] }
+    ensures none { result.goes_on ≡ false → result.batch ≡ []
+        → walked_in arena.now.cells nexts.now result.left result.at stop ≡ [] }
+{
+    if nexts.number_after(number).abs_diff(number) == 1 {
+        find_in_order(arena, nexts, most, number, stop, left, keys)
+    } else {
+        find_by_links(arena, nexts, most, number, stop, left, keys)
+    }
 }

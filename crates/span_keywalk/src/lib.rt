@@ -8,5 +8,6 @@ mod ahead;
 mod batch;
 pub mod chains;
 pub mod find;
+mod run;
 pub mod short;
 pub mod walk;

@@ -47,7 +47,7 @@ impl<'a> Iterator for ShortWalk<'a> {
 
     ghost remaining = { item_count (λ w. w) };
 
-    #[inline]
+    #[inline(always)]
     fn next(&mut self) -> Option<(&'a [u8], Chain)> {
         if let Some(number) = self.found.batch.next() {
             return Some((self.arena.key(number), Chain { number }));

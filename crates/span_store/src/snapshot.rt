@@ -88,12 +88,14 @@ impl<'a> Iterator for ShortRows<'a> {
 
     ghost remaining = { item_count (λ v. v) };
 
+    #[inline(always)]
     fn next(&mut self) -> Option<Entry<'a>> {
         next_row(&mut self.walk, self.arena, self.s)
     }
 }
 
 /// The next row at s of the keys that are left.
+#[inline(always)]
 fn next_row<'a>(walk: &mut ShortWalk<'a>, arena: &'a Arena, s: u64) -> Option<Entry<'a>>
     requires { All (λ e. IsChain arena.now e.chain.number) walk.old }
     ensures chains { All (λ e. IsChain arena.now e.chain.number) walk.new }

@@ -1,3 +1,4 @@
+pub mod CellEnds
 pub mod NumberTests
 pub mod ScannedRows
 pub mod ShortKeys

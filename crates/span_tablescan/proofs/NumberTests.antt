@@ -1,5 +1,5 @@
 -- Comparisons of numbers with literals, at packed rows.
-use Rattle.std.proofs.Common.{◌≡◌, inl, inr, ◌∙◌, ℕ, ℤ, zero, suc, ◌+◌, ◌<◌, ◌==◌, Bool, true, false, not, List, [], ◌∷◌, ◌++◌, Option, Some, None, length, map, take, drop, get_or, refl, sym, ap, subst, arith, if◌then◌else◌}
+use Rattle.std.proofs.Common.{◌≡◌, inl, inr, ◌∙◌, ℕ, ℤ, zero, suc, ◌+◌, ◌<◌, ◌==◌, Bool, true, false, not, List, [], ◌∷◌, ◌++◌, Option, Some, None, length, length-append, map, take, drop, get_or, refl, sym, ap, subst, arith, if◌then◌else◌}
 use Rattle.std.specs.Prelude.{◌&&◌, ◌||◌, IfSome}
 use Rattle.std.specs.List.{fold, list_all}
 use Rattle.std.specs.Option.{unwrap_or, option_or}
@@ -24,7 +24,7 @@ use Rattle.span_value.proofs.Lists.{all_push, all_at}
 use Rattle.span_schema.specs.declared.table.Table.{Table}
 use Rattle.span_schema.specs.Fitting.{Fits}
 use Rattle.span_schema.specs.Numbers.{key_places, other_places, other_kinds}
-use Rattle.span_rowcode.specs.Rows.{AreCells, IsCellSkip, row_code}
+use Rattle.span_rowcode.specs.Rows.{AreCells, cell_code, row_code}
 use Rattle.span_mutate.specs.declared.row.TableRow.{TableRow}
 use Rattle.span_mutate.specs.Typed.{IsTyped}
 use Rattle.span_expr.specs.declared.expr.Expr.{Expr}
@@ -40,8 +40,9 @@ use Rattle.span_expr.specs.Operators as operators
 use Rattle.span_expr.specs.Outcomes.{both, condition_of, is_null, outcome_of, strict}
 use Rattle.span_query.specs.Rows.{Row}
 use Rattle.span_tablescan.specs.declared.number_test.NumberTest.{NumberTest}
+use Rattle.span_tablescan.specs.Ends.{IsCellEnd}
 use Rattle.span_rowreader.specs.Meaning.{value_for, declared_row}
-use Rattle.span_tablescan.specs.NumberTests.{meets_value, meets, AddsNeeded, AddsTests, AreMoreTests, AreNeededFor, AreSomeTests, AreTestsOf, IsKnown, IsNumberAt, IsNumberCell, IsRestOf, IsTestOf, number_or_null, IsNumberFound, IsWhetherPass, and_all, between_at, comparison_at, condition_at, exchanged}
+use Rattle.span_tablescan.specs.NumberTests.{meets_value, meets, AddsNeeded, AddsTests, AreMoreTests, AreNeededFor, AreSomeTests, AreTestsOf, IsKnown, IsNumberAt, IsNumberCell, IsPlaceOf, IsTestOf, number_or_null, IsNumberFound, IsWhetherPass, and_all, between_at, comparison_at, condition_at, exchanged}
 use Rattle.span_rowreader.proofs.KeyPlaces.{ArePlacesApart}
 use Rattle.span_rowreader.proofs.DeclaredRows.{column_at}
 use Rattle.span_rowreader.proofs.PlacedRows.{others_placed, others_apart}
@@ -51,18 +52,34 @@ use Rattle.span_rowreader.proofs.PlacedRows.{others_placed, others_apart}
 abbrev pub RestAt : List Kind → List ℕ → ℕ → ℕ → Type 0
 RestAt ks bs i at = (vs : List Value) → AreCells ks vs → bs ≡ row_code vs → AreCells (drop i ks) (drop i vs) × (drop at bs ≡ row_code (drop i vs))
 
-one_past : (k : Kind) (ks : List Kind) (us : List Value) (rest : List ℕ) (w : ℕ) → IsCellSkip k rest w → AreCells (k ∷ ks) us → rest ≡ row_code us → AreCells ks (drop 1 us) × (drop w rest ≡ row_code (drop 1 us))
-one_past k ks [] rest w skip are code = absurd are
-one_past k ks (v ∷ us) rest w skip are code = (are.1, sym (skip.past v (row_code us) are.0 code))
+one_past : (k : Kind) (ks : List Kind) (us : List Value) (bs : List ℕ) (at n : ℕ) → IsCellEnd k bs at n → AreCells (k ∷ ks) us → drop at bs ≡ row_code us → AreCells ks (drop 1 us) × (drop n bs ≡ row_code (drop 1 us))
+one_past k ks [] bs at n end are code = absurd are
+one_past k ks (v ∷ us) bs at n end are code = (are.1, sym (end.past v (row_code us) are.0 code))
 
-pub rest_more : (ks : List Kind) (bs : List ℕ) (i at w : ℕ) → i < length ks → IsCellSkip (get_or ks i kind.Int) (drop at bs) w → RestAt ks bs i at → RestAt ks bs (i + 1) (at + w)
-rest_more ks bs i at w less skip so vs are code =
+pub rest_more : (ks : List Kind) (bs : List ℕ) (i at n : ℕ) → i < length ks → IsCellEnd (get_or ks i kind.Int) bs at n → RestAt ks bs i at → RestAt ks bs (i + 1) n
+rest_more ks bs i at n less end so vs are code =
     let here = so vs are code in
     let P : List Kind → Type 0 = λ ds. AreCells ds (drop i vs) in
-    let next = one_past (get_or ks i kind.Int) (drop (i + 1) ks) (drop i vs) (drop at bs) w skip (subst P (drop_more ks i kind.Int less) here.0) here.1 in
+    let next = one_past (get_or ks i kind.Int) (drop (i + 1) ks) (drop i vs) bs at n end (subst P (drop_more ks i kind.Int less) here.0) here.1 in
     let place : drop 1 (drop i vs) ≡ drop (i + 1) vs = drop-drop 1 i vs in
     let Q : List Value → Type 0 = λ us. AreCells (drop (i + 1) ks) us in
-    (subst Q place next.0, sym (drop-drop w at bs) ∙ next.1 ∙ ap row_code place)
+    (subst Q place next.0, next.1 ∙ ap row_code place)
+
+pub place_is : (ks : List Kind) (bs : List ℕ) (i at : ℕ) → RestAt ks bs i at → IsPlaceOf ks i bs at
+place_is ks bs i at so = record { of = λ vs are code. (so vs are code).1 }
+
+-- no number is coded in fewer bytes
+pub none_found : (bs : List ℕ) → length bs < 9 → IsNumberFound bs None
+none_found bs few = record { of = by_value }
+  where
+    by_value : (v : Value) (more : List ℕ) → Fits kind.Int v → bs ≡ cell_code v ++ more → v ≡ Null
+    by_value Null more f e = refl
+    by_value (Int i) more f e =
+        let nine : length (cell_code (Int i)) ≡ suc (suc (suc (suc (suc (suc (suc (suc (suc zero)))))))) = refl in
+        absurd (omega (arith, few, nine, ap (length {A = ℕ}) e, length-append (cell_code (Int i)) more))
+    by_value (Str t) more f e = absurd f
+    by_value (Bytes t) more f e = absurd f
+    by_value (Flag b) more f e = absurd f
 
 -- ---- whether a row passes
 
@@ -83,14 +100,14 @@ cells_dropped [] (v ∷ vs) (suc i) are = absurd are
 cells_dropped (k ∷ ks) [] (suc i) are = absurd are
 cells_dropped (k ∷ ks) (v ∷ vs) (suc i) are = cells_dropped ks vs i are.1
 
-pub cell_met : (ks : List Kind) (bs rest : List ℕ) (test : NumberTest) (found : Option ℤ) (met : Bool) → IsNumberAt ks test.cell → IsRestOf ks test.cell bs rest → IsNumberFound rest found
+pub cell_met : (ks : List Kind) (bs : List ℕ) (at : ℕ) (test : NumberTest) (found : Option ℤ) (met : Bool) → IsNumberAt ks test.cell → IsPlaceOf ks test.cell bs at → IsNumberFound (drop at bs) found
     → met ≡ meets_value test (number_or_null found) → IsWhetherPass ks bs (λ cells. meets cells test) met
-cell_met ks bs rest test found met at left number so = record {
+cell_met ks bs at test found met is left number so = record {
   of = λ vs row code.
       let split : drop test.cell ks ≡ kind.Int ∷ drop (test.cell + 1) ks =
-      drop_more ks test.cell kind.Int at.within ∙ ap (λ (k : Kind). k ∷ drop (test.cell + 1) ks) at.kind in
+      drop_more ks test.cell kind.Int is.within ∙ ap (λ (k : Kind). k ∷ drop (test.cell + 1) ks) is.kind in
       let P : List Kind → Type 0 = λ ds. AreCells ds (drop test.cell vs) in
-      let first = first_cell (drop (test.cell + 1) ks) (drop test.cell vs) rest found (subst P split (cells_dropped ks vs test.cell row.0)) (left.of vs row.0 code) number in
+      let first = first_cell (drop (test.cell + 1) ks) (drop test.cell vs) (drop at bs) found (subst P split (cells_dropped ks vs test.cell row.0)) (left.of vs row.0 code) number in
       so ∙ ap (meets_value test) (sym first ∙ dropped_first vs test.cell);
 }
 

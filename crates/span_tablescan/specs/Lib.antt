@@ -1,3 +1,4 @@
+pub mod Ends
 pub mod NumberTests
 pub mod Given
 pub mod Scans

@@ -1,5 +1,5 @@
 -- Comparisons of numbers with literals, judged where a row is packed.
-use Rattle.std.specs.Prelude.{◌≡◌, ◌⊎◌, ℕ, ℤ, ◌<◌, ◌≤◌, ◌==◌, List, ◌++◌, Bool, true, false, not, Option, Some, None, length, get_or, drop, map}
+use Rattle.std.specs.Prelude.{◌≡◌, ◌⊎◌, ℕ, ℤ, ◌<◌, ◌==◌, List, ◌++◌, Bool, true, false, not, Option, Some, None, length, get_or, drop, map}
 use Rattle.std.specs.List.{AllByRecursion, fold, list_all}
 use Rattle.span_value.specs.declared.value.Value.{Value}
 use Rattle.span_value.specs.declared.value.Value.TheVariants as value
@@ -136,10 +136,9 @@ pub record IsNumberCell (schema : List Table) (n place cell : ℕ) : Type 0 wher
 
 -- ---- what is read of a packed row
 
--- whatever cells the bytes code, what is left is the code of those from a place on
-pub record IsRestOf (ks : List Kind) (cell : ℕ) (bytes rest : List ℕ) : Type 0 where
-  pub within : length rest ≤ length bytes
-  pub of : (vs : List Value) → AreCells ks vs → bytes ≡ row_code vs → rest ≡ row_code (drop cell vs)
+-- whatever cells the bytes code, those from one of them on are coded from a place on
+pub record IsPlaceOf (ks : List Kind) (cell : ℕ) (bytes : List ℕ) (at : ℕ) : Type 0 where
+  pub of : (vs : List Value) → AreCells ks vs → bytes ≡ row_code vs → drop at bytes ≡ row_code (drop cell vs)
 
 abbrev pub number_or_null : Option ℤ → Value
 number_or_null None = value.Null

@@ -2,6 +2,7 @@
 #![tactic(auto)]
 
 mod count;
+mod ends;
 mod narrow;
 mod number_test;
 pub mod scan;

@@ -1,19 +1,20 @@
 //! Comparisons of numbers with literals, judged where a row is packed: no value is made of a row that is not kept.
-ghost use Rattle.std.specs.Prelude.{◌≡◌, ◌<◌, ◌≤◌, ◌==◌, [], IfOk, IfSome, MatchOption, OnOk, get_or, length, not, true};
+ghost use Rattle.std.specs.Prelude.{◌≡◌, ◌<◌, ◌≤◌, ◌^◌, ◌==◌, [], IfOk, IfSome, OnOk, drop, get_or, length, not, true};
 ghost use Rattle.std.specs.List.{AllByRecursion, list_all};
 ghost use Rattle.span_value.specs.declared.value.Kind.TheVariants as kind;
 ghost use Rattle.span_value.specs.declared.value.Value.TheVariants.{Int};
 ghost use Rattle.span_schema.specs.Numbers.{IsTable};
 ghost use Rattle.span_rowcode.specs.declared.pack.TheConstants.{LONGEST_ROW};
-ghost use Rattle.span_rowcode.specs.Cells.{IsNoBody, IsBody};
+ghost use Rattle.span_rowcode.specs.Cells.{IsBody};
 ghost use Rattle.span_expr.specs.declared.expr.Expr.TheVariants.{Literal};
 ghost use Rattle.span_expr.specs.Operators.{holds};
 ghost use Rattle.span_tablescan.specs.NumberTests as spec;
-ghost use Rattle.span_tablescan.specs.NumberTests.{AddsNeeded, AddsTests, AreMoreTests, AreNeededFor, AreSomeTests, AreTestsOf, IsNumberAt, IsNumberCell, IsNumberFound, IsRestOf, IsWhetherPass, between_at, comparison_at, condition_at};
+ghost use Rattle.span_tablescan.specs.NumberTests.{AddsNeeded, AddsTests, AreMoreTests, AreNeededFor, AreSomeTests, AreTestsOf, IsNumberAt, IsNumberCell, IsNumberFound, IsPlaceOf, IsWhetherPass, between_at, comparison_at, condition_at};
 
+use crate::ends::cell_end;
 use span_expr::expr::{Comparison, Expr};
 use span_leaves::table::width_of;
-use span_rowcode::cell::{after, skip_cell};
+use span_rowcode::cell::after;
 use span_rowcode::pack::LONGEST_ROW;
 use span_schema::schema::Schema;
 use span_value::seq::Seq;
@@ -274,41 +275,48 @@ pub(crate) fn number_tests(
 
 // ---- a test at a packed row
 
-/// The bytes of a packed row from one of its cells on.
-fn cells_from<'a>(kinds: &[Kind], cell: usize, bytes: &'a [u8]) -> &'a [u8]
+/// How many bytes code a number: one byte that it is no NULL, and eight.
+const NUMBER_BYTES: usize = 9;
+
+/// Where one of the cells of a packed row begins. That is past the row's end where the row is cut off.
+fn cell_place(kinds: &[Kind], cell: usize, bytes: &[u8]) -> usize
     requires cell { cell ≤ length kinds.now }
     requires len { length bytes.now ≤ LONGEST_ROW }
-    ensures { IsRestOf kinds.now cell bytes.now result.now }
+    ensures most { result ≤ 2 ^ 33 }
+    ensures place { IsPlaceOf kinds.now cell bytes.now result }
 {
     let mut at = 0;
     for i in 0..cell {
-        at += skip_cell(kinds[i], after(bytes, at));
+        at = cell_end(kinds[i], bytes, at);
     }
-    after(bytes, at)
+    at
 }
 
 /// The number in the first eight bytes.
-fn eight_at(rest: &[u8]) -> Option<i64>
-    ensures { MatchOption result (IsNoBody kind.Int rest.now) (λ i. IsBody kind.Int rest.now (Int i) 8) }
+fn eight_at(rest: &[u8]) -> i64
+    requires { 8 ≤ length rest.now }
+    ensures { IsBody kind.Int rest.now (Int result) 8 }
 {
-    match rest.split_first_chunk::<8>() {
-        None => None,
-        Some((eight, _)) => Some(u64::from_be_bytes(*eight).cast_signed()),
-    }
+    let Some((eight, _)) = rest.split_first_chunk::<8>() else {
+        unreachable!()
+    };
+    u64::from_be_bytes(*eight).cast_signed()
 }
 
-/// The number that is coded at the front of bytes. None where it is NULL, or none is coded there.
-fn number_at(bytes: &[u8]) -> Option<i64>
-    requires { length bytes.now ≤ LONGEST_ROW }
-    ensures { IsNumberFound bytes.now result }
+/// The number that is coded at a place. None where it is NULL, or none is coded there.
+fn number_at(bytes: &[u8], at: usize) -> Option<i64>
+    requires len { length bytes.now ≤ LONGEST_ROW }
+    requires at { at ≤ 2 ^ 33 }
+    ensures { IsNumberFound (drop at bytes.now) result }
 {
-    if bytes.len() == 0 {
+    if at + NUMBER_BYTES > bytes.len() {
         return None;
     }
-    if bytes[0] == 0 {
+    let code = after(bytes, at);
+    if code[0] == 0 {
         return None;
     }
-    eight_at(after(bytes, 1))
+    Some(eight_at(after(code, 1)))
 }
 
 fn is_order_met(comparison: Comparison, order: Ordering) -> bool
@@ -332,18 +340,20 @@ fn meets_number(test: &NumberTest, number: i64) -> bool
 }
 
 /// Whether the cells of a packed row meet a test.
+#[inline(always)]
 fn meets_test(test: &NumberTest, kinds: &[Kind], bytes: &[u8]) -> bool
     requires number { IsNumberAt kinds.now test.now.cell }
     requires len { length bytes.now ≤ LONGEST_ROW }
     ensures { IsWhetherPass kinds.now bytes.now (λ cells. spec.meets cells test.now) result }
 {
-    match number_at(cells_from(kinds, test.cell, bytes)) {
+    match number_at(bytes, cell_place(kinds, test.cell, bytes)) {
         None => false,
         Some(number) => meets_number(test, number),
     }
 }
 
 /// Whether the cells of a packed row meet all of some tests.
+#[inline(always)]
 pub(crate) fn meets_all(tests: &[NumberTest], kinds: &[Kind], bytes: &[u8]) -> bool
     requires { AllByRecursion (λ test. IsNumberAt kinds.now test.cell) tests.now }
     ensures { IsWhetherPass kinds.now bytes.now (λ cells. list_all (spec.meets cells) tests.now) result }

@@ -8,8 +8,8 @@ use Rattle.span_rowcode.specs.Cells.{IsBody}
 use Rattle.span_rowcode.proofs.RowReads.{are_bytes, eight_read}
 use Rattle.span_tablescan.proofs.number_test.eight_at.Goals as goal
 
-pub returns-in-Some : goal.returns-in-Some
-returns-in-Some c =
+pub returns : goal.returns
+returns c =
     let bs = c.args.rest.now in
     let fits : FitsSigned w64 c.cast_signed.result = search rules in
     let are = are_bytes bs (λ i. let f = c.type_inv.rest i in omega arith) in

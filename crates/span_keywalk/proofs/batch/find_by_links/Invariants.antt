@@ -1,6 +1,6 @@
 use Rattle.std.proofs.Common.{◌≡◌, ◌-◌, ◌≤◌, length, take, Some}
 use Rattle.span_keywalk.specs.Walks.{walked_in, AreShortOf}
-use Rattle.span_keywalk.proofs.batch.find_short.Given as goal
+use Rattle.span_keywalk.proofs.batch.find_by_links.Given as goal
 
 -- what was found, and the short ones of what is left, are all short ones
 abbrev pub invariant-loop-left : goal.invariant-loop-left

@@ -1,11 +1,11 @@
-use Rattle.std.proofs.Common.{◌≤◌, length}
+use Rattle.std.proofs.Common.{◌≤◌, ◌^◌}
 use Rattle.span_tablescan.proofs.NumberTests.{RestAt}
-use Rattle.span_tablescan.proofs.number_test.cells_from.Given as goal
+use Rattle.span_tablescan.proofs.number_test.cell_place.Given as goal
 
 -- the cells that are left
 abbrev pub invariant-loop-i : goal.invariant-loop-i
 invariant-loop-i l = record {
   most : l.i ≤ l.cell;
-  within : l.at ≤ length l.bytes;
+  place : l.at ≤ 2 ^ 33;
   left : RestAt l.kinds l.bytes l.i l.at;
 }

@@ -1,8 +1,7 @@
 use Rattle.std.proofs.Common.{◌∙◌, ◌<◌, sym, arith, length, length-set, Some, None}
-use Rattle.span_keywalk.specs.Walks.{walked_in}
 use Rattle.span_keywalk.proofs.Batches.{counted, ended, found_step, none_counted, none_left, none_taken, same_short}
-use Rattle.span_keywalk.proofs.batch.find_short.Goals as goal
-use Rattle.span_keywalk.proofs.batch.find_short.Goals.{then-count-eq0, else-count-eq0}
+use Rattle.span_keywalk.proofs.batch.find_by_links.Goals as goal
+use Rattle.span_keywalk.proofs.batch.find_by_links.Goals.{then-count-eq0, else-count-eq0}
 
 pub returns-then-count-ge-BATCH_KEYS-clause-none : goal.returns-then-count-ge-BATCH_KEYS-clause-none
 returns-then-count-ge-BATCH_KEYS-clause-none c = λ has empty.
