@@ -13,3 +13,4 @@ pub mod KeyReads
 pub mod WholeKeys
 pub mod NumberPlaces
 pub mod AddedCells
+mod NullRows

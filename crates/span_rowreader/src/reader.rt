@@ -1,5 +1,5 @@
 //! Reading of a table's rows, of the columns alone that a mask has: a value is put at its place among these, and no other is made.
-ghost use Rattle.std.specs.Prelude.{◌≡◌, ◌≤◌, ◌⊎◌, IfOk, OnOk, MatchResult, drop, length, map, replicate, take, true};
+ghost use Rattle.std.specs.Prelude.{◌≡◌, ◌≤◌, ◌⊎◌, IfOk, OnOk, MatchResult, drop, length, map, replicate, take, true, ◌<◌, set};
 ghost use Rattle.span_value.specs.declared.value.Value.TheVariants.{Null};
 ghost use Rattle.span_schema.specs.Numbers.{IsTable, key_places};
 ghost use Rattle.span_leaves.specs.Leaves.{width_of};
@@ -176,29 +176,45 @@ pub fn table_reader(
     })
 }
 
-/// Whether all values of a row are NULL, and there are as many as a number says.
-fn are_nulls(row: &[Value], len: usize) -> bool
-    ensures { result ≡ true → row.now ≡ replicate len Null }
+/// Makes a value of a row NULL. One that owns no memory takes no drop.
+fn clear_value(row: &mut Vec<Value>, at: usize)
+    requires { at < length row.old.items }
+    ensures { row.new.items ≡ set row.old.items at Null }
 {
-    if row.len() != len {
-        return false;
+    if matches!(&row[at], Value::Null | Value::Int(_) | Value::Bool(_)) {
+        row[at] = Value::Null;
+    } else {
+        drop_value(row, at);
     }
-    for value in row {
-        if !matches!(value, Value::Null) {
-            return false;
-        }
-    }
-    true
 }
 
-/// Makes a row one of NULLs. Most rows are already: what adds a row to others leaves NULLs.
+/// The same of a value that may own memory.
+#[inline(never)]
+fn drop_value(row: &mut Vec<Value>, at: usize)
+    requires { at < length row.old.items }
+    ensures { row.new.items ≡ set row.old.items at Null }
+{
+    row[at] = Value::Null;
+}
+
+/// Makes the values of a row NULL.
+fn clear_values(row: &mut Vec<Value>)
+    ensures { row.new.items ≡ replicate (length row.old.items) Null }
+{
+    for at in 0..row.len() {
+        clear_value(row, at);
+    }
+}
+
+/// Makes a row one of NULLs. Most rows have as many values already.
 fn put_nulls(row: &mut Vec<Value>, len: usize) -> Result<(), AllocError>
     ensures { OnOk result (row.new.items ≡ replicate len Null) }
 {
-    if are_nulls(row.as_slice(), len) {
-        return Ok(());
+    if row.len() != len {
+        return refill(row, len);
     }
-    refill(row, len)
+    clear_values(row);
+    Ok(())
 }
 
 /// Makes a row one of NULLs, whatever it is.
