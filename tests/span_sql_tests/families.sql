@@ -5333,3 +5333,59 @@ rows 3
 1,a
 3,\N
 8,\N
+
+# The last condition equates columns alone, one twice, or says more: columns of one side, an OR, columns outside the keys.
+
+SELECT s.k, x.s, l.l FROM Shops s JOIN Sales x ON x.k = s.k JOIN Lines l ON l.k = x.k AND l.k = s.k AND l.s = x.s
+rows 5
+1,,2
+1,,1
+1,ab,\N
+3,abcdefgh,8
+5,a,5
+
+SELECT s.k, x.s, l.l FROM Shops s JOIN Sales x ON x.k = s.k JOIN Lines l ON l.k = s.k AND l.s = x.s AND x.n = s.n
+rows 1
+5,a,5
+
+SELECT s.k, x.s, l.l FROM Shops s JOIN Sales x ON x.k = s.k JOIN Lines l ON l.k = s.k AND l.s = x.s AND l.n = l.l
+rows 1
+5,a,5
+
+SELECT s.k, x.s, l.l FROM Shops s JOIN Sales x ON x.k = s.k JOIN Lines l ON l.k = s.k AND (l.s = x.s OR l.n = x.n + 2)
+rows 6
+1,,2
+1,,1
+1,ab,1
+1,ab,\N
+3,abcdefgh,8
+5,a,5
+
+SELECT s.k, x.s, l.l FROM Shops s JOIN Sales x ON x.k = s.k AND s.n > 2 JOIN Lines l ON l.k = s.k AND l.s = x.s AND l.n = x.n
+rows 1
+5,a,5
+
+SELECT r.k, t.a, t.n, f.c FROM Roots r JOIN Twos t ON t.k = r.k AND t.n = 4 JOIN Fours f ON f.k = r.k AND f.b = t.b
+rows 1
+2,\N,4,\N
+
+SELECT s.k, x.s FROM Shops s LEFT JOIN Sales x ON x.k = s.k AND x.n = s.n
+rows 6
+\N,\N
+1,\N
+2,\N
+3,\N
+5,a
+8,\N
+
+SELECT s.k, x.s FROM Shops s LEFT JOIN Sales x ON x.k = s.k AND s.n = 2 AND s.k = x.k
+rows 9
+\N,\N
+1,
+1,a
+1,ab
+2,\N
+3,\N
+3,abcdefgh
+5,\N
+8,\N
