@@ -4941,3 +4941,451 @@ false,true,\x,\xff,,south
 SELECT MIN(n + m), MAX(n - m), SUM(n), MIN(m), MAX(n) FROM Items
 rows 1
 0,1,44,1,6
+
+# Joins of two tables of one family, whose rows are in one leaf: rows without a match, conditions beside the keys, a table twice, a child first.
+
+SELECT s.k, s.city, x.s, x.n FROM Shops s JOIN Sales x ON x.k = s.k
+rows 6
+1,\N,,3
+1,\N,a,\N
+1,\N,ab,3
+3,bern,\N,3
+3,bern,abcdefgh,4
+5,rome,a,5
+
+SELECT s.k, x.s, x.n FROM Shops s LEFT JOIN Sales x ON x.k = s.k
+rows 9
+\N,\N,\N
+1,,3
+1,a,\N
+1,ab,3
+2,\N,\N
+3,\N,3
+3,abcdefgh,4
+5,a,5
+8,\N,\N
+
+SELECT s.k, x.s, x.n FROM Shops s LEFT JOIN Sales x ON x.k = s.k AND x.n > s.n
+rows 8
+\N,\N,\N
+1,,3
+1,ab,3
+2,\N,\N
+3,\N,3
+3,abcdefgh,4
+5,\N,\N
+8,\N,\N
+
+SELECT a.k, c.c FROM Accts a LEFT JOIN Calls c ON c.k = a.k AND c.n > 5
+rows 11
+\N,\N
+-3,\N
+0,\N
+1,3
+1,2
+2,\N
+3,\N
+5,\N
+8,\N
+256,\N
+9223372036854775807,\N
+
+SELECT a.k, n.c, n.body FROM Accts a LEFT JOIN Notes n ON n.k = a.k AND n.body <> 'z'
+rows 11
+\N,\N,\N
+-3,\N,x
+0,0,y
+0,514,y
+1,\N,\N
+2,\N,\N
+3,\N,\N
+5,\N,\N
+8,1,x
+256,1,x
+9223372036854775807,\N,\N
+
+SELECT s.k, x.n FROM Shops s JOIN Sales x ON x.k = s.k AND DIV(6, x.n - 3) > 0
+refused 62
+
+SELECT s.k, x.n FROM Shops s JOIN Sales x ON x.k = s.k AND x.n <> 3 AND DIV(6, x.n - 3) > 0
+rows 2
+3,4
+5,5
+
+SELECT s.k, x.n FROM Shops s JOIN Sales x ON DIV(6, x.n - 1) > 0 AND x.k = s.k
+rows 5
+1,3
+1,3
+3,3
+3,4
+5,5
+
+SELECT s.k, x.s FROM Shops s LEFT JOIN Sales x ON x.k = s.k WHERE s.n = 2
+rows 6
+1,
+1,a
+1,ab
+3,\N
+3,abcdefgh
+8,\N
+
+SELECT s.k, x.s FROM Shops s LEFT JOIN Sales x ON x.k = s.k WHERE x.n > s.n OR x.k IS NULL
+rows 7
+\N,\N
+1,
+1,ab
+2,\N
+3,\N
+3,abcdefgh
+8,\N
+
+# The filter is an error at a row without a match, and then at none.
+
+SELECT s.k, x.s FROM Shops s LEFT JOIN Sales x ON x.k = s.k WHERE x.k IS NOT NULL OR DIV(1, s.n - 2) = 0
+refused 62
+
+SELECT s.k, x.s FROM Shops s LEFT JOIN Sales x ON x.k = s.k WHERE x.k IS NOT NULL OR DIV(6, s.n - 7) = -1
+rows 8
+\N,\N
+1,
+1,a
+1,ab
+3,\N
+3,abcdefgh
+5,a
+8,\N
+
+SELECT a.k, a.n, b.k, b.n FROM Roots a JOIN Roots b ON b.k = a.k AND b.n > 2
+rows 3
+1,3,1,3
+2,3,2,3
+4,5,4,5
+
+SELECT a.k, a.c, b.c FROM Calls a LEFT JOIN Calls b ON b.k = a.k AND b.c < a.c
+rows 15
+\N,2,\N
+\N,\N,\N
+-3,1,\N
+0,514,0
+0,0,\N
+0,\N,\N
+1,3,2
+1,3,1
+1,2,1
+1,1,\N
+2,1,\N
+5,4,2
+5,2,\N
+256,1,\N
+9223372036854775807,-1,\N
+
+SELECT x.k, x.s, s.city FROM Sales x JOIN Shops s ON s.k = x.k AND s.n < x.n
+rows 4
+1,,\N
+1,ab,\N
+3,\N,bern
+3,abcdefgh,bern
+
+# Joins of three tables of one family, each below the one before: keys in order, texts and NULL in them, keys that fall.
+
+SELECT s.k, x.s, l.l, l.n FROM Shops s JOIN Sales x ON x.k = s.k JOIN Lines l ON l.k = x.k AND l.s = x.s
+rows 5
+1,,2,\N
+1,,1,5
+1,ab,\N,6
+3,abcdefgh,8,7
+5,a,5,5
+
+SELECT r.n, t.a, t.b, f.c, f.n FROM Roots r JOIN Twos t ON t.k = r.k JOIN Fours f ON f.k = r.k AND f.a = t.a AND f.b = t.b
+rows 3
+2,0,0,0,6
+2,0,13,11,5
+3,11,13,11,4
+
+SELECT r.k, o.a, t.b, t.c FROM Roots r JOIN Ones o ON o.k = r.k JOIN Threes t ON t.k = o.k AND t.a = o.a
+rows 4
+0,0,\N,13
+0,0,0,0
+1,3337,3341,3341
+4,1,1,1
+
+SELECT a.region, c.c, i.i, i.m FROM Accts a JOIN Calls c ON c.k = a.k JOIN Items i ON i.k = c.k AND i.c = c.c
+rows 9
+south,1,1,4
+\N,514,\N,5
+\N,514,2,6
+north,3,1,\N
+north,3,2,6
+north,1,1,4
+south,4,4,5
+south,2,0,5
+north,1,\N,7
+
+SELECT COUNT(*) FROM Shops s JOIN Sales x ON x.k = s.k JOIN Lines l ON l.k = x.k AND l.s = x.s
+rows 1
+5
+
+SELECT x.s, SUM(l.n) FROM Shops s JOIN Sales x ON x.k = s.k JOIN Lines l ON l.k = s.k AND l.s = x.s GROUP BY x.s
+rows 4
+,5
+ab,6
+abcdefgh,7
+a,5
+
+SELECT s.k AS shop, l.l, l.n AS m FROM Shops s JOIN Sales x ON x.k = s.k JOIN Lines l ON l.k = x.k AND l.s = x.s ORDER BY m DESC, shop LIMIT 4
+rows 4
+3,8,7
+1,\N,6
+1,1,5
+5,5,5
+
+# The last condition equates too few columns: rows of the third table match rows of the second that they are not below.
+
+SELECT r.k, t.b, f.b, f.c FROM Roots r JOIN Twos t ON t.k = r.k JOIN Fours f ON f.k = t.k
+rows 6
+0,0,0,0
+0,0,13,11
+0,13,0,0
+0,13,13,11
+1,13,13,11
+2,11,11,\N
+
+SELECT r.k, t.b, f.b, f.c FROM Roots r JOIN Twos t ON t.k = r.k JOIN Fours f ON f.k = t.k AND f.a = t.a
+rows 5
+0,0,0,0
+0,0,13,11
+0,13,0,0
+0,13,13,11
+1,13,13,11
+
+SELECT s.k, x.s, l.s, l.l FROM Shops s JOIN Sales x ON x.k = s.k JOIN Lines l ON l.k = s.k
+rows 12
+1,,,2
+1,,,1
+1,,ab,\N
+1,a,,2
+1,a,,1
+1,a,ab,\N
+1,ab,,2
+1,ab,,1
+1,ab,ab,\N
+3,\N,abcdefgh,8
+3,abcdefgh,abcdefgh,8
+5,a,a,5
+
+SELECT s.k, x.s, l.s, l.n FROM Shops s JOIN Sales x ON x.k = s.k JOIN Lines l ON l.k = s.k AND l.n = x.n + 3
+rows 3
+1,,ab,6
+1,ab,ab,6
+3,abcdefgh,abcdefgh,7
+
+SELECT r.k, o.a, t.b, t.n FROM Roots r JOIN Ones o ON o.k = r.k JOIN Threes t ON t.k = o.k AND t.n = o.n
+rows 2
+0,0,\N,5
+4,1,1,5
+
+# Rows of the third table are beside those of the second, before them or after them.
+
+SELECT s.k, v.v, x.s FROM Shops s JOIN Visits v ON v.k = s.k JOIN Sales x ON x.k = s.k
+rows 3
+1,1,
+1,1,a
+1,1,ab
+
+SELECT s.k, x.s, v.v FROM Shops s JOIN Sales x ON x.k = s.k JOIN Visits v ON v.k = s.k
+rows 3
+1,,1
+1,a,1
+1,ab,1
+
+SELECT r.k, o.a, f.b, f.c FROM Roots r JOIN Ones o ON o.k = r.k JOIN Fours f ON f.k = o.k AND f.a = o.a
+rows 2
+0,0,0,0
+0,0,13,11
+
+SELECT r.k, f.b, f.c, o.n FROM Roots r JOIN Fours f ON f.k = r.k JOIN Ones o ON o.k = f.k AND o.a = f.a
+rows 2
+0,0,0,5
+0,13,11,5
+
+SELECT a.k, c.c, n.body FROM Accts a JOIN Calls c ON c.k = a.k JOIN Notes n ON n.k = c.k AND n.c = c.c
+rows 6
+0,514,y
+0,0,y
+1,3,z
+1,2,z
+5,4,\N
+256,1,x
+
+# A table twice among three.
+
+SELECT s.k, x.s, t.n FROM Shops s JOIN Sales x ON x.k = s.k JOIN Shops t ON t.k = s.k AND t.n < x.n
+rows 4
+1,,2
+1,ab,2
+3,\N,2
+3,abcdefgh,2
+
+SELECT s.k, x.s, y.s FROM Shops s JOIN Sales x ON x.k = s.k JOIN Sales y ON y.k = s.k AND y.n = x.n
+rows 7
+1,,
+1,,ab
+1,ab,
+1,ab,ab
+3,\N,\N
+3,abcdefgh,abcdefgh
+5,a,a
+
+SELECT s.city, t.city, x.s FROM Shops s JOIN Shops t ON t.k = s.k JOIN Sales x ON x.k = t.k
+rows 6
+\N,\N,
+\N,\N,a
+\N,\N,ab
+bern,bern,\N
+bern,bern,abcdefgh
+rome,rome,a
+
+# Further conditions of three tables: one is an error at a pair that is reached, one at a pair of a row that the first ON leaves out.
+
+SELECT s.k, x.s, l.l FROM Shops s JOIN Sales x ON x.k = s.k JOIN Lines l ON l.k = x.k AND l.s = x.s AND l.n > x.n + s.n
+rows 2
+1,ab,\N
+3,abcdefgh,8
+
+SELECT s.k, x.s, l.l FROM Shops s JOIN Sales x ON x.k = s.k AND x.n >= 3 JOIN Lines l ON l.k = x.k AND l.s = x.s AND DIV(10, l.n - 6) > 0
+refused 62
+
+SELECT s.k, x.s, l.l FROM Shops s JOIN Sales x ON x.k = s.k AND x.n > 3 JOIN Lines l ON l.k = x.k AND l.s = x.s AND DIV(10, l.n - 6) > 0
+rows 1
+3,abcdefgh,8
+
+SELECT s.k, x.s, l.l FROM Shops s JOIN Sales x ON x.k = s.k AND x.n > 3 JOIN Lines l ON DIV(10, l.n - 6) > 0 AND l.k = x.k AND l.s = x.s
+rows 1
+3,abcdefgh,8
+
+SELECT s.k, x.s, l.l FROM Shops s JOIN Sales x ON x.k = s.k AND DIV(10, x.n - 4) > 0 JOIN Lines l ON l.k = x.k AND l.s = x.s
+refused 62
+
+SELECT s.k, x.s, l.l FROM Shops s JOIN Sales x ON x.k = s.k JOIN Lines l ON l.k = x.k AND l.s = x.s WHERE DIV(10, l.n - 7) > 0
+refused 62
+
+SELECT s.k, x.s, l.l FROM Shops s JOIN Sales x ON x.k = s.k JOIN Lines l ON l.k = x.k AND l.s = x.s WHERE s.n = 5 AND DIV(10, l.n - 7) < 0
+rows 1
+5,a,5
+
+# WHERE of each of three tables.
+
+SELECT s.k, x.s, l.l FROM Shops s JOIN Sales x ON x.k = s.k JOIN Lines l ON l.k = x.k AND l.s = x.s WHERE s.n >= 2 AND s.city IS NOT NULL
+rows 2
+3,abcdefgh,8
+5,a,5
+
+SELECT s.k, x.s, l.l FROM Shops s JOIN Sales x ON x.k = s.k JOIN Lines l ON l.k = x.k AND l.s = x.s WHERE x.s > '' AND x.n <> 5
+rows 2
+1,ab,\N
+3,abcdefgh,8
+
+SELECT s.k, x.s, l.l FROM Shops s JOIN Sales x ON x.k = s.k JOIN Lines l ON l.k = x.k AND l.s = x.s WHERE l.n = 5 OR l.l IS NULL
+rows 3
+1,,1
+1,ab,\N
+5,a,5
+
+SELECT s.k, x.s, l.l FROM Shops s JOIN Sales x ON x.k = s.k JOIN Lines l ON l.k = x.k AND l.s = x.s WHERE s.city = 'bern' AND x.n > 3 AND l.n > 5
+rows 1
+3,abcdefgh,8
+
+# LEFT JOIN in the middle of three tables, at the end, and at both.
+
+SELECT s.k, x.s, l.l FROM Shops s LEFT JOIN Sales x ON x.k = s.k JOIN Lines l ON l.k = s.k AND l.s = x.s
+rows 5
+1,,2
+1,,1
+1,ab,\N
+3,abcdefgh,8
+5,a,5
+
+SELECT s.k, x.s, l.l FROM Shops s JOIN Sales x ON x.k = s.k LEFT JOIN Lines l ON l.k = s.k AND l.s = x.s
+rows 7
+1,,2
+1,,1
+1,a,\N
+1,ab,\N
+3,\N,\N
+3,abcdefgh,8
+5,a,5
+
+SELECT s.k, x.s, l.l FROM Shops s LEFT JOIN Sales x ON x.k = s.k LEFT JOIN Lines l ON l.k = s.k AND l.s = x.s
+rows 10
+\N,\N,\N
+1,,2
+1,,1
+1,a,\N
+1,ab,\N
+2,\N,\N
+3,\N,\N
+3,abcdefgh,8
+5,a,5
+8,\N,\N
+
+SELECT s.k, x.s FROM Shops s LEFT JOIN Sales x ON x.k = s.k LEFT JOIN Lines l ON l.k = s.k AND l.s = x.s WHERE l.k IS NULL AND s.n = 2
+rows 3
+1,a
+3,\N
+8,\N
+
+# The last condition equates columns alone, one twice, or says more: columns of one side, an OR, columns outside the keys.
+
+SELECT s.k, x.s, l.l FROM Shops s JOIN Sales x ON x.k = s.k JOIN Lines l ON l.k = x.k AND l.k = s.k AND l.s = x.s
+rows 5
+1,,2
+1,,1
+1,ab,\N
+3,abcdefgh,8
+5,a,5
+
+SELECT s.k, x.s, l.l FROM Shops s JOIN Sales x ON x.k = s.k JOIN Lines l ON l.k = s.k AND l.s = x.s AND x.n = s.n
+rows 1
+5,a,5
+
+SELECT s.k, x.s, l.l FROM Shops s JOIN Sales x ON x.k = s.k JOIN Lines l ON l.k = s.k AND l.s = x.s AND l.n = l.l
+rows 1
+5,a,5
+
+SELECT s.k, x.s, l.l FROM Shops s JOIN Sales x ON x.k = s.k JOIN Lines l ON l.k = s.k AND (l.s = x.s OR l.n = x.n + 2)
+rows 6
+1,,2
+1,,1
+1,ab,1
+1,ab,\N
+3,abcdefgh,8
+5,a,5
+
+SELECT s.k, x.s, l.l FROM Shops s JOIN Sales x ON x.k = s.k AND s.n > 2 JOIN Lines l ON l.k = s.k AND l.s = x.s AND l.n = x.n
+rows 1
+5,a,5
+
+SELECT r.k, t.a, t.n, f.c FROM Roots r JOIN Twos t ON t.k = r.k AND t.n = 4 JOIN Fours f ON f.k = r.k AND f.b = t.b
+rows 1
+2,\N,4,\N
+
+SELECT s.k, x.s FROM Shops s LEFT JOIN Sales x ON x.k = s.k AND x.n = s.n
+rows 6
+\N,\N
+1,\N
+2,\N
+3,\N
+5,a
+8,\N
+
+SELECT s.k, x.s FROM Shops s LEFT JOIN Sales x ON x.k = s.k AND s.n = 2 AND s.k = x.k
+rows 9
+\N,\N
+1,
+1,a
+1,ab
+2,\N
+3,\N
+3,abcdefgh
+5,\N
+8,\N
