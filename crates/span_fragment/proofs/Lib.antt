@@ -3,3 +3,4 @@ mod Ending
 mod LastJoin
 mod Running
 mod Fronts
+mod LentDirectories

@@ -2,7 +2,9 @@
 #![tactic(auto)]
 
 mod directory;
+mod front;
 mod joined;
+mod lent;
 pub mod piece;
 mod rooted;
 pub mod run;

@@ -12,7 +12,6 @@ ghost use Rattle.span_fragment.specs.Pieces.{IsPieceOf};
 
 use super::directory::rows_of_leaf;
 use super::piece::Piece;
-use super::short::leaf_entries;
 use span_algebra::distinct::{distinct_part, distinct_table};
 use span_algebra::ordered::{order_part, ordered_table};
 use span_algebra::plain::grouped_table;
@@ -96,8 +95,7 @@ fn give_rows(
     if let Some(table) = only_table(leaf) {
         return rows_of_table(alloc, schema, leaf, table, snapshot);
     }
-    let entries = leaf_entries(alloc, schema, leaf.tables.as_slice(), snapshot)?;
-    rows_of_leaf(alloc, schema, leaf, entries.as_slice())
+    rows_of_leaf(alloc, schema, leaf, snapshot)
 }
 
 /// What a leaf gives on the rows of a part of its range, which a snapshot lends. Where the query above groups all rows of the leaf, or puts

@@ -1,18 +1,18 @@
 //! The entries of a snapshot that may be rows of a leaf's tables: those with longer keys are passed over.
-ghost use Rattle.std.specs.Prelude.{◌≡◌, IfOk, map};
+ghost use Rattle.std.specs.Prelude.{◌≡◌, ◌++◌, OnOk, map};
 ghost use Rattle.std.specs.List.{AllByRecursion};
 ghost use Rattle.span_schema.specs.Numbers.{IsTable};
 ghost use Rattle.span_shard.specs.Reading.{entry_row};
-ghost use Rattle.span_rowreader.specs.Longest.{AreLongest, HaveShortKeys};
+ghost use Rattle.span_rowreader.specs.Longest.{AreLongest};
 
 use span_rowreader::longest::longest_key;
 use span_schema::schema::Schema;
 use span_shard::shard::Entry;
-use span_shard::snapshot::Snapshot;
-use std::alloc::{AllocError, Global};
+use span_shard::snapshot::ShortRows;
+use std::alloc::AllocError;
 
 /// A number of bytes that no coded key of the tables exceeds.
-fn longest_of(schema: &Schema, tables: &[usize]) -> usize
+pub(crate) fn longest_of(schema: &Schema, tables: &[usize]) -> usize
     requires { AllByRecursion (IsTable schema.now) tables.now }
     ensures { AreLongest schema.now tables.now result }
 {
@@ -26,20 +26,15 @@ fn longest_of(schema: &Schema, tables: &[usize]) -> usize
     most
 }
 
-/// The entries of a snapshot that may be rows of the tables.
-pub(crate) fn leaf_entries<'a>(
-    alloc: Global,
-    schema: &Schema,
-    tables: &[usize],
-    snapshot: Snapshot<'a>,
-) -> Result<Vec<Entry<'a>>, AllocError>
-    requires { AllByRecursion (IsTable schema.now) tables.now }
-    ensures { IfOk result (λ es. HaveShortKeys schema.now tables.now snapshot.entry (map entry_row es.items)) }
+/// Adds the rows that are left of a snapshot to a list.
+pub(crate) fn add_entries<'a>(
+    rows: ShortRows<'a>,
+    entries: &mut Vec<Entry<'a>>,
+) -> Result<(), AllocError>
+    ensures { OnOk result (map entry_row entries.new.items ≡ map entry_row entries.old.items ++ rows.entry) }
 {
-    let most = longest_of(schema, tables);
-    let mut entries = Vec::new(alloc);
-    for entry in snapshot.with_short_keys(most) {
+    for entry in rows {
         entries.push(entry)?;
     }
-    Ok(entries)
+    Ok(())
 }
