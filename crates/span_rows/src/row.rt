@@ -176,6 +176,21 @@ fn is_comparison_met(condition: &Expr, left: &[Value], right: &[Value]) -> Optio
     }
 }
 
+/// Whether a column or a literal lies between two others at a row in two parts, where all three are numbers. None where the condition has another
+/// form, or one of them is no number.
+#[inline(never)]
+fn is_between_met(condition: &Expr, left: &[Value], right: &[Value]) -> Option<bool>
+    ensures { IfSome result (λ met. val (left.now ++ right.now) condition.now ≡ Val (value.Bool met)) }
+{
+    let Expr::Between(operand, low, high) = condition else {
+        return None;
+    };
+    let number = number_of(operand.get(), left, right)?;
+    let low = number_of(low.get(), left, right)?;
+    let high = number_of(high.get(), left, right)?;
+    Some(low <= number && number <= high)
+}
+
 /// Whether a column of a row is NULL, as it is where the row has no such place.
 fn is_null_at(row: &[Value], place: usize) -> bool
     ensures { result ≡ is_null (operators.column_of row.now place) }
@@ -225,8 +240,8 @@ fn is_negation_met(operand: &Expr, left: &[Value], right: &[Value]) -> Option<bo
     Some(!met)
 }
 
-/// Whether a comparison, a test for NULL, or NOT of one is TRUE at a row in two parts. None where the condition has another form, or an
-/// operand of a comparison is NULL.
+/// Whether a comparison, a BETWEEN of numbers, a test for NULL, or NOT of a comparison or a test is TRUE at a row in two parts. None where the
+/// condition has another form, or an operand of a comparison is NULL.
 #[inline(always)]
 fn is_form_met(condition: &Expr, left: &[Value], right: &[Value]) -> Option<bool>
     ensures { IfSome result (λ met. val (left.now ++ right.now) condition.now ≡ Val (value.Bool met)) }
@@ -234,6 +249,7 @@ fn is_form_met(condition: &Expr, left: &[Value], right: &[Value]) -> Option<bool
     match condition {
         Expr::IsNull(_) => is_null_test_met(condition, left, right),
         Expr::Not(operand) => is_negation_met(operand.get(), left, right),
+        Expr::Between(_, _, _) => is_between_met(condition, left, right),
         _ => is_comparison_met(condition, left, right),
     }
 }
@@ -307,11 +323,12 @@ pub fn is_met(alloc: Global, condition: &Expr, row: &[Value]) -> Result<bool, Fa
     is_true(alloc, condition, row)
 }
 
-/// The value of an expression at the row, the caller's own. The error is an arithmetic error, or out of memory.
+/// The value of an expression at the row, the caller's own. A column is copied with no walk over an expression's tree. The error is an
+/// arithmetic error, or out of memory.
 pub fn value_at(alloc: Global, expr: &Expr, row: &[Value]) -> Result<Value, Failure>
     ensures { Gives result (value_of (val row.now expr.now)) }
 {
-    match evaluate(alloc, expr, row)?.into_value(alloc) {
+    match operand_value(alloc, expr, row)?.into_value(alloc) {
         Ok(value) => Ok(value),
         Err(_) => Err(Failure::OutOfMemory),
     }
