@@ -1,17 +1,17 @@
 -- The columns that leave a leaf: they are among those that it reads, and what is left of the block above it reads no others.
-use Rattle.std.proofs.Common.{◌≡◌, ◌∙◌, ℕ, zero, suc, ◌+◌, ◌≤◌, ◌==◌, Bool, true, false, not, ◌&&◌, List, [], ◌∷◌, ◌++◌, map, take, drop, length, Option, None, refl, ap, sym, subst, arith}
+use Rattle.std.proofs.Common.{◌≡◌, ◌∙◌, ℕ, zero, suc, ◌+◌, ◌≤◌, ◌==◌, Bool, true, false, not, ◌&&◌, List, [], ◌∷◌, ◌++◌, map, take, drop, length, Option, None, refl, ap, sym, arith}
 use Rattle.std.specs.Prelude.{if◌then◌else◌}
 use Rattle.std.specs.List.{list_all, range_with_len}
 use Rattle.std.proofs.lemmas.Bool.{and_from, and_parts}
 use Rattle.span_expr.specs.declared.expr.Expr.{Expr}
 use Rattle.span_query.specs.declared.query.Block.{Block}
 use Rattle.span_query.specs.declared.query.Join.{Join}
-use Rattle.span_query.specs.Rows.{Row, Rows}
-use Rattle.span_columns.specs.Picks.{picked, mask_among, pick_rows}
+use Rattle.span_query.specs.Rows.{Row}
+use Rattle.span_columns.specs.Picks.{picked, mask_among}
 use Rattle.span_columns.specs.Reads.{has_place, is_not, is_read, is_part, condition_reads, on_reads, selection_reads, block_reads, filter_above, block_above}
 use Rattle.span_leaves.specs.Leaves.{widths, reads_of, kept_of}
 use Rattle.span_leaves.proofs.Extents.{all_dropped}
-use Rattle.span_leaves.proofs.Reading.{Covers, ByPlace, block_by, has_place-range}
+use Rattle.span_leaves.proofs.Reading.{Covers, block_by, has_place-range}
 
 -- ---- masks of which one is part of the other
 

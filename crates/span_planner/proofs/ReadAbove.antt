@@ -1,6 +1,6 @@
 -- The query above the leaves of a plan reads within their masks.
-use Rattle.std.proofs.Common.{◌≡◌, ◌∙◌, ℕ, zero, suc, ◌+◌, ◌==◌, ◌≤◌, Bool, true, false, ◌&&◌, List, [], ◌∷◌, ◌++◌, map, take, drop, length, replicate, Option, None, refl, ap, sym, subst, arith}
-use Rattle.std.specs.Prelude.{flat_map, if◌then◌else◌}
+use Rattle.std.proofs.Common.{◌≡◌, ◌∙◌, ℕ, zero, suc, ◌+◌, ◌==◌, ◌≤◌, Bool, true, ◌&&◌, List, [], ◌∷◌, ◌++◌, map, take, drop, length, replicate, refl, ap, sym, subst, arith}
+use Rattle.std.specs.Prelude.{flat_map}
 use Rattle.std.specs.List.{list_all}
 use Rattle.std.proofs.lemmas.Bool.Decides.{nat_tests}
 use Rattle.std.proofs.lemmas.Bool.{and_from, and_parts, eq-eqb}
