@@ -1,5 +1,6 @@
 mod Directories
 mod Ending
 mod LastJoin
+mod KeptRows
 mod Running
 mod Fronts

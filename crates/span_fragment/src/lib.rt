@@ -3,6 +3,7 @@
 
 mod directory;
 mod joined;
+mod kept;
 pub mod piece;
 mod rooted;
 pub mod run;
