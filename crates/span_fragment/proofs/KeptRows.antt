@@ -13,7 +13,7 @@ use Rattle.span_columns.specs.declared.leaf.Leaf.{Leaf}
 use Rattle.span_columns.specs.Picks.{picked, mask_among, pick_rows}
 use Rattle.span_columns.specs.Reads.{is_part}
 use Rattle.span_leaves.proofs.Parts.{part_all}
-use Rattle.span_tablescan.specs.Given.{rows_given, picked_given, kept_given, IsAddedOn, IsKeptOn, AreKeptAdded}
+use Rattle.span_tablescan.specs.Given.{rows_given, picked_given, IsAddedOn, AreKeptAdded}
 
 where_picked : (ms : List Bool) (row : Row) → values_where ms row ≡ picked ms row
 where_picked [] row = refl

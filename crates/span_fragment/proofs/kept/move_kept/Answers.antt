@@ -1,4 +1,4 @@
-use Rattle.std.proofs.Common.{◌≡◌, ◌∙◌, ◌++◌, Bool, List, map, ap, subst, sym}
+use Rattle.std.proofs.Common.{◌∙◌, ◌++◌, Bool, List, map, ap}
 use Rattle.std.proofs.lemmas.Result.{on_ok_weaker}
 use Rattle.span_query.specs.Rows.{Row}
 use Rattle.span_rows.specs.Masks.{values_where}
