@@ -116,6 +116,7 @@ narrow_leaf width leaf = record {
   filter = option_map (moved (rank leaf.reads)) leaf.filter;
   range = leaf.range;
   reads = leaf.reads;
+  kept = leaf.kept;
 }
 
 -- tables, each of whose rows has the columns alone that its mask has

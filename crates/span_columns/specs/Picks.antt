@@ -17,6 +17,13 @@ picked_width [] = 0
 picked_width (true ∷ ms) = suc (picked_width ms)
 picked_width (false ∷ ms) = picked_width ms
 
+-- a mask at the places alone that another has
+abbrev pub mask_among : List Bool → List Bool → List Bool
+mask_among [] ms = []
+mask_among (w ∷ ws) [] = []
+mask_among (true ∷ ws) (m ∷ ms) = m ∷ mask_among ws ms
+mask_among (false ∷ ws) (m ∷ ms) = mask_among ws ms
+
 -- rows, each with its values at the places that the mask has, or the fault
 abbrev pub pick_rows : List Bool → Rows → Rows
 pick_rows ms = option_map (map (picked ms))

@@ -1,5 +1,5 @@
 -- Which columns of a row are read by the expressions of a query, and queries that read only what masks of their tables have.
-use Rattle.std.specs.Prelude.{ℕ, zero, suc, ◌+◌, ◌==◌, Bool, true, not, ◌&&◌, List, [], ◌∷◌, ◌++◌, length, take, drop, map, flat_map, replicate, slice_get, Option, Some, None}
+use Rattle.std.specs.Prelude.{ℕ, zero, suc, ◌+◌, ◌==◌, Bool, true, false, not, ◌&&◌, List, [], ◌∷◌, ◌++◌, length, take, drop, map, flat_map, replicate, slice_get, Option, Some, None, if◌then◌else◌}
 use Rattle.std.specs.List.{list_all}
 use Rattle.std.specs.Option.{unwrap_or}
 use Rattle.span_expr.specs.declared.expr.Expr.{Expr}
@@ -61,6 +61,23 @@ is_not place k = not (k == place)
 abbrev pub is_read : {Q : Type 0} → Block Q → ℕ → Bool
 is_read b place = not (block_reads (is_not place) b)
 
+-- ---- what is left of a block above its first leaf, which takes the first joins
+
+-- no WHERE where the leaf takes all joins, since the leaf evaluates it
+abbrev pub filter_above : {Q : Type 0} → Block Q → ℕ → Option Expr
+filter_above b len = if len == length b.joins then None else b.filter
+
+-- the block without these joins, whose ONs the leaf evaluates
+abbrev pub block_above : {Q : Type 0} → Block Q → ℕ → Block Q
+block_above b len = record {
+  from = b.from;
+  joins = drop len b.joins;
+  filter = filter_above b len;
+  grouping = b.grouping;
+  outputs = b.outputs;
+  is_distinct = b.is_distinct;
+}
+
 -- ---- leaves
 
 -- the number of columns of further tables of a leaf
@@ -79,10 +96,18 @@ leaf_reads test joins filter = list_all (leaf_on_reads test) joins && condition_
 abbrev pub reads_own : Leaf → Bool
 reads_own leaf = leaf_reads (has_place leaf.reads) leaf.joins leaf.filter
 
--- the masks of leaves, by the numbers that the query above them has for them
+-- two masks of the same columns, of which the first has none that the other does not have
+abbrev pub is_part : List Bool → List Bool → Bool
+is_part [] [] = true
+is_part [] (r ∷ rs) = false
+is_part (k ∷ ks) [] = false
+is_part (true ∷ ks) (r ∷ rs) = r && is_part ks rs
+is_part (false ∷ ks) (r ∷ rs) = is_part ks rs
+
+-- the columns that leave leaves, by the numbers that the query above them has for them
 abbrev pub masks_of : List Leaf → ℕ → List Bool
 masks_of leaves zero = []
-masks_of leaves (suc n) = unwrap_or (slice_get (map (λ (l : Leaf). l.reads) leaves) n) []
+masks_of leaves (suc n) = unwrap_or (slice_get (map (λ (l : Leaf). l.kept) leaves) n) []
 
 -- the masks of the further tables of a leaf: the parts of a mask
 abbrev pub join_masks : List LeafJoin → List Bool → List (List Bool)

@@ -29,6 +29,8 @@ pub struct Leaf {
     pub range: KeyRange,
     /// The columns of its rows: TRUE at those that something reads, a condition or ON of the leaf or the query above the leaves.
     pub reads: Seq<bool>,
+    /// The columns of its rows that leave it: TRUE at those that the query above the leaves reads.
+    pub kept: Seq<bool>,
 }
 
 /// How a query is answered: first its leaves, then the query whose tables are the rows of the leaves.

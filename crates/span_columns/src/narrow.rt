@@ -23,7 +23,7 @@ fn leaf_at(leaves: &[Leaf], place: usize) -> Option<&Leaf>
     leaves.get(place)
 }
 
-/// The columns that the leaf with this number gives; the first leaf has number 1.
+/// The columns that leave the leaf with this number; the first leaf has number 1.
 fn mask_of(leaves: &[Leaf], number: usize) -> &[bool]
     ensures { result.now ≡ masks_of leaves.now number }
 {
@@ -31,7 +31,7 @@ fn mask_of(leaves: &[Leaf], number: usize) -> &[bool]
         return &[];
     }
     match leaf_at(leaves, number - 1) {
-        Some(leaf) => leaf.reads.as_slice(),
+        Some(leaf) => leaf.kept.as_slice(),
         None => &[],
     }
 }

@@ -1,5 +1,5 @@
 //! Which columns of its FROM a block reads: what an expression does not read is never looked at in a leaf's rows.
-ghost use Rattle.std.specs.Prelude.{◌≡◌, map};
+ghost use Rattle.std.specs.Prelude.{◌≡◌, ◌≤◌, length, map};
 ghost use Rattle.std.specs.List.{list_all};
 ghost use Rattle.std.specs.Option.{option_map};
 ghost use Rattle.span_expr.specs.Meaning.{or_true, is_total_arm};
@@ -155,6 +155,28 @@ fn selection_avoids(grouping: &Option<Grouping>, outputs: &[Expr], place: usize)
         }
         None => outputs_avoid(outputs, place),
     }
+}
+
+/// Whether the WHERE that is left of a block above a leaf, which takes this many joins, does not read the column at a place.
+fn filter_avoids(block: &Block<BoundQuery>, count: usize, place: usize) -> bool
+    ensures { result ≡ spec.condition_reads (spec.is_not place) (spec.filter_above block.now count) }
+{
+    if count == block.joins.len() {
+        return true;
+    }
+    condition_avoids(&block.filter, place)
+}
+
+/// Whether what is left of a block above a leaf, which takes this many joins, reads the column at a place of its FROM.
+pub fn is_read_above(block: &Block<BoundQuery>, count: usize, place: usize) -> bool
+    requires { count ≤ length block.now.joins }
+    ensures { result ≡ spec.is_read (spec.block_above block.now count) place }
+{
+    let joins = block.joins.as_slice();
+    let is_avoided = ons_avoid(&joins[count..], place)
+        && filter_avoids(block, count, place)
+        && selection_avoids(&block.grouping, block.outputs.as_slice(), place);
+    !is_avoided
 }
 
 /// Whether a block reads the column at a place of its FROM.

@@ -11,9 +11,9 @@ use Rattle.span_fragment.specs.declared.piece.Piece.{Piece}
 use Rattle.span_rowreader.specs.Meaning.{whole_table}
 use Rattle.span_rowreader.specs.Entries.{key_row}
 
--- The piece has the rows that the leaf gives where its tables have the rows that the entries are, each with the columns alone that something reads,
+-- The piece has the rows that the leaf gives where its tables have the rows that the entries are, each with the columns alone that leave it,
 -- or the fault.
 abbrev pub IsPieceOf : List Table → Leaf → List KeyRow → Piece → Type 0
 IsPieceOf schema leaf entries piece =
     (rows : List TableRow) → AreTyped schema rows → entries ≡ map (key_row schema) rows
-    → piece.rows ≡ pick_rows leaf.reads (leaf_rows leaf (map (whole_table schema rows) leaf.tables))
+    → piece.rows ≡ pick_rows leaf.kept (leaf_rows leaf (map (whole_table schema rows) leaf.tables))

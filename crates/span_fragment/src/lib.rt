@@ -4,6 +4,7 @@
 mod directory;
 mod front;
 mod joined;
+mod kept;
 mod lent;
 pub mod piece;
 mod rooted;

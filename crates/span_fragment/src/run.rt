@@ -7,7 +7,7 @@ ghost use Rattle.span_rows.specs.Answers.{Gives};
 ghost use Rattle.span_algebra.specs.BlockMeaning.{GroupsTable};
 ghost use Rattle.span_leaves.specs.Maskable.{IsMaskable};
 ghost use Rattle.span_rowreader.specs.Entries.{AreNoRows};
-ghost use Rattle.span_tablescan.specs.Given.{IsGivenOn};
+ghost use Rattle.span_tablescan.specs.Given.{IsKeptOn};
 ghost use Rattle.span_fragment.specs.Pieces.{IsPieceOf};
 
 use super::directory::rows_of_leaf;
@@ -79,7 +79,7 @@ fn only_table(leaf: &Leaf) -> Option<usize>
     }
 }
 
-/// The rows of a leaf on the rows that a snapshot lends, of the columns alone that its mask has, or the fault. `OutOfMemory`, where
+/// The rows of a leaf on the rows that a snapshot lends, of the columns alone that leave it, or the fault. `OutOfMemory`, where
 /// these are rows of the schema's tables.
 fn give_rows(
     alloc: Global,
@@ -89,7 +89,7 @@ fn give_rows(
 ) -> Result<Result<RowList, Failure>, Refusal>
     requires tables { AllByRecursion (IsTable schema.now) leaf.now.tables }
     requires maskable { IsMaskable schema.now leaf.now }
-    ensures ok { IfOk result (λ found. IsGivenOn schema.now leaf.now snapshot.entry found) }
+    ensures ok { IfOk result (λ found. IsKeptOn schema.now leaf.now snapshot.entry found) }
     ensures refused { IfErr result (λ why. (why ≡ Refusal.OutOfMemory) ⊎ AreNoRows schema.now snapshot.entry) }
 {
     if let Some(table) = only_table(leaf) {

@@ -9,3 +9,4 @@ pub mod Ranging
 pub mod Extents
 pub mod Reading
 pub mod Picked
+pub mod Parts

@@ -129,7 +129,7 @@ selection_by (Some g) outputs =
     (by_list (λ t p. t p) g.keys (all_whole (λ p. ByPlace (λ t. t p)) by_place g.keys))
     (by_list aggregate_reads g.aggregates (all_whole (λ a. ByPlace (λ t. aggregate_reads t a)) aggregate_by g.aggregates))
 
-block_by : {Q : Type 0} (b : Block Q) → ByPlace (λ t. block_reads t b)
+pub block_by : {Q : Type 0} (b : Block Q) → ByPlace (λ t. block_reads t b)
 block_by {Q} b =
     by_both (λ t. list_all (on_reads t) b.joins && condition_reads t b.filter) (λ t. selection_reads t b.grouping b.outputs)
     (by_both (λ t. list_all (on_reads t) b.joins) (λ t. condition_reads t b.filter)

@@ -15,7 +15,7 @@ use Rattle.span_columns.specs.declared.leaf.LeafJoin.{LeafJoin}
 use Rattle.span_columns.specs.declared.leaf.Leaf.{Leaf}
 use Rattle.span_leaves.specs.Conditions.{equates_all, pushable, conjuncts_on}
 use Rattle.span_leaves.specs.Ranges.{leaf_range}
-use Rattle.span_columns.specs.Reads.{is_read}
+use Rattle.span_columns.specs.Reads.{is_read, block_above}
 
 -- ---- tables
 
@@ -68,6 +68,10 @@ widths (j ∷ joins) = j.width + widths joins
 abbrev pub reads_of : {Q : Type 0} → ℕ → Block Q → List Bool
 reads_of width b = map (is_read b) (range_with_len 0 (width + widths b.joins))
 
+-- the first columns of a FROM, those of a leaf that takes the first joins: TRUE at those that are read by what is left of the block above it
+abbrev pub kept_of : {Q : Type 0} → Block Q → ℕ → ℕ → List Bool
+kept_of b len width = map (is_read (block_above b len)) (range_with_len 0 width)
+
 -- Where these items are the whole FROM, the leaf evaluates the whole WHERE.
 abbrev pub first_filter : {Q : Type 0} → Block Q → ℕ → ℕ → List Expr → Option Expr
 first_filter b len width es = if len == length b.joins then b.filter else all_true (conjuncts_on 0 width es)
@@ -80,12 +84,13 @@ first_leaf schema tables b table len = record {
   filter = first_filter b len (width_of schema table + widths (take len b.joins)) (pushable b);
   range = leaf_range schema table 0 (pushable b);
   reads = take (width_of schema table + widths (take len b.joins)) (reads_of (width_of schema table) b);
+  kept = kept_of b len (width_of schema table + widths (take len b.joins));
 }
 
 -- ---- the other leaves
 
 -- A table alone, whose columns begin at a place: its rows are left out by the conjuncts on its columns, which are evaluated at its own row. Which
--- columns of the FROM are read is handed in.
+-- columns of the FROM are read is handed in; those of the table leave the leaf, since the ON of its join and the WHERE are evaluated above it.
 abbrev pub table_leaf : List Table → ℕ → List Bool → ℕ → ℕ → List Expr → Leaf
 table_leaf schema table rs at width es = record {
   tables = table ∷ [];
@@ -93,6 +98,7 @@ table_leaf schema table rs at width es = record {
   filter = all_true (map (moved (λ place. place - at)) (conjuncts_on at (at + width) es));
   range = leaf_range schema table at es;
   reads = take width (drop at rs);
+  kept = take width (drop at rs);
 }
 
 -- no conjunct leaves out rows of the right side of a LEFT JOIN

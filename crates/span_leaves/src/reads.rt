@@ -1,9 +1,9 @@
 //! The columns of its FROM that a block reads, as masks.
-ghost use Rattle.std.specs.Prelude.{◌≡◌, ◌+◌, IfOk, take, drop};
-ghost use Rattle.span_leaves.specs.Leaves.{widths, reads_of};
+ghost use Rattle.std.specs.Prelude.{◌≡◌, ◌+◌, ◌≤◌, IfOk, length, take, drop};
+ghost use Rattle.span_leaves.specs.Leaves.{widths, reads_of, kept_of};
 
 use super::table::place_after;
-use span_columns::reads::is_read;
+use span_columns::reads::{is_read, is_read_above};
 use span_query::query::{Block, BoundQuery, Join};
 use span_value::seq::Seq;
 use std::alloc::{AllocError, Global};
@@ -34,6 +34,23 @@ pub fn reads_of(
         reads.push(is_read(block, place))?;
     }
     Ok(reads)
+}
+
+/// The columns of a leaf that takes this many joins of a block: TRUE at those that what is left of the block above it reads.
+pub(crate) fn kept_of(
+    alloc: Global,
+    block: &Block<BoundQuery>,
+    count: usize,
+    width: usize,
+) -> Result<Seq<bool>, AllocError>
+    requires { count ≤ length block.now.joins }
+    ensures { IfOk result (λ kept. kept ≡ kept_of block.now count width) }
+{
+    let mut kept = Vec::with_capacity(alloc, width)?;
+    for place in 0..width {
+        kept.push(is_read_above(block, count, place))?;
+    }
+    Ok(Seq::from_vec(kept))
 }
 
 /// Those of a number of columns from a place on.

@@ -34,9 +34,9 @@ rows_within schema db table range = map (declared_row schema) (filter (row_withi
 abbrev pub tables_within : List Table → List TableRow → List ℕ → KeyRange → List (List (List Value))
 tables_within schema db tables range = map (λ table. rows_within schema db table range) tables
 
--- what a leaf gives on the rows in a range: rows of the columns alone that something reads
+-- what a leaf gives on the rows in a range: rows of the columns alone that leave it
 abbrev pub leaf_within : List Table → List TableRow → Leaf → KeyRange → Rows
-leaf_within schema db leaf range = pick_rows leaf.reads (leaf_rows leaf (tables_within schema db leaf.tables range))
+leaf_within schema db leaf range = pick_rows leaf.kept (leaf_rows leaf (tables_within schema db leaf.tables range))
 
 -- what a plan gives on a database: the leaves on their ranges, and then the query above them
 abbrev pub plan_means : List Table → Plan → List TableRow → Rows

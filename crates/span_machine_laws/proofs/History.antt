@@ -66,7 +66,7 @@ module _ (understands : Understanding) (schema : List Table) (rules : MeetsRules
       → map (λ (l : Leaf). leaf_within schema a l l.range) leaves ≡ map (λ (l : Leaf). leaf_within schema b l l.range) leaves
   leaves_at_end m steps replies last s run reached reached_last a b e f [] ranged sealed = refl
   leaves_at_end m steps replies last s run reached reached_last a b e f (l ∷ ls) ranged sealed =
-      ap (λ (ts : List (List (List Value))). pick_rows l.reads (leaf_rows l ts) ∷ map (λ (k : Leaf). leaf_within schema a k k.range) ls)
+      ap (λ (ts : List (List (List Value))). pick_rows l.kept (leaf_rows l ts) ∷ map (λ (k : Leaf). leaf_within schema a k k.range) ls)
       (tables_at_end m steps replies last s run reached reached_last l.range sealed.0 (ranged_ends schema l ranged.0) a b e f l.tables)
       ∙ ap (λ (os : List rows.Rows). leaf_within schema b l l.range ∷ os) (leaves_at_end m steps replies last s run reached reached_last a b e f ls ranged.1 sealed.1)
 

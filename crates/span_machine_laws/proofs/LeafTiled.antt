@@ -159,13 +159,13 @@ module _ (schema : List Table) (rules : MeetsRules schema) (db : List TableRow) 
     -- THE CUT OF A RANGE: what a leaf gives on it is what it gives on the first piece, and then what it gives on the rest
     leaf_split : (leaf : Leaf) → IsPlanned schema leaf → leaf_within schema db leaf range ≡ append_results (leaf_within schema db leaf piece) (leaf_within schema db leaf later)
     leaf_split leaf is =
-        ap (pick_rows leaf.reads) (rows_split leaf is) ∙ pick_rows-append leaf.reads (leaf_rows leaf (tables_within schema db leaf.tables piece)) (leaf_rows leaf (tables_within schema db leaf.tables later))
+        ap (pick_rows leaf.kept) (rows_split leaf is) ∙ pick_rows-append leaf.reads (leaf_rows leaf (tables_within schema db leaf.tables piece)) (leaf_rows leaf (tables_within schema db leaf.tables later))
 
   -- ---- pieces that tile a range
 
   -- a leaf gives nothing on a range without keys
   leaf_of_none : (leaf : Leaf) → IsPlanned schema leaf → (range : KeyRange) → ((k : List ℕ) → is_within range k ≡ false) → leaf_within schema db leaf range ≡ Some []
-  leaf_of_none leaf is range none = ap (pick_rows leaf.reads) (
+  leaf_of_none leaf is range none = ap (pick_rows leaf.kept) (
       ap (λ (ts : List ℕ). leaf_rows leaf (tables_within schema db ts range)) is.tables
       ∙ ap (λ (rows : List TableRow). leaf_rows leaf (map (declared_row schema) rows ∷ tables_within schema db is.rest range)) (none_kept (row_within schema range) (λ r. none (code_of schema r)) (rows_of is.first db))
       ∙ no_rows leaf (tables_within schema db is.rest range))

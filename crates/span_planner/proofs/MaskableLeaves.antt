@@ -34,6 +34,7 @@ maskable schema leaf is own = record {
   stated = rooted_stated schema is.first (width_of schema is.first) leaf.joins is.rest is.rooted;
   reads_len = is.reads_len;
   own = own;
+  part = is.part;
 }
 
 -- each leaf of a plan is maskable, where the sizes in the query are right

@@ -1,4 +1,4 @@
--- The law of a plan whose leaves give rows of the columns that are read.
+-- The law of a plan whose leaves give rows of the columns that the query above them reads.
 use Rattle.std.proofs.Common.{◌≡◌, ◌∙◌, ℕ, zero, suc, ◌+◌, Bool, true, List, [], ◌∷◌, ◌++◌, map, take, drop, length, Option, Some, None, refl, ap, sym, subst, add-one, arith}
 use Rattle.std.specs.Prelude.{slice_get, ◌<◌}
 use Rattle.std.specs.List.{AllByRecursion}
@@ -24,6 +24,7 @@ use Rattle.span_planner.proofs.Known.{leaves_known}
 use Rattle.span_planner.proofs.Masked.{wide_filter_where, wide_join_rows}
 use Rattle.span_planner.proofs.PickedAbove.{above_picked}
 use Rattle.span_leaves.proofs.Narrowing.{IsWide}
+use Rattle.span_leaves.proofs.Parts.{part_length}
 use Rattle.span_planner.proofs.Planned.{AreRooted, IsPlanned}
 use Rattle.span_leaves.proofs.Pushing.{AreOfWidth}
 use Rattle.span_planner.proofs.Queries.{query_above}
@@ -44,12 +45,12 @@ rest_at [] (suc n) x rest is = absurd (let e : [] ≡ x ∷ rest = is in cc)
 rest_at (y ∷ xs) zero x rest is = let e : y ∷ xs ≡ x ∷ rest = is in cc
 rest_at (y ∷ xs) (suc n) x rest is = rest_at xs n x rest is
 
-masks_at : (all : List Leaf) (before : ℕ) (ls : List Leaf) → drop before (map (λ (l : Leaf). l.reads) all) ≡ map (λ (l : Leaf). l.reads) ls → MasksAt (masks_of all) before ls
+masks_at : (all : List Leaf) (before : ℕ) (ls : List Leaf) → drop before (map (λ (l : Leaf). l.kept) all) ≡ map (λ (l : Leaf). l.kept) ls → MasksAt (masks_of all) before ls
 masks_at all before [] is = tt {0}
 masks_at all before (l ∷ ls) is =
-    let masks : List (List Bool) = map (λ (l : Leaf). l.reads) all in (
-      ap (masks_of all) (add-one before) ∙ item_at masks before [] l.reads (map (λ (l : Leaf). l.reads) ls) is,
-      masks_at all (before + 1) ls (ap (λ (n : ℕ). drop n masks) (add-one before) ∙ rest_at masks before l.reads (map (λ (l : Leaf). l.reads) ls) is),
+    let masks : List (List Bool) = map (λ (l : Leaf). l.kept) all in (
+      ap (masks_of all) (add-one before) ∙ item_at masks before [] l.kept (map (λ (l : Leaf). l.kept) ls) is,
+      masks_at all (before + 1) ls (ap (λ (n : ℕ). drop n masks) (add-one before) ∙ rest_at masks before l.kept (map (λ (l : Leaf). l.kept) ls) is),
     )
 
 -- the query above the leaves of a plan reads within their masks
@@ -76,9 +77,9 @@ module _ (schema : List Table) (w : ℕ → List Row) (wide_tables : (t : ℕ) �
   wide_filtered n filter None wide = tt {0}
   wide_filtered n filter (Some rows) wide = wide_filter_where n filter rows wide
 
-  pub wide_leaf : (leaf : Leaf) → IsPlanned schema leaf → IsWide (length leaf.reads) (leaf_rows leaf (map w leaf.tables))
+  pub wide_leaf : (leaf : Leaf) → IsPlanned schema leaf → IsWide (length leaf.kept) (leaf_rows leaf (map w leaf.tables))
   wide_leaf leaf is =
-      subst (λ (n : ℕ). IsWide n (leaf_rows leaf (map w leaf.tables))) (sym is.reads_len)
+      subst (λ (n : ℕ). IsWide n (leaf_rows leaf (map w leaf.tables))) (sym (part_length leaf.kept leaf.reads is.part ∙ is.reads_len))
       (subst (λ (ts : List ℕ). IsWide (width_of schema is.first + leaf_widths leaf.joins) (leaf_rows leaf (map w ts))) (sym is.tables)
       (wide_filtered (width_of schema is.first + leaf_widths leaf.joins) leaf.filter (join_tables leaf.joins (map w is.rest) (w is.first))
       (wide_joins is.first (width_of schema is.first) leaf.joins is.rest is.rooted (w is.first) (wide_tables is.first))))
@@ -97,14 +98,14 @@ module _ (schema : List Table) (w : ℕ → List Row) (wide_tables : (t : ℕ) �
       agree give all (before + 1) ls (ap (λ (n : ℕ). drop n (map give all)) (add-one before) ∙ rest_at (map give all) before (give l) (map give ls) is) whole.1,
     )
 
-    wide_all : (give : Leaf → Rows) (ls : List Leaf) → AllByRecursion (IsPlanned schema) ls → AllByRecursion (GivesWhole give) ls → AllByRecursion (λ (l : Leaf). IsWide (length l.reads) (give l)) ls
+    wide_all : (give : Leaf → Rows) (ls : List Leaf) → AllByRecursion (IsPlanned schema) ls → AllByRecursion (GivesWhole give) ls → AllByRecursion (λ (l : Leaf). IsWide (length l.kept) (give l)) ls
     wide_all give [] known whole = tt {0}
-    wide_all give (l ∷ ls) known whole = (subst (IsWide (length l.reads)) (sym whole.0) (wide_leaf l known.0), wide_all give ls known.1 whole.1)
+    wide_all give (l ∷ ls) known whole = (subst (IsWide (length l.kept)) (sym whole.0) (wide_leaf l known.0), wide_all give ls known.1 whole.1)
 
     -- THE LAW OF A PLAN WITH PICKED ROWS: above its leaves, each of which gives the rows that it gives on whole tables, of the columns alone that
-    -- something reads, the narrowed query means what the query means on whole tables.
+    -- leave it, the narrowed query means what the query means on whole tables.
     pub query_above_picked : (q : BoundQuery) → is_sized schema tables q ≡ true → (give : Leaf → Rows) → AllByRecursion (GivesWhole give) (planned schema tables q).leaves
-        → meaning_over (given (map (λ (l : Leaf). pick_rows l.reads (give l)) (planned schema tables q).leaves)) (narrowed (masks_of (planned schema tables q).leaves) ((planned schema tables q).top 0)) ≡ meaning_over f0 q
+        → meaning_over (given (map (λ (l : Leaf). pick_rows l.kept (give l)) (planned schema tables q).leaves)) (narrowed (masks_of (planned schema tables q).leaves) ((planned schema tables q).top 0)) ≡ meaning_over f0 q
     query_above_picked q sized give whole =
         let leaves : List Leaf = (planned schema tables q).leaves in
         above_picked leaves give (wide_all give leaves (leaves_known schema tables keyed q sized) whole) ((planned schema tables q).top 0) (plan_within schema tables q sized)

@@ -31,13 +31,14 @@ use Rattle.span_columns.specs.declared.leaf.LeafJoin.{LeafJoin}
 use Rattle.span_columns.specs.declared.leaf.Leaf.{Leaf}
 use Rattle.span_leaves.specs.Conditions.{equates_all, have_total_ons, where_conjuncts, pushable, conjuncts_on}
 use Rattle.span_leaves.specs.Ranges.{KeyBound, is_of_type, bounds, bounds_by, range_by, narrowed, leaf_range}
-use Rattle.span_leaves.specs.Leaves.{table_of, width_of, root_places, is_joined_table, leaf_len, leaf_join, join_table, widths, reads_of, first_leaf, table_leaf, unless_left}
+use Rattle.span_leaves.specs.Leaves.{table_of, width_of, root_places, is_joined_table, leaf_len, leaf_join, join_table, widths, reads_of, kept_of, first_leaf, table_leaf, unless_left}
 use Rattle.span_leaves.specs.Results.{AreTotalJoins, IsRefusedBy, IsLost}
 use Rattle.span_planner.specs.Plans.{Planned, join_leaves, rest_leaves, leaves_from, block_leaves, planned}
-use Rattle.span_columns.specs.Reads.{is_read, leaf_widths}
+use Rattle.span_columns.specs.Reads.{is_read, is_part, leaf_widths}
 use Rattle.span_planner.specs.Sizes.{Shape, item_shape, is_sized_join, is_sized_block, shape, is_sized}
 use Rattle.span_leaves.proofs.Pushing.{is_left_out, column_of-after}
 use Rattle.span_leaves.proofs.Narrowing.{are_on, own, left_out_among, left_out-own}
+use Rattle.span_leaves.proofs.Parts.{part_own, kept_part}
 use Rattle.span_leaves.proofs.Bounding.{is_in_bounds, left_out_of_bounds}
 
 -- ---- what is known of a leaf
@@ -72,6 +73,7 @@ pub record IsPlanned (schema : List Table) (leaf : Leaf) : Type 0 where
   pub rooted : AreRooted schema first (width_of schema first) leaf.joins rest
   pub narrowed : (leaf.range ≡ family (root_of schema first)) ⊎ IsNarrowed schema first leaf
   pub reads_len : length leaf.reads ≡ width_of schema first + leaf_widths leaf.joins
+  pub part : is_part leaf.kept leaf.reads ≡ true
 
 -- ---- which columns are read
 
@@ -98,6 +100,10 @@ first_reads_len width n b =
     let split : widths (take n b.joins) + widths (drop n b.joins) ≡ widths b.joins = widths_split n b.joins in
     let all : length (reads_of width b) ≡ width + widths b.joins = reads_of_len width b in
     length-take-le (width + widths (take n b.joins)) (reads_of width b) (omega arith) ∙ ap (λ (m : ℕ). width + m) (sym (leaf_widths_of (take n b.joins)))
+
+pub first_part : {Q : Type 0} (width n : ℕ) (b : Block Q) → is_part (kept_of b n (width + widths (take n b.joins))) (take (width + widths (take n b.joins)) (reads_of width b)) ≡ true
+first_part width n b =
+    let split : widths (take n b.joins) + widths (drop n b.joins) ≡ widths b.joins = widths_split n b.joins in kept_part width n (width + widths (take n b.joins)) b (omega arith)
 
 -- ---- ranges
 
@@ -177,6 +183,7 @@ module _ (schema : List Table) (tables : List ℕ) where
       rooted = tt {0};
       narrowed = table_narrowed t rs at width es same (key_columns schema t) (key_places schema t) refl refl;
       reads_len = (let len : length (take width (drop at rs)) ≡ width = part_len rs at width fits in omega arith);
+      part = part_own (take width (drop at rs));
     }
 
     -- ---- the first leaf
@@ -334,6 +341,7 @@ module _ (schema : List Table) (tables : List ℕ) where
             rooted = leaf_rooted t (width_of schema t) b.joins sized;
             narrowed = first_leaf_narrowed (map_block plan_t b) t len b.filter refl (have_total_ons (planned_joins b.joins)) refl;
             reads_len = first_reads_len (width_of schema t) len (map_block plan_t b);
+            part = first_part (width_of schema t) len (map_block plan_t b);
           }
 
       from_planned : (b : Block T) (i : Item T) → KnowsItem i → (item_shape schema tables (map_item shape_t i)).is_sized ≡ true → AllByRecursion KnowsJoin b.joins → are_sized b.joins ≡ true → AllByRecursion (IsPlanned schema) (leaves_from schema tables (map_block plan_t b) (map_item plan_t i))

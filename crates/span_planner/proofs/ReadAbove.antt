@@ -1,6 +1,6 @@
 -- The query above the leaves of a plan reads within their masks.
-use Rattle.std.proofs.Common.{◌≡◌, ◌∙◌, ℕ, zero, suc, ◌+◌, ◌==◌, ◌≤◌, Bool, true, false, ◌&&◌, List, [], ◌∷◌, ◌++◌, map, take, drop, length, replicate, Option, None, refl, ap, sym, subst, arith}
-use Rattle.std.specs.Prelude.{flat_map, if◌then◌else◌}
+use Rattle.std.proofs.Common.{◌≡◌, ◌∙◌, ℕ, zero, suc, ◌+◌, ◌==◌, ◌≤◌, Bool, true, ◌&&◌, List, [], ◌∷◌, ◌++◌, map, take, drop, length, replicate, refl, ap, sym, subst, arith}
+use Rattle.std.specs.Prelude.{flat_map}
 use Rattle.std.specs.List.{list_all}
 use Rattle.std.proofs.lemmas.Bool.Decides.{nat_tests}
 use Rattle.std.proofs.lemmas.Bool.{and_from, and_parts, eq-eqb}
@@ -20,13 +20,13 @@ use Rattle.span_query.proofs.Layers.{map_item, map_join, map_block, map_layer, l
 use Rattle.span_columns.specs.declared.leaf.Leaf.{Leaf}
 use Rattle.span_leaves.specs.Conditions.{pushable}
 use Rattle.span_leaves.specs.Leaves.{table_of, width_of, leaf_len, widths, reads_of}
-use Rattle.span_planner.specs.Plans.{Planned, join_leaves, rest_leaves, leaves_from, block_leaves, top_item, count_leaves, top_joins, filter_above, top_from, top_block, top_blocks, planned_query, planned}
-use Rattle.span_columns.specs.Reads.{has_place, condition_reads, on_reads, selection_reads, block_reads, Reading, item_mask, join_mask, from_mask, item_within, join_within, block_within, query_reading, reading, is_within}
+use Rattle.span_planner.specs.Plans.{Planned, join_leaves, rest_leaves, leaves_from, block_leaves, top_item, count_leaves, top_joins, top_from, top_block, top_blocks, planned_query, planned}
+use Rattle.span_columns.specs.Reads.{has_place, condition_reads, on_reads, selection_reads, block_reads, filter_above, block_above, Reading, item_mask, join_mask, from_mask, item_within, join_within, block_within, query_reading, reading, is_within}
 use Rattle.span_planner.specs.Sizes.{Shape, item_shape, is_sized_join, is_sized_block, query_shape, shape, is_sized}
-use Rattle.span_leaves.proofs.Extents.{all_dropped}
 use Rattle.span_planner.proofs.Planned.{part_len, widths_split, reads_of_len}
 use Rattle.span_planner.proofs.Queries.{layer_twice}
 use Rattle.span_leaves.proofs.Reading.{Covers, covers_part, covers_all, covered}
+use Rattle.span_leaves.proofs.Parts.{kept_covered}
 
 -- ---- the masks of leaves, by the numbers of the tables above them
 
@@ -34,7 +34,7 @@ module _ (masks : ℕ → List Bool) where
   -- the leaves have these masks, after the given number of others
   abbrev pub MasksAt : ℕ → List Leaf → Type 0
   MasksAt before [] = Unit {0}
-  MasksAt before (l ∷ leaves) = (masks (before + 1) ≡ l.reads) × MasksAt (before + 1) leaves
+  MasksAt before (l ∷ leaves) = (masks (before + 1) ≡ l.kept) × MasksAt (before + 1) leaves
 
   masks_front : (before : ℕ) (xs ys : List Leaf) → MasksAt before (xs ++ ys) → MasksAt before xs
   masks_front before [] ys at = tt {0}
@@ -53,30 +53,17 @@ module _ (masks : ℕ → List Bool) where
     ons_above before [] = refl
     ons_above before (j ∷ js) = ap (λ (b : Bool). reads_only test j.on && b) (ons_above (before + count_leaves j.item) js)
 
-    condition_above : (whole : Bool) (w : Option Expr) → condition_reads test w ≡ true → condition_reads test (if whole then None else w) ≡ true
-    condition_above true w is = refl
-    condition_above false w is = is
-
-    block_parts : (b : Block Planned) → block_reads test b ≡ true → (list_all (on_reads test) b.joins ≡ true) × (condition_reads test b.filter ≡ true) × (selection_reads test b.grouping b.outputs ≡ true)
-    block_parts b is =
-        let outer = and_parts (list_all (on_reads test) b.joins && condition_reads test b.filter) (selection_reads test b.grouping b.outputs) is in
-        let inner = and_parts (list_all (on_reads test) b.joins) (condition_reads test b.filter) outer.0 in
-        (inner.0, inner.1, outer.1)
-
-    -- the joins after the first leaf and the rest of the block read no more than the block
-    reads_above : (schema : List Table) (tables : List ℕ) (before : ℕ) (b : Block Planned) (i : Item Planned) → block_reads test b ≡ true → block_reads test (map_block (reading masks) (top_from schema tables before b i)) ≡ true
-    reads_above schema tables before b (item.Table n) is =
-        let parts = block_parts b is in
+    -- above a first leaf, what is left of the block reads
+    reads_left : (schema : List Table) (tables : List ℕ) (before n : ℕ) (b : Block Planned)
+        → let len : ℕ = leaf_len schema tables (table_of tables n) (width_of schema (table_of tables n)) b.joins in
+        block_reads test (block_above b len) ≡ true → block_reads test (map_block (reading masks) (top_from schema tables before b (item.Table n))) ≡ true
+    reads_left schema tables before n b is =
         let len : ℕ = leaf_len schema tables (table_of tables n) (width_of schema (table_of tables n)) b.joins in
-        let top : List (Join BoundQuery) = top_joins (before + 1) (drop len b.joins) in
-        and_from (list_all (on_reads test) (map (map_join (reading masks)) top) && condition_reads test (filter_above b len)) (selection_reads test b.grouping b.outputs)
-        (and_from (list_all (on_reads test) (map (map_join (reading masks)) top)) (condition_reads test (filter_above b len))
-        (ons_above (before + 1) (drop len b.joins) ∙ all_dropped (on_reads test) len b.joins parts.0) (condition_above (len == length b.joins) b.filter parts.1)) parts.2
-    reads_above schema tables before b (item.Derived p) is =
-        let parts = block_parts b is in
-        let top : List (Join BoundQuery) = top_joins (before + length p.leaves) b.joins in
-        and_from (list_all (on_reads test) (map (map_join (reading masks)) top) && condition_reads test b.filter) (selection_reads test b.grouping b.outputs)
-        (and_from (list_all (on_reads test) (map (map_join (reading masks)) top)) (condition_reads test b.filter) (ons_above (before + length p.leaves) b.joins ∙ parts.0) parts.1) parts.2
+        ap (λ (t : Bool). t && condition_reads test (filter_above b len) && selection_reads test b.grouping b.outputs) (ons_above (before + 1) (drop len b.joins)) ∙ is
+
+    -- above the leaves of a derived table, the block reads
+    reads_above : (schema : List Table) (tables : List ℕ) (before : ℕ) (b : Block Planned) (p : Planned) → block_reads test b ≡ true → block_reads test (map_block (reading masks) (top_from schema tables before b (item.Derived p))) ≡ true
+    reads_above schema tables before b p is = ap (λ (t : Bool). t && condition_reads test b.filter && selection_reads test b.grouping b.outputs) (ons_above (before + length p.leaves) b.joins) ∙ is
 
   module _ (schema : List Table) (tables : List ℕ) where
     abbrev pub IsReadAbove : BoundQuery → Type 0
@@ -182,11 +169,12 @@ module _ (masks : ℕ → List Bool) where
         let rest = subst (λ (js : List (Join Planned)). (list_all (join_within masks) (joins_above (before + 1) js) ≡ true) × Covers (drop at rs) (flat_map (join_mask masks) (joins_above (before + 1) js))) (sym same)
         (joins_read rs (pushable p) at (before + 1) (drop len b.joins) (sized_drop len b.joins sized) (omega arith)
         (subst (λ (js : List (Join Planned)). MasksAt (before + 1) (rest_leaves schema tables rs (pushable p) at js)) same masks_at.1)) in
-        let covers : Covers rs (masks (before + 1) ++ flat_map (join_mask masks) later) =
-        subst (λ (l : List Bool). Covers rs (l ++ flat_map (join_mask masks) later)) (sym masks_at.0) (covers_part at rs (flat_map (join_mask masks) later) rest.1) in
+        let left : block_reads (has_place (masks (before + 1) ++ flat_map (join_mask masks) later)) (block_above p len) ≡ true =
+        subst (λ (l : List Bool). block_reads (has_place (l ++ flat_map (join_mask masks) later)) (block_above p len) ≡ true) (sym masks_at.0)
+        (kept_covered width len at p (flat_map (join_mask masks) later) rest.1) in
         let top : Block Reading = map_block read (top_from schema tables before p (item.Table n)) in
         and_from (true && list_all (join_within masks) later) (block_reads (has_place (from_mask masks top)) top) rest.0
-        (reads_above (has_place (from_mask masks top)) schema tables before p (item.Table n) (covered width p (from_mask masks top) covers))
+        (reads_left (has_place (from_mask masks top)) schema tables before n p left)
       where
         sized_drop : (n : ℕ) (js : List (Join Witness)) → are_sized js ≡ true → are_sized (drop n js) ≡ true
         sized_drop zero js is = is
@@ -207,7 +195,7 @@ module _ (masks : ℕ → List Bool) where
         let top : Block Reading = map_block read (top_from schema tables before p (item.Derived (bare_plan t))) in
         and_from ((read ((bare_plan t).top before)).is_within && list_all (join_within masks) above) (block_reads (has_place (from_mask masks top)) top)
         (and_from ((read ((bare_plan t).top before)).is_within) (list_all (join_within masks) above) known.0 rest.0)
-        (reads_above (has_place (from_mask masks top)) schema tables before p (item.Derived (bare_plan t)) (covered width p (from_mask masks top) covers))
+        (reads_above (has_place (from_mask masks top)) schema tables before p (bare_plan t) (covered width p (from_mask masks top) covers))
 
     blocks_read : (bs : List (Block Witness)) (before : ℕ) → list_all (is_sized_block schema tables) (map (map_block bare_shape) bs) ≡ true
         → MasksAt before (flat_map (block_leaves schema tables) (map (map_block bare_plan) bs)) → list_all (block_within masks) (map (map_block read) (top_blocks schema tables before (map (map_block bare_plan) bs))) ≡ true

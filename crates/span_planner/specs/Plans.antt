@@ -1,5 +1,5 @@
 -- The plan of a query: its leaves, and the query above them.
-use Rattle.std.specs.Prelude.{ℕ, ◌+◌, ◌==◌, Bool, List, [], ◌∷◌, ◌++◌, length, take, drop, Option, None, flat_map, if◌then◌else◌}
+use Rattle.std.specs.Prelude.{ℕ, ◌+◌, Bool, List, [], ◌∷◌, ◌++◌, length, take, drop, Option, flat_map}
 use Rattle.span_schema.specs.declared.table.Table.{Table}
 use Rattle.span_expr.specs.declared.expr.Expr.{Expr}
 use Rattle.span_query.specs.declared.query.BoundQuery.{BoundQuery}
@@ -15,7 +15,7 @@ use Rattle.span_columns.specs.declared.leaf.Plan.{Plan}
 use Rattle.span_leaves.specs.Conditions.{pushable}
 use Rattle.span_leaves.specs.Leaves.{table_of, width_of, leaf_len, widths, reads_of, first_leaf, table_leaf, unless_left}
 use Rattle.span_columns.specs.Narrow.{narrowed}
-use Rattle.span_columns.specs.Reads.{masks_of}
+use Rattle.span_columns.specs.Reads.{filter_above, masks_of}
 
 -- ---- the leaves
 
@@ -78,10 +78,6 @@ with_from b from joins filter = record {
   is_distinct = b.is_distinct;
 }
 
--- none where the leaf's items are the whole FROM, since the leaf evaluates it
-abbrev pub filter_above : {Q : Type 0} → Block Q → ℕ → Option Expr
-filter_above b len = if len == length b.joins then None else b.filter
-
 abbrev pub top_from : List Table → List ℕ → ℕ → Block Planned → Item Planned → Block BoundQuery
 top_from schema tables before b (item.Table n) =
     let table = table_of tables n in
@@ -127,7 +123,7 @@ leaves_of schema tables q = (planned schema tables q).leaves
 abbrev pub top_of : List Table → List ℕ → BoundQuery → BoundQuery
 top_of schema tables q = (planned schema tables q).top 0
 
--- the leaves give the columns alone that are read
+-- the leaves give the columns alone that the query above them reads
 abbrev pub plan_of : List Table → List ℕ → BoundQuery → Plan
 plan_of schema tables q = record {
   leaves = leaves_of schema tables q;

@@ -9,3 +9,4 @@ pub mod RowOrders
 pub mod PairColumns
 pub mod TakenValues
 pub mod LastRow
+pub mod ValuesWhere

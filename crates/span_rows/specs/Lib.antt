@@ -9,3 +9,4 @@ pub mod RowPlaces
 pub mod RowOrders
 pub mod Filtering
 pub mod LastRows
+pub mod Masks

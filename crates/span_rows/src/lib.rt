@@ -5,5 +5,6 @@ pub mod columns;
 pub mod distinct;
 pub mod filter;
 pub mod key;
+mod masked;
 pub mod row;
 pub mod row_list;

@@ -1,5 +1,5 @@
 //! Rows in one buffer: no row has an allocation of its own.
-ghost use Rattle.std.specs.Prelude.{◌≡◌, ◌==◌, ◌<◌, ◌≤◌, ◌+◌, ◌-◌, ◌++◌, ◌∷◌, [], IfOk, OnOk, OnErr, drop, length, replicate, slice_index_or, slice_set, MatchOption, take, vec_len, vec_capacity};
+ghost use Rattle.std.specs.Prelude.{◌≡◌, ◌==◌, ◌<◌, ◌≤◌, ◌+◌, ◌-◌, ◌++◌, ◌∷◌, [], IfOk, OnOk, OnErr, drop, length, map, replicate, slice_index_or, slice_set, MatchOption, take, vec_len, vec_capacity};
 ghost use Rattle.std.specs.Cmp.Lexicographic.{pointwise};
 ghost use Rattle.std.specs.List.{All};
 ghost use Rattle.span_value.specs.declared.value.Value.TheVariants.{Int, Null};
@@ -7,9 +7,11 @@ ghost use Rattle.span_query.specs.Groups.{are_equal};
 ghost use Rattle.span_rows.specs.Cuts.{AreEnds, cut_at, shift, start_at};
 ghost use Rattle.span_rows.specs.LastRows.{IsPutInLast, IsPlaceInLast, IsNoPlaceInLast};
 ghost use Rattle.span_rows.specs.LentRows.{lent_rows};
+ghost use Rattle.span_rows.specs.Masks.{values_where};
 ghost use Rattle.span_rows.specs.RowPlaces.{rows_at};
 
 use super::distinct::are_equal;
+use super::masked::add_rows_where;
 use super::row::extend_row;
 use span_value::value::{Row, Value};
 use std::alloc::{AllocError, Global};
@@ -187,6 +189,23 @@ impl RowList {
             ends.as_slice(),
         )
     }
+
+    /// Adds rows of the values where a mask is TRUE, which are moved; the other list is left without rows, and its memory is used again. The only error is
+    /// out of memory.
+    pub fn append_where(&mut self, more: &mut RowList, mask: &[bool]) -> Result<(), AllocError>
+        ensures rows { OnOk result (self.new ≡ self.old ++ map (values_where mask.now) more.old) }
+        ensures none { OnOk result (more.new ≡ []) }
+    {
+        add_rows_where(
+            &mut self.values,
+            &mut self.ends,
+            &mut more.values,
+            more.ends.as_slice(),
+            mask,
+        )?;
+        more.clear();
+        Ok(())
+    }
 }
 
 /// Whether two lists have the same number of rows, each equal to the one at its place; NULL equals NULL.
@@ -340,7 +359,7 @@ fn push_values(
 }
 
 /// Reserves capacity for one end more, where there is none.
-fn reserve_end(ends: &mut Vec<usize>) -> Result<(), AllocError>
+pub(crate) fn reserve_end(ends: &mut Vec<usize>) -> Result<(), AllocError>
     ensures items { ends.new.items ≡ ends.old.items }
     ensures ok { OnOk result (vec_len ends.new < vec_capacity ends.new) }
 {
@@ -351,7 +370,7 @@ fn reserve_end(ends: &mut Vec<usize>) -> Result<(), AllocError>
 }
 
 /// Reserves capacity for a number of values more, where it is missing.
-fn reserve_values(values: &mut Vec<Value>, count: usize) -> Result<(), AllocError>
+pub(crate) fn reserve_values(values: &mut Vec<Value>, count: usize) -> Result<(), AllocError>
     ensures items { values.new.items ≡ values.old.items }
     ensures ok { OnOk result (vec_len values.new + count ≤ vec_capacity values.new) }
 {

@@ -1,9 +1,9 @@
 -- A leaf of one table gives the rows that pass its condition, one after another.
-use Rattle.std.proofs.Common.{◌≡◌, ◌⊎◌, inl, inr, ◌∙◌, ℕ, ◌+◌, ◌==◌, Bool, true, false, cond, List, [], ◌∷◌, ◌++◌, length, map, Option, Some, None, Result, Ok, Err, refl, sym, ap, subst, arith, if◌then◌else◌}
+use Rattle.std.proofs.Common.{◌≡◌, ◌⊎◌, inl, inr, ◌∙◌, ℕ, ◌+◌, ◌==◌, Bool, true, false, cond, List, [], ◌∷◌, ◌++◌, length, take, map, Option, Some, None, Result, Ok, Err, refl, sym, ap, subst, arith, if◌then◌else◌}
 use Rattle.std.specs.Prelude.{filter}
 use Rattle.std.specs.List.{range_with_len, list_all}
-use Rattle.std.proofs.lemmas.Bool.{eqb-true, eq-eqb}
-use Rattle.std.proofs.lemmas.List.{append-nil}
+use Rattle.std.proofs.lemmas.Bool.{and_parts, eqb-true, eq-eqb}
+use Rattle.std.proofs.lemmas.List.{append-nil, take_all}
 use Rattle.std.proofs.lemmas.List.FromFn.{length-map-range_with_len}
 use Rattle.span_value.specs.declared.truth.Outcome.{Outcome}
 use Rattle.span_schema.specs.declared.table.Table.{Table}
@@ -27,14 +27,16 @@ use Rattle.span_rows.proofs.Gathering.{one_adds, one_fails, adding-fails}
 use Rattle.span_columns.specs.declared.leaf.Leaf.{Leaf}
 use Rattle.span_columns.specs.declared.leaf.LeafJoin.{LeafJoin}
 use Rattle.span_leaves.specs.Leaves.{width_of}
+use Rattle.span_leaves.specs.Maskable.{IsMaskable}
+use Rattle.span_leaves.proofs.Parts.{part_length}
 use Rattle.span_columns.specs.Picks.{picked, picked_width, pick_rows}
-use Rattle.span_columns.specs.Reads.{has_place, reads_within}
+use Rattle.span_columns.specs.Reads.{has_place, reads_within, condition_reads, leaf_on_reads, leaf_widths}
 use Rattle.span_leaves.specs.Results.{join_tables, leaf_rows}
 use Rattle.span_leaves.proofs.Picked.{Agrees, agrees, val-picked, pick_rows-append}
 use Rattle.span_leaves.proofs.Reading.{has_place-range}
 use Rattle.span_rowreader.specs.Meaning.{declared_row, whole_table}
 use Rattle.span_rowreader.specs.Entries.{key_row, AreNoRows, IsWhetherOf}
-use Rattle.span_tablescan.specs.Given.{picked_given, IsGivenOn}
+use Rattle.span_tablescan.specs.Given.{kept_given, IsKeptOn}
 use Rattle.span_rowreader.specs.Longest.{IsLongest, AreLongest, HaveShortKeys}
 use Rattle.span_tablescan.specs.declared.number_test.NumberTest.{NumberTest}
 use Rattle.span_tablescan.specs.NumberTests.{meets, IsWhetherPass}
@@ -258,12 +260,36 @@ module _ (schema : List Table) (n : ℕ) (ms : List Bool) (w : Option Expr) wher
 
 -- ---- the leaf
 
+-- the masks of a leaf of one table have its columns
+reads_long : (schema : List Table) (leaf : Leaf) (n : ℕ) → IsMaskable schema leaf → leaf.tables ≡ n ∷ [] → leaf.joins ≡ [] → length leaf.reads ≡ width_of schema n
+reads_long schema leaf n is tables joins =
+    let named : is.first ∷ is.rest ≡ n ∷ [] = sym is.tables ∙ tables in
+    let same : is.first ≡ n = cc in
+    let none : leaf_widths leaf.joins ≡ 0 = ap leaf_widths joins in
+    let long : length leaf.reads ≡ width_of schema is.first = is.reads_len ∙ omega arith in
+    long ∙ ap (width_of schema) same
+
+pub kept_whole : (schema : List Table) (leaf : Leaf) (n : ℕ) → IsMaskable schema leaf → leaf.tables ≡ n ∷ [] → leaf.joins ≡ [] → take (width_of schema n) leaf.kept ≡ leaf.kept
+kept_whole schema leaf n is tables joins =
+    let long : length leaf.kept ≡ width_of schema n = part_length leaf.kept leaf.reads is.part ∙ reads_long schema leaf n is tables joins in
+    take_all (width_of schema n) leaf.kept (omega arith)
+
+-- what is read of its columns has those that its condition reads
+pub reads_whole : (schema : List Table) (leaf : Leaf) (n : ℕ) (e : Expr) → IsMaskable schema leaf → leaf.tables ≡ n ∷ [] → leaf.joins ≡ [] → leaf.filter ≡ Some e → IsMaskOf (width_of schema n) e leaf.reads
+reads_whole schema leaf n e is tables joins filter = record {
+  long = reads_long schema leaf n is tables joins;
+  reads =
+      let test : ℕ → Bool = has_place leaf.reads in
+      let own = and_parts (list_all (leaf_on_reads test) leaf.joins) (condition_reads test leaf.filter) is.own in
+      ap (condition_reads test) (sym filter) ∙ own.1;
+}
+
 -- a leaf of one table
-leaf_kept : (schema : List Table) (leaf : Leaf) (n : ℕ) → leaf.tables ≡ n ∷ [] → leaf.joins ≡ [] → (rows : List TableRow) → picked_given schema leaf rows ≡ kept_rows schema n leaf.reads leaf.filter rows
+leaf_kept : (schema : List Table) (leaf : Leaf) (n : ℕ) → leaf.tables ≡ n ∷ [] → leaf.joins ≡ [] → (rows : List TableRow) → kept_given schema leaf rows ≡ kept_rows schema n leaf.kept leaf.filter rows
 leaf_kept schema leaf n tables joins rows =
     let W : List Row = whole_table schema rows n in
-    ap (λ (ts : List ℕ). pick_rows leaf.reads (leaf_rows leaf (map (whole_table schema rows) ts))) tables
-    ∙ ap (λ (js : List LeafJoin). pick_rows leaf.reads (join_tables js [] W >>= filter_where leaf.filter)) joins
+    ap (λ (ts : List ℕ). pick_rows leaf.kept (leaf_rows leaf (map (whole_table schema rows) ts))) tables
+    ∙ ap (λ (js : List LeafJoin). pick_rows leaf.kept (join_tables js [] W >>= filter_where leaf.filter)) joins
 
 module _ (schema : List Table) (leaf : Leaf) (n most : ℕ) (tables : leaf.tables ≡ n ∷ []) (joins : leaf.joins ≡ []) (longest : IsLongest schema n most) (entries : List KeyRow) where
   abbrev short : List KeyRow
@@ -272,19 +298,19 @@ module _ (schema : List Table) (leaf : Leaf) (n most : ℕ) (tables : leaf.table
   have_short : HaveShortKeys schema leaf.tables entries short
   have_short = record { most = most; longest = subst (λ (ts : List ℕ). AreLongest schema ts most) (sym tables) (longest, tt {0}); are = refl }
 
-  pub scan_given : (rest : List KeyRow) (values : List Row) → rest ≡ [] → KeptBefore schema n leaf.reads leaf.filter (filter (has_short_key most) entries) rest values → IsGivenOn schema leaf entries (Ok values)
+  pub scan_given : (rest : List KeyRow) (values : List Row) → rest ≡ [] → KeptBefore schema n leaf.kept leaf.filter (filter (has_short_key most) entries) rest values → IsKeptOn schema leaf entries (Ok values)
   scan_given rest values end so = given_on_all schema leaf entries short (Ok values) have_short (record {
-    of = λ rows typed is. leaf_kept schema leaf n tables joins rows ∙ kept_end schema n leaf.reads leaf.filter short rest values end so rows typed is;
+    of = λ rows typed is. leaf_kept schema leaf n tables joins rows ∙ kept_end schema n leaf.kept leaf.filter short rest values end so rows typed is;
   })
 
-  pub scan_fails : (rest later : List KeyRow) (x : KeyRow) (old new : List Row) (why : Failure) → rest ≡ x ∷ later → KeptBefore schema n leaf.reads leaf.filter (filter (has_short_key most) entries) rest old
-      → IsTaken schema n leaf.reads leaf.filter x.key x.row (Err why) old new → IsGivenOn schema leaf entries (Err why)
+  pub scan_fails : (rest later : List KeyRow) (x : KeyRow) (old new : List Row) (why : Failure) → rest ≡ x ∷ later → KeptBefore schema n leaf.kept leaf.filter (filter (has_short_key most) entries) rest old
+      → IsTaken schema n leaf.kept leaf.filter x.key x.row (Err why) old new → IsKeptOn schema leaf entries (Err why)
   scan_fails rest later x old new why is so taken = given_on_all schema leaf entries short (Err why) have_short (record {
     of = λ rows typed whole.
-        subst (λ (o : Rows). Gives (Err why) o) (sym (leaf_kept schema leaf n tables joins rows)) (kept_fails schema n leaf.reads leaf.filter short rest later x old new is so why taken rows typed whole);
+        subst (λ (o : Rows). Gives (Err why) o) (sym (leaf_kept schema leaf n tables joins rows)) (kept_fails schema n leaf.kept leaf.filter short rest later x old new is so why taken rows typed whole);
   })
 
-  pub scan_refused : {A : Type 0} (rest later : List KeyRow) (x : KeyRow) (old : List Row) → rest ≡ x ∷ later → KeptBefore schema n leaf.reads leaf.filter (filter (has_short_key most) entries) rest old
+  pub scan_refused : {A : Type 0} (rest later : List KeyRow) (x : KeyRow) (old : List Row) → rest ≡ x ∷ later → KeptBefore schema n leaf.kept leaf.filter (filter (has_short_key most) entries) rest old
       → A ⊎ IsNoTableRow schema x.key x.row → A ⊎ AreNoRows schema entries
   scan_refused rest later x old is so (inl why) = inl why
-  scan_refused rest later x old is so (inr none) = refused_of_all schema leaf.tables entries short have_short (inr (not_rows_left schema n leaf.reads leaf.filter short rest later x old old is so none))
+  scan_refused rest later x old is so (inr none) = refused_of_all schema leaf.tables entries short have_short (inr (not_rows_left schema n leaf.kept leaf.filter short rest later x old old is so none))

@@ -20,7 +20,7 @@ use Rattle.span_columns.specs.Picks.{pick_rows}
 use Rattle.span_leaves.specs.Results.{leaf_rows}
 use Rattle.span_rowreader.specs.Meaning.{declared_row, whole_table}
 use Rattle.span_rowreader.specs.Entries.{key_row, AreNoRows}
-use Rattle.span_tablescan.specs.Given.{picked_given, IsGivenOn}
+use Rattle.span_tablescan.specs.Given.{kept_given, IsKeptOn}
 use Rattle.span_rowreader.specs.Longest.{IsLongest, AreLongest, HaveShortKeys}
 
 abbrev is_short : List Table → ℕ → TableRow → Bool
@@ -69,12 +69,12 @@ short_tables schema most (t ∷ ts) rows typed longest =
     ∙ ap (λ (l : List (List Row)). whole_table schema rows t ∷ l) (short_tables schema most ts rows typed longest.1)
 
 -- what the leaf gives on the entries with short keys it gives on all
-pub given_on_all : (schema : List Table) (leaf : Leaf) (entries short : List KeyRow) (found : Result (List Row) Failure) → HaveShortKeys schema leaf.tables entries short → IsGivenOn schema leaf short found → IsGivenOn schema leaf entries found
+pub given_on_all : (schema : List Table) (leaf : Leaf) (entries short : List KeyRow) (found : Result (List Row) Failure) → HaveShortKeys schema leaf.tables entries short → IsKeptOn schema leaf short found → IsKeptOn schema leaf entries found
 given_on_all schema leaf entries short found have given = record {
   of = λ rows typed is.
       let most = have.most in
       let here : short ≡ map (key_row schema) (short_of schema most rows) = have.are ∙ ap (filter (has_short_key most)) is ∙ short_entries schema most rows in
-      let same : picked_given schema leaf (short_of schema most rows) ≡ picked_given schema leaf rows = ap (λ (l : List (List Row)). pick_rows leaf.reads (leaf_rows leaf l)) (short_tables schema most leaf.tables rows typed have.longest) in
+      let same : kept_given schema leaf (short_of schema most rows) ≡ kept_given schema leaf rows = ap (λ (l : List (List Row)). pick_rows leaf.kept (leaf_rows leaf l)) (short_tables schema most leaf.tables rows typed have.longest) in
       subst (λ (o : Rows). Gives found o) same (given.of (short_of schema most rows) (short_typed schema most rows typed) here);
 }
 
@@ -89,7 +89,7 @@ refused_of_all schema ts entries short have (inr none) = inr (no_rows_of_all sch
 
 -- the same of what was found, whatever it is
 pub found_on_all : (schema : List Table) (leaf : Leaf) (entries short : List KeyRow) (r : Result (Result (List Row) Failure) Refusal) → HaveShortKeys schema leaf.tables entries short
-    → IfOk r (λ found. IsGivenOn schema leaf short found) → IfOk r (λ found. IsGivenOn schema leaf entries found)
+    → IfOk r (λ found. IsKeptOn schema leaf short found) → IfOk r (λ found. IsKeptOn schema leaf entries found)
 found_on_all schema leaf entries short (Ok found) have given = given_on_all schema leaf entries short found have given
 found_on_all schema leaf entries short (Err why) have given = tt {0}
 

@@ -76,10 +76,10 @@ IsTestOf schema n ms w needed (OnColumns columns e) =
 pub record IsScan (schema : List Table) (scan : TableScan) : Type 0 where
   pub tables : scan.leaf.now.tables ≡ scan.reader.table ∷ []
   pub joins : scan.leaf.now.joins ≡ []
-  pub mask : scan.reader.mask ≡ scan.leaf.now.reads
+  pub mask : scan.reader.mask ≡ scan.leaf.now.kept
   pub reader : IsReader schema scan.reader
   pub needed : AreNeeded schema scan.reader.table scan.leaf.now.filter scan.needed
-  pub test : IsTestOf schema scan.reader.table scan.leaf.now.reads scan.leaf.now.filter scan.needed scan.test
+  pub test : IsTestOf schema scan.reader.table scan.leaf.now.kept scan.leaf.now.filter scan.needed scan.test
 
 -- its rows have no values, and each of the table that meets the needed tests is kept
 pub record IsCount (scan : TableScan) : Type 0 where
@@ -108,4 +108,4 @@ pub record IsTaken (schema : List Table) (n : ℕ) (ms : List Bool) (w : Option 
 abbrev pub IsTakenBy : List Table → TableScan → List ℕ → List ℕ → Result (Unit {0}) Failure → List Row → List Row
     → Type 0
 IsTakenBy schema scan key row found old new =
-    IsTaken schema scan.reader.table scan.leaf.now.reads scan.leaf.now.filter key row found old new
+    IsTaken schema scan.reader.table scan.leaf.now.kept scan.leaf.now.filter key row found old new

@@ -3,7 +3,7 @@ ghost use Rattle.std.specs.Prelude.{◌≡◌, ◌++◌, ◌∷◌, [], List, Ok
 ghost use Rattle.span_schema.specs.Numbers.{IsTable};
 ghost use Rattle.span_query.specs.Rows.{Row};
 ghost use Rattle.span_columns.specs.Picks.{picked_width};
-ghost use Rattle.span_tablescan.specs.Given.{IsGivenOn};
+ghost use Rattle.span_tablescan.specs.Given.{IsKeptOn};
 ghost use Rattle.span_tablescan.specs.Scans.{IsCount, IsScan, IsTakenBy};
 
 use super::number_test::meets_all;
@@ -74,7 +74,7 @@ fn count_rows(
     requires table { IsTable schema.now scan.now.reader.table }
     requires scan { IsScan schema.now scan.now }
     requires count { IsCount scan.now }
-    ensures { IfOk result (λ count. IsGivenOn schema.now scan.now.leaf.now snapshot.entry (Ok (replicate count []))) }
+    ensures { IfOk result (λ count. IsKeptOn schema.now scan.now.leaf.now snapshot.entry (Ok (replicate count []))) }
 {
     let mut count = 0;
     for entry in snapshot.with_short_keys(scan.reader.most) {
@@ -93,7 +93,7 @@ pub(crate) fn counted_rows(
     requires table { IsTable schema.now scan.now.reader.table }
     requires scan { IsScan schema.now scan.now }
     requires count { IsCount scan.now }
-    ensures { IfOk result (λ rows. IsGivenOn schema.now scan.now.leaf.now snapshot.entry (Ok rows)) }
+    ensures { IfOk result (λ rows. IsKeptOn schema.now scan.now.leaf.now snapshot.entry (Ok rows)) }
 {
     let count = count_rows(schema, scan, snapshot)?;
     let mut rows = RowList::new(alloc);

@@ -3,6 +3,6 @@
 
 mod count;
 mod ends;
-mod narrow;
+pub mod narrow;
 mod number_test;
 pub mod scan;

@@ -1,5 +1,5 @@
 //! The columns that a condition reads, as a mask of its own.
-ghost use Rattle.std.specs.Prelude.{◌≡◌, IfOk, MatchOption, map};
+ghost use Rattle.std.specs.Prelude.{◌≡◌, IfOk, MatchOption, map, true};
 ghost use Rattle.std.specs.List.{range_with_len};
 ghost use Rattle.span_expr.specs.Places as places;
 ghost use Rattle.span_tablescan.specs.Scans.{IsMaskOf};
@@ -77,4 +77,17 @@ pub(crate) fn is_narrower(mask: &[bool], other: &[bool]) -> bool {
         }
     }
     false
+}
+
+/// Whether two masks are the same.
+pub fn are_same(mask: &[bool], other: &[bool]) -> bool
+    ensures { result ≡ true → mask.now ≡ other.now }
+{
+    let Some((first, rest)) = mask.split_first() else {
+        return other.is_empty();
+    };
+    let Some((other_first, others)) = other.split_first() else {
+        return false;
+    };
+    *first == *other_first && are_same(rest, others)
 }

@@ -232,7 +232,7 @@ pieced_scanned schema rules m {slot} cs ps reached kept pieced query p slot_stat
     let has : HasRowsIn schema m.log p.query.s l.leaf part piece = record {
       db = made.0;
       made = made.1;
-      whole = reading seen.rows seen.typed seen.entries_are ∙ ap (λ (ts : List (List Row)). pick_rows l.leaf.reads (leaf_rows l.leaf ts)) (tables_read schema made.0 seen.rows part l.leaf.tables rows);
+      whole = reading seen.rows seen.typed seen.entries_are ∙ ap (λ (ts : List (List Row)). pick_rows l.leaf.kept (leaf_rows l.leaf ts)) (tables_read schema made.0 seen.rows part l.leaf.tables rows);
     } in
     let old = all_found (IsPieced schema m.log) (λ x. is_query query x.query) ps p found pieced in
     all_changed_found (IsPieced schema m.log) (λ x. is_query query x.query) (covered_by leaf part piece) ps p found
@@ -268,7 +268,7 @@ module _ (schema : List Table) (rules : MeetsRules schema) (m : Machine) (reache
       record {
         db = made.0;
         made = made.1;
-        whole = has.whole ∙ ap (λ (ts : List (List Row)). pick_rows leaf.reads (leaf_rows leaf ts)) (tables_sealed s c seal ends has.db made.0 has.made made.1 leaf.tables);
+        whole = has.whole ∙ ap (λ (ts : List (List Row)). pick_rows leaf.kept (leaf_rows leaf ts)) (tables_sealed s c seal ends has.db made.0 has.made made.1 leaf.tables);
       }
 
   pieced_still : (ps : List Pieced) → AllByRecursion (IsCoveredSealed schema m) (queries_of ps) → AllByRecursion (HasLeaves schema) (queries_of ps) → ArePieced schema m ps → ArePieced schema (answer schema m u step).1 ps

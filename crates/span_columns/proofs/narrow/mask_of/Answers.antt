@@ -7,9 +7,9 @@ use Rattle.span_columns.specs.Reads.{masks_of}
 use Rattle.span_columns.proofs.narrow.mask_of.Goals as goal
 
 -- the mask of the leaf at a place before the number
-at : (leaves : List Leaf) (number place : ℕ) (o : Option Leaf) → number ≡ suc place → slice_get leaves place ≡ o → masks_of leaves number ≡ unwrap_or (option_map (λ (l : Leaf). l.reads) o) []
+at : (leaves : List Leaf) (number place : ℕ) (o : Option Leaf) → number ≡ suc place → slice_get leaves place ≡ o → masks_of leaves number ≡ unwrap_or (option_map (λ (l : Leaf). l.kept) o) []
 at leaves number place o is here =
-    ap (masks_of leaves) is ∙ ap (λ (m : Option (List Bool)). unwrap_or m []) (slice_get-map (λ (l : Leaf). l.reads) leaves place ∙ ap (option_map (λ (l : Leaf). l.reads)) here)
+    ap (masks_of leaves) is ∙ ap (λ (m : Option (List Bool)). unwrap_or m []) (slice_get-map (λ (l : Leaf). l.kept) leaves place ∙ ap (option_map (λ (l : Leaf). l.kept)) here)
 
 pub returns-in-Some : goal.returns-in-Some
 returns-in-Some c =

@@ -18,7 +18,7 @@ loop-entry-init c =
     record {
       can_next = tt;
       is_finite = tt;
-      kept = subst (λ (es : List KeyRow). KeptBefore schema n leaf.reads leaf.filter short es []) (sym begin) (kept_first schema n leaf.reads leaf.filter short);
+      kept = subst (λ (es : List KeyRow). KeptBefore schema n leaf.kept leaf.filter short es []) (sym begin) (kept_first schema n leaf.kept leaf.filter short);
     }
 
 pub loop-entry-preserved : goal.loop-entry-preserved
@@ -34,7 +34,7 @@ loop-entry-preserved c =
     record {
       can_next = tt;
       is_finite = tt;
-      kept = kept_more schema n leaf.reads leaf.filter short c.loop-entry.entry-iterator c.next.new.self x old new c.in-Some.ensures.steps c.loop-entry.invariant.kept c.in_ok-count.ensures;
+      kept = kept_more schema n leaf.kept leaf.filter short c.loop-entry.entry-iterator c.next.new.self x old new c.in-Some.ensures.steps c.loop-entry.invariant.kept c.in_ok-count.ensures;
     }
 
 pub returns : goal.returns

@@ -9,5 +9,5 @@ abbrev pub invariant-loop-entry : goal.invariant-loop-entry
 invariant-loop-entry l = record {
   can_next : (goal.iterator-loop-entry).can_next l.entry-iterator;
   is_finite : (goal.iterator-loop-entry).is_finite l.entry-iterator;
-  kept : KeptBefore l.schema l.scan.reader.table l.scan.leaf.now.reads l.scan.leaf.now.filter (filter (has_short_key l.scan.reader.most) l.fn.snapshot) l.entry-iterator (replicate l.count []);
+  kept : KeptBefore l.schema l.scan.reader.table l.scan.leaf.now.kept l.scan.leaf.now.filter (filter (has_short_key l.scan.reader.most) l.fn.snapshot) l.entry-iterator (replicate l.count []);
 }

@@ -16,7 +16,7 @@ returns c = λ rows.
     let leaf : Leaf = scan.leaf.now in
     let n : ℕ = scan.reader.table in
     let row : List ℕ = c.args.entry.now.row.now in
-    let none : picked_width leaf.reads ≡ 0 = ap picked_width (sym c.requires.scan.mask) ∙ c.requires.count.width in
-    let of : AreTestsWhere schema n leaf.filter scan.needed = subst (IsTestOf schema n leaf.reads leaf.filter scan.needed) c.requires.count.test c.requires.scan.test in
+    let none : picked_width leaf.kept ≡ 0 = ap picked_width (sym c.requires.scan.mask) ∙ c.requires.count.width in
+    let of : AreTestsWhere schema n leaf.filter scan.needed = subst (IsTestOf schema n leaf.kept leaf.filter scan.needed) c.requires.count.test c.requires.scan.test in
     let met : IsWhetherPass (other_kinds schema n) row (λ (cells : List Value). list_all (meets cells) scan.needed) true = search rules in
-    counted_taken schema n leaf.reads leaf.filter c.args.entry.now.key.now row scan.needed rows c.is_own_key.result none of met c.is_own_key.ensures
+    counted_taken schema n leaf.kept leaf.filter c.args.entry.now.key.now row scan.needed rows c.is_own_key.result none of met c.is_own_key.ensures

@@ -21,8 +21,8 @@ loop-entry-init c =
     record {
       can_next = tt;
       is_finite = tt;
-      kept = subst (λ (es : List KeyRow). KeptBefore schema n leaf.reads leaf.filter short es c.new-rows.result) (sym begin)
-          (subst (λ (rows : List Row). KeptBefore schema n leaf.reads leaf.filter short short rows) (sym c.new-rows.ensures) (kept_first schema n leaf.reads leaf.filter short));
+      kept = subst (λ (es : List KeyRow). KeptBefore schema n leaf.kept leaf.filter short es c.new-rows.result) (sym begin)
+          (subst (λ (rows : List Row). KeptBefore schema n leaf.kept leaf.filter short short rows) (sym c.new-rows.ensures) (kept_first schema n leaf.kept leaf.filter short));
     }
 
 pub loop-entry-preserved : goal.loop-entry-preserved
@@ -39,7 +39,7 @@ loop-entry-preserved c =
     record {
       can_next = tt;
       is_finite = tt;
-      kept = kept_more schema n leaf.reads leaf.filter short c.loop-entry.entry-iterator c.next.new.self x old new c.in-Some.ensures.steps c.loop-entry.invariant.kept (subst Q c.in-Ok.is c.in_ok-taken.ensures.ok);
+      kept = kept_more schema n leaf.kept leaf.filter short c.loop-entry.entry-iterator c.next.new.self x old new c.in-Some.ensures.steps c.loop-entry.invariant.kept (subst Q c.in-Ok.is c.in_ok-taken.ensures.ok);
     }
 
 pub returns-in_err-taken-clause-refused : goal.returns-in_err-taken-clause-refused
