@@ -76,6 +76,20 @@ impl<'a> Walk<'a> {
         self.ahead.has_rows = true;
     }
 
+    /// The same walk once more, from where it is.
+    pub fn copy(&self) -> Walk<'a>
+        ensures { result ≡ self.now }
+    {
+        Walk {
+            arena: self.arena,
+            nexts: self.nexts,
+            at: self.at,
+            stop: self.stop,
+            left: self.left,
+            ahead: self.ahead,
+        }
+    }
+
     /// The keys that have at most `most` bytes. Lengths and links alone are read of the others.
     pub fn with_short_keys(self, most: usize) -> ShortWalk<'a>
         ensures { result ≡ short_entries most self.entry }

@@ -46,6 +46,17 @@ impl<'a> Model for Snapshot<'a> {
 }
 
 impl<'a> Snapshot<'a> {
+    /// The same rows once more.
+    pub fn copy(&self) -> Snapshot<'a>
+        ensures { result ≡ self.now }
+    {
+        Snapshot {
+            walk: self.walk.copy(),
+            arena: self.arena,
+            s: self.s,
+        }
+    }
+
     /// The rows whose keys have at most `most` bytes, in order. The others are passed over by their keys alone.
     pub fn with_short_keys(self, most: usize) -> ShortRows<'a>
         ensures { result ≡ filter (has_short_key most) self.entry }
