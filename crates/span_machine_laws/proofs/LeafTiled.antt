@@ -159,7 +159,7 @@ module _ (schema : List Table) (rules : MeetsRules schema) (db : List TableRow) 
     -- THE CUT OF A RANGE: what a leaf gives on it is what it gives on the first piece, and then what it gives on the rest
     leaf_split : (leaf : Leaf) → IsPlanned schema leaf → leaf_within schema db leaf range ≡ append_results (leaf_within schema db leaf piece) (leaf_within schema db leaf later)
     leaf_split leaf is =
-        ap (pick_rows leaf.kept) (rows_split leaf is) ∙ pick_rows-append leaf.reads (leaf_rows leaf (tables_within schema db leaf.tables piece)) (leaf_rows leaf (tables_within schema db leaf.tables later))
+        ap (pick_rows leaf.kept) (rows_split leaf is) ∙ pick_rows-append leaf.kept (leaf_rows leaf (tables_within schema db leaf.tables piece)) (leaf_rows leaf (tables_within schema db leaf.tables later))
 
   -- ---- pieces that tile a range
 
