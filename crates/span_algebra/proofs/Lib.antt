@@ -2,3 +2,4 @@ pub mod Selecting
 pub mod Derived
 pub mod Blocks
 pub mod InOrder
+pub mod AllValues

@@ -1,6 +1,7 @@
 //! What one SELECT makes of the rows of its FROM.
-ghost use Rattle.std.specs.Prelude.{◌≡◌, Some};
-ghost use Rattle.span_query.specs.Rows.{filter_where, project_rows};
+ghost use Rattle.std.specs.Prelude.{◌≡◌, ◌==◌, ◌<◌, ℕ, IfOk, Some, get_or, length, true};
+ghost use Rattle.std.specs.List.{list_all};
+ghost use Rattle.span_query.specs.Rows.{unless_fault, filter_where, project_rows};
 ghost use Rattle.span_query.specs.Groups.{group_rows};
 ghost use Rattle.span_query.specs.Meaning.{distinct_if};
 ghost use Rattle.span_rows.specs.Answers.{Gives};
@@ -8,11 +9,13 @@ ghost use Rattle.span_algebra.specs.BlockMeaning.{outputs_of, project_block, pro
 
 use super::select::select_rows;
 use span_expr::cell::Failure;
+use span_expr::expr::Expr;
 use span_groups::group::group_rows;
 use span_query::query::{Block, BoundQuery, Grouping};
 use span_rows::distinct::distinct;
 use span_rows::row_list::RowList;
-use std::alloc::Global;
+use span_sorting::columns::columns_of;
+use std::alloc::{AllocError, Global};
 
 /// The select list at the rows of the FROM, or at those of the groups.
 #[tactic(auto, using(crate::proofs::Blocks::block_laws))]
@@ -56,11 +59,66 @@ pub(crate) fn project_groups(
     alloc: Global,
     block: &Block<BoundQuery>,
     grouping: &Grouping,
-    groups: &RowList,
+    groups: RowList,
 ) -> Result<RowList, Failure>
-    ensures { Gives result (project_groups block.now grouping.now groups.now) }
+    ensures { Gives result (project_groups block.now grouping.now groups) }
 {
     let outputs = block.outputs.as_slice();
-    let found = select_rows(alloc, &grouping.having, outputs, groups)?;
+    let found = select_groups(alloc, &grouping.having, outputs, groups)?;
     distinct_if(alloc, block.is_distinct, found)
+}
+
+/// The select list at the rows of groups where the condition is TRUE. Where there is no condition, and the list is all values of
+/// each row in their order, the rows are given as they are, without a copy.
+fn select_groups(
+    alloc: Global,
+    having: &Option<Expr>,
+    outputs: &[Expr],
+    groups: RowList,
+) -> Result<RowList, Failure>
+    ensures { Gives result (unless_fault (filter_where having.now groups) (project_rows outputs.now)) }
+{
+    if let None = having {
+        if are_all_values(alloc, outputs, &groups)? {
+            return Ok(groups);
+        }
+    }
+    select_rows(alloc, having, outputs, &groups)
+}
+
+/// Whether a select list is all values of each row, in their order.
+fn are_all_values(alloc: Global, outputs: &[Expr], rows: &RowList) -> Result<bool, AllocError>
+    ensures { IfOk result (λ are. are ≡ true → project_rows outputs.now rows.now ≡ Some rows.now) }
+{
+    let Some(columns) = columns_of(alloc, outputs)? else {
+        return Ok(false);
+    };
+    if !are_in_order(columns.as_slice()) {
+        return Ok(false);
+    }
+    Ok(have_width(rows, columns.len()))
+}
+
+/// Whether each column of a list is its own place in the list.
+fn are_in_order(columns: &[usize]) -> bool
+    ensures { result ≡ true → (i : ℕ) → i < length columns.now → get_or columns.now i 0 ≡ i }
+{
+    for at in 0..columns.len() {
+        if columns[at] != at {
+            return false;
+        }
+    }
+    true
+}
+
+/// Whether each row has a number of values.
+fn have_width(rows: &RowList, width: usize) -> bool
+    ensures { result ≡ list_all (λ row. length row == width) rows.now }
+{
+    for at in 0..rows.len() {
+        if rows.row(at).len() != width {
+            return false;
+        }
+    }
+    true
 }

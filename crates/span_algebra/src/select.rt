@@ -1,5 +1,5 @@
 //! The select list at the rows where a condition is TRUE.
-ghost use Rattle.std.specs.Prelude.{◌≡◌};
+ghost use Rattle.std.specs.Prelude.{◌≡◌, [], IfOk};
 ghost use Rattle.span_query.specs.Rows.{unless_fault, filter_where, project_rows, values};
 ghost use Rattle.span_rows.specs.Answers.{Gives, Puts};
 
@@ -9,7 +9,7 @@ use span_rows::filter::is_kept;
 use span_rows::row::{add, value_at};
 use span_rows::row_list::RowList;
 use span_value::value::Value;
-use std::alloc::Global;
+use std::alloc::{AllocError, Global};
 
 /// Makes a buffer the values of the outputs at a row.
 fn put_values(
@@ -27,6 +27,21 @@ fn put_values(
     Ok(())
 }
 
+/// No rows, with capacity for those of the select list where there is no condition: how many rows a condition keeps is not known.
+fn list_with_capacity(
+    alloc: Global,
+    filter: &Option<Expr>,
+    outputs: &[Expr],
+    rows: &RowList,
+) -> Result<RowList, AllocError>
+    ensures { IfOk result (λ list. list ≡ []) }
+{
+    match filter {
+        None => RowList::with_capacity(alloc, rows.len(), outputs.len()),
+        Some(_) => Ok(RowList::new(alloc)),
+    }
+}
+
 /// The select list at the rows where the condition is TRUE.
 #[tactic(auto, using(crate::proofs::Selecting::selected_by_row))]
 pub(crate) fn select_rows(
@@ -37,7 +52,7 @@ pub(crate) fn select_rows(
 ) -> Result<RowList, Failure>
     ensures { Gives result (unless_fault (filter_where filter.now rows.now) (project_rows outputs.now)) }
 {
-    let mut found = RowList::new(alloc);
+    let mut found = list_with_capacity(alloc, filter, outputs, rows)?;
     let mut values = Vec::new(alloc);
     for at in 0..rows.len() {
         let row = rows.row(at);

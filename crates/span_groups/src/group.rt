@@ -222,7 +222,7 @@ pub(crate) fn rows_of(
         → AreGroupsOf g rows (groups_in width (keys_at places.now (lent_rows firsts.now)) states.now)
         → Gives result (spec.groups g rows) }
 {
-    let mut rows = RowList::new(alloc);
+    let mut rows = RowList::with_capacity(alloc, firsts.len(), places.len().saturating_add(width))?;
     let mut values = Vec::new(alloc);
     for at in 0..firsts.len() {
         put_row(

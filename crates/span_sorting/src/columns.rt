@@ -1,5 +1,7 @@
 //! Select lists that are columns alone: rows are put in order by the columns that the keys are, and their columns copied last.
-ghost use Rattle.std.specs.Prelude.{◌≡◌, IfOk, IfSome, map};
+ghost use Rattle.std.specs.Prelude.{◌≡◌, IfOk, IfSome, OnOk, map};
+ghost use Rattle.span_value.specs.declared.value.Value.TheVariants as value;
+ghost use Rattle.span_expr.specs.Operators.{column_of};
 ghost use Rattle.span_query.specs.Groups.{columns_at};
 ghost use Rattle.span_rows.specs.LentRows.{lent_rows};
 ghost use Rattle.span_sorting.specs.Columns.{AreColumns, AreKeysOver, key_over};
@@ -55,6 +57,58 @@ pub fn keys_over(
     Ok(Some(moved))
 }
 
+/// How many rows are read together before they are copied.
+const ROWS_AHEAD: usize = 16;
+
+/// The number of a row at a place, where it has one.
+fn number_at(row: &[Value], place: usize) -> Option<i64>
+    ensures { IfSome result (λ number. column_of row.now place ≡ value.Int number) }
+{
+    match row.get(place) {
+        Some(Value::Int(number)) => Some(*number),
+        _ => None,
+    }
+}
+
+/// Whether a row has a number at each of the columns.
+fn has_numbers(columns: &[usize], row: &[Value]) -> bool {
+    let mut has = true;
+    for column in columns {
+        has = has & number_at(row, *column).is_some();
+    }
+    has
+}
+
+/// Whether each of the next rows, from a place on, has a number at each of the columns. Rows in order are not next to each other in
+/// memory: when each is read as it is copied, each read waits for memory alone; here the reads do not depend on each other, and wait
+/// together. The result only chooses between two ways to copy that give the same values.
+fn have_numbers(columns: &[usize], rows: &[&[Value]], from: usize) -> bool {
+    let mut have = true;
+    for at in from..rows.len().min(from.saturating_add(ROWS_AHEAD)) {
+        have = have & has_numbers(columns, rows[at]);
+    }
+    have
+}
+
+/// Makes a buffer the values of a row at the columns, of which most are numbers: a number is copied without `put_columns`.
+fn put_numbers(
+    alloc: Global,
+    columns: &[usize],
+    row: &[Value],
+    values: &mut Vec<Value>,
+) -> Result<(), AllocError>
+    ensures { OnOk result (values.new.items ≡ columns_at columns.now row.now) }
+{
+    values.clear();
+    for column in columns {
+        let Some(number) = number_at(row, *column) else {
+            return put_columns(alloc, columns, row, values);
+        };
+        values.push(Value::Int(number))?;
+    }
+    Ok(())
+}
+
 /// Copies of the columns of the rows.
 pub(crate) fn copy_columns(
     alloc: Global,
@@ -65,8 +119,16 @@ pub(crate) fn copy_columns(
 {
     let mut copies = RowList::with_capacity(alloc, rows.len(), columns.len())?;
     let mut values = Vec::with_capacity(alloc, columns.len())?;
-    for row in rows {
-        put_columns(alloc, columns, *row, &mut values)?;
+    let mut are_numbers = false;
+    for at in 0..rows.len() {
+        if at % ROWS_AHEAD == 0 {
+            are_numbers = have_numbers(columns, rows, at);
+        }
+        if are_numbers {
+            put_numbers(alloc, columns, rows[at], &mut values)?;
+        } else {
+            put_columns(alloc, columns, rows[at], &mut values)?;
+        }
         copies.push(&mut values)?;
     }
     Ok(copies)

@@ -4,5 +4,5 @@ use Rattle.span_rows.specs.LentRows.{lent_rows}
 use Rattle.span_sorting.proofs.columns.copy_columns.Given as goal
 
 -- the copies so far, and the rows that are left
-abbrev pub invariant-loop-row : goal.invariant-loop-row
-invariant-loop-row l = map (columns_at l.columns) (lent_rows l.rows) ≡ l.copies ++ map (columns_at l.columns) (lent_rows (drop l.row-index l.rows))
+abbrev pub invariant-loop-at : goal.invariant-loop-at
+invariant-loop-at l = map (columns_at l.columns) (lent_rows l.rows) ≡ l.copies ++ map (columns_at l.columns) (lent_rows (drop l.at l.rows))
