@@ -301,7 +301,8 @@ pub(crate) fn groups_where(
     groups_by_row(alloc, filter, grouping, rows)
 }
 
-/// The rows of the groups of the rows where the condition is TRUE: of each group its key, and then its aggregates.
+/// The rows of the groups of the rows where the condition is TRUE: of each group its key, and then its aggregates. The error is an arithmetic
+/// error of the condition or an aggregate, or out of memory.
 pub fn group_rows(
     alloc: Global,
     filter: &Option<Expr>,

@@ -49,7 +49,8 @@ fn ready_groups(
     }
 }
 
-/// The rows of the groups of parts. Where these were not made with the rows of each part, they are made of all rows, which are lent.
+/// The rows of the groups of parts. Where these were not made with the rows of each part, they are made of all rows, which are lent. The error
+/// is an arithmetic error of an aggregate, or out of memory.
 pub fn groups_of(
     alloc: Global,
     grouping: &Grouping,
