@@ -1688,8 +1688,8 @@ x,0
 z,\N
 
 param w STRING abcdefgh
-param w2 STRING abcdefghijklmnop
-SELECT u.n FROM Words w JOIN Uses u ON u.w = w.w WHERE w.w BETWEEN @w AND @w2 AND w.m > 1
+param last STRING abcdefghijklmnop
+SELECT u.n FROM Words w JOIN Uses u ON u.w = w.w WHERE w.w BETWEEN @w AND @last AND w.m > 1
 rows 2
 6
 7
