@@ -11,3 +11,5 @@ pub mod Filling
 pub mod Emptying
 pub mod Keeping
 pub mod Falling
+pub mod Blanks
+pub mod FreeLists

@@ -40,7 +40,7 @@ spare-used rs h k c l r used spare = spare_stays rs (set rs c r) c (others-set r
 pub spare-free : (rs : List ChainRecord) (h k c : ℕ) (l : VersionLinks) → record_at rs c ≡ chain.Used l → IsSpare rs h k → IsSpare (set rs c (chain.Free h (k + 1))) c (k + 1)
 spare-free rs h k c l used spare = rw add-one (h, get_or-set_same rs c (chain.Free h (suc k)) no_record (used_in_range rs c l used), spare-used rs h k c l (chain.Free h (suc k)) used spare)
 
-in_range-free : (rs : List ChainRecord) (c next k : ℕ) → record_at rs c ≡ chain.Free next (suc k) → c < length rs
+pub in_range-free : (rs : List ChainRecord) (c next k : ℕ) → record_at rs c ≡ chain.Free next (suc k) → c < length rs
 in_range-free [] c next k h = absurd (let q : chain.Free 0 0 ≡ chain.Free next (suc k) = h in let e : 0 ≡ suc k = cc in omega arith)
 in_range-free (r ∷ rs) zero next k h = omega arith
 in_range-free (r ∷ rs) (suc c) next k h = omega (arith, in_range-free rs c next k h)

@@ -1,5 +1,5 @@
 -- What a caller sees of an arena: a map from chains to versions, what is prepared, and how many nodes are free.
-use Rattle.std.specs.Prelude.{◌≡◌, ◌⊎◌, ℕ, ◌+◌, ◌-◌, ◌<◌, ◌≤◌, List, [], ◌∷◌, ◌++◌, ◌&&◌, length, Option, Some, None, slice_index_or, slice_set, Bool, nat_le, nat_lt, nat_eq, find, if◌then◌else◌}
+use Rattle.std.specs.Prelude.{◌≡◌, ◌⊎◌, ℕ, ◌+◌, ◌-◌, ◌<◌, ◌≤◌, List, [], ◌∷◌, ◌++◌, ◌&&◌, length, replicate, Option, Some, None, slice_index_or, slice_set, Bool, nat_le, nat_lt, nat_eq, find, if◌then◌else◌}
 use Rattle.span_arena.specs.Cells.{blank}
 use Rattle.span_arena.specs.declared.cell.Cell.{Cell}
 use Rattle.span_arena.specs.declared.version.ArenaVersion.{ArenaVersion}
@@ -189,3 +189,12 @@ pub record IsTakenFrom (old new : Content) (chain : ℕ) (v : ArenaVersion) : Ty
 -- a chain that had no version has these, in nodes that were free
 abbrev pub with_versions : Content → ℕ → List ArenaVersion → Content
 with_versions c chain vs = record c { chains = slice_set c.chains chain (Some vs); free = c.free - length vs }
+
+-- with free numbers of chains after the others
+abbrev pub with_free_chains : ℕ → Content → Content
+with_free_chains n c =
+    record c { chains = c.chains ++ replicate n None; cells = c.cells ++ replicate n blank }
+
+-- with free nodes after the others
+abbrev pub with_free_nodes : ℕ → Content → Content
+with_free_nodes n c = record c { prepared = c.prepared ++ replicate n None; free = c.free + n }

@@ -6,11 +6,12 @@ ghost use Rattle.span_arena.specs.Cells.{cell_at, is_past, kept_length, new_cell
 ghost use Rattle.span_arena.specs.Limits.{most_chains, most_nodes};
 ghost use Rattle.span_arena.specs.declared.arena.TheConstants.{MOST_CHAINS, MOST_NODES};
 ghost use Rattle.span_arena.specs.Order.{IsNewestUpto, IsLaterFor, AreInTimeOrder};
-ghost use Rattle.span_arena.specs.Content.{Content, versions, prepared_at, IsChain, AreAllChains, IsInOrder, is_unused, prepared_for, live, newest_upto, IsPrepared, linked, given_back, trimmed, cleared, kept_by, with_at, with_cells, with_kept, without_chain, IsNewChain, IsReserved, IsRefusedNode, IsRefusedRoom, IsTakenFrom, with_free_node, with_versions};
+ghost use Rattle.span_arena.specs.Content.{Content, versions, prepared_at, IsChain, AreAllChains, IsInOrder, is_unused, prepared_for, live, newest_upto, IsPrepared, linked, given_back, trimmed, cleared, kept_by, with_at, with_cells, with_free_chains, with_free_nodes, with_kept, without_chain, IsNewChain, IsReserved, IsRefusedNode, IsRefusedRoom, IsTakenFrom, with_free_node, with_versions};
 
 use crate::cell::{Cell, Links};
 use crate::cells::Cells;
 use crate::cut::cut;
+use crate::free_order::{FreeOrder, free_chains, free_nodes};
 use crate::record::{ChainRecord, NodeRecord, NodeUse, VersionLinks, join_image, split_image};
 use crate::steps::Steps;
 use crate::token::{Chain, Node};
@@ -227,6 +228,47 @@ impl Arena {
         Ok(Chain {
             number: number as u32,
         })
+    }
+
+    /// Adds free numbers of chains, which `new_chain` hands out in this order before the others. `Refusal::OutOfMemory` leaves all as it
+    /// was; it comes also where there would be more than 2^32 - 1 chains.
+    pub fn add_free_chains(&mut self, order: &FreeOrder) -> Result<(), Refusal>
+        ensures ok { OnOk result (self.new ≡ with_free_chains (length order.now) self.old) }
+        ensures err { OnErr result (self.new ≡ self.old) }
+        ensures memory { IfErr result (λ why. why ≡ Refusal.OutOfMemory) }
+    {
+        let alloc = self.cells.allocator();
+        let (base, count) = (self.chains.len(), order.len());
+        if count > MOST_CHAINS - base {
+            return Err(Refusal::OutOfMemory);
+        }
+        let mut more = free_chains(alloc, order, base as u32, self.spare, self.spare_count)?;
+        self.chains.reserve(count)?;
+        self.cells.add_blanks(count)?;
+        let Ok(()) = self.chains.append(&mut more) else {
+            unreachable!()
+        };
+        self.spare = order.number_at(base as u32, self.spare, 0);
+        self.spare_count += count as u32;
+        Ok(())
+    }
+
+    /// Adds free nodes, which `reserve_node` hands out in this order before the others. `Refusal::ShardFull` where there would be more nodes than
+    /// may be in use, else `Refusal::OutOfMemory`; both leave all as it was.
+    pub fn add_free_nodes(&mut self, order: &FreeOrder) -> Result<(), Refusal>
+        ensures ok { OnOk result (self.new ≡ with_free_nodes (length order.now) self.old) }
+        ensures err { OnErr result (self.new ≡ self.old) }
+    {
+        let alloc = *self.nodes.allocator();
+        let (base, count) = (self.nodes.len(), order.len());
+        if count > self.most as usize - base {
+            return Err(Refusal::ShardFull);
+        }
+        let mut more = free_nodes(alloc, order, base as u32, self.free, self.free_count)?;
+        self.nodes.append(&mut more)?;
+        self.free = order.number_at(base as u32, self.free, 0);
+        self.free_count += count as u32;
+        Ok(())
     }
 
     /// The most nodes that may be in use.

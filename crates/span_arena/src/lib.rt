@@ -9,6 +9,7 @@ pub mod arena;
 pub mod cell;
 mod cells;
 mod cut;
+pub mod free_order;
 mod record;
 pub mod steps;
 pub mod token;

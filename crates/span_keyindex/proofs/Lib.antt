@@ -3,6 +3,7 @@ pub mod Freeing
 pub mod Holders
 pub mod Keeping
 pub mod Looking
+pub mod More
 pub mod Nearby
 pub mod Owning
 pub mod Splitting

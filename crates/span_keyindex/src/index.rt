@@ -1,6 +1,6 @@
 //! The index of keys.
-ghost use Rattle.std.specs.Prelude.{◌≡◌, ℕ, ◌*◌, ◌<◌, ◌^◌, All, IfErr, IfOk, IfSome, MatchOption, OnErr, length, map};
-ghost use Rattle.span_arena.specs.Content.{IsChain};
+ghost use Rattle.std.specs.Prelude.{◌≡◌, ℕ, ◌*◌, ◌<◌, ◌^◌, All, IfErr, IfOk, IfSome, MatchOption, OnErr, OnOk, length, map};
+ghost use Rattle.span_arena.specs.Content.{IsChain, with_free_chains};
 ghost use Rattle.span_keytree.specs.Arenas.{in_use, IsWithoutUnused};
 ghost use Rattle.span_keytree.specs.Entries.{HasChain, IsAbsent, IsRising, IsSlotFor, entries_from, entries_in, entries_under};
 ghost use Rattle.span_keytree.specs.Roots.{AreTwoSearches, IsSearchCost, IsSlotCost};
@@ -14,6 +14,7 @@ use crate::reach::look_above;
 use crate::remove::remove_unused;
 use crate::split::copy_keys;
 use span_arena::arena::Arena;
+use span_arena::free_order::FreeOrder;
 use span_arena::steps::Steps;
 use span_arena::token::Chain;
 use span_keycode::key::Key;
@@ -108,6 +109,25 @@ impl KeyIndex {
         match arena.order(near, key) {
             Ordering::Equal => Some(Chain { number: near }),
             _ => None,
+        }
+    }
+
+    /// Adds free numbers of chains to the arena: new keys get them in this order. `Refusal::OutOfMemory` leaves all as it was.
+    pub fn add_free_chains(&mut self, arena: &mut Arena, order: &FreeOrder) -> Result<(), Refusal>
+        requires { IsIndexOf self.old arena.old }
+        ensures arena { OnOk result (arena.new ≡ with_free_chains (length order.now) arena.old) }
+        ensures err { OnErr result (arena.new ≡ arena.old) }
+        ensures own { IsIndexOf self.new arena.new }
+        ensures entries { entries_of self.new arena.new ≡ entries_of self.old arena.old }
+    {
+        let count = order.len();
+        self.nexts.add_places(count)?;
+        match arena.add_free_chains(order) {
+            Ok(()) => Ok(()),
+            Err(why) => {
+                self.nexts.drop_places(count);
+                Err(why)
+            }
         }
     }
 

@@ -10,6 +10,7 @@ pub mod Joined
 pub mod Keyed
 pub mod Lasts
 pub mod Linking
+pub mod More
 pub mod Parts
 pub mod Placing
 pub mod Puts

@@ -4,7 +4,7 @@ use Rattle.std.specs.Prelude.{nat_eq, IfSome}
 use Rattle.std.proofs.lemmas.Bool.Decides.{nat_tests}
 use Rattle.std.proofs.lemmas.List.{get_or-map, length-map, map-set, take-map}
 use Rattle.span_arena.specs.Limits.{most_chains}
-use Rattle.span_keytree.specs.Nexts.{Nexts, link_to, next_of, with_cell, without_last}
+use Rattle.span_keytree.specs.Nexts.{Nexts, link_to, next_of, with_cell, without_last, without_places}
 
 abbrev links : Option ℕ → List (Option ℕ) → Nexts
 links first next = record { first = first; next = next }
@@ -55,12 +55,16 @@ next_put first next n before b cell x view few within before_within is after =
     (subst (λ (m : Nexts). stored first (set (set next cell x) b cell) ≡ with_cell m (Some b) cell) {x = stored first next} {y = n} view
     (put_between first next b cell x (is_number first next n cell view few within) (omega (arith, length-map next link_to)) after))
 
-pub last_dropped : (first : ℕ) (next left : List ℕ) (n : Nexts) (len : ℕ) → stored first next ≡ n → len ≡ length next → left ≡ take (len - 1) next
-    → stored first left ≡ without_last n
-last_dropped first next left n len view all is =
-    subst (λ (m : Nexts). stored first left ≡ without_last m) {x = stored first next} {y = n} view
+pub lasts_dropped : (first : ℕ) (next left : List ℕ) (n : Nexts) (len count : ℕ) → stored first next ≡ n → len ≡ length next → left ≡ take (len - count) next
+    → stored first left ≡ without_places count n
+lasts_dropped first next left n len count view all is =
+    subst (λ (m : Nexts). stored first left ≡ without_places count m) {x = stored first next} {y = n} view
     (ap (λ (ls : List (Option ℕ)). links (link_to first) ls) (
     ap (λ (xs : List ℕ). map link_to xs) is
-    ∙ sym (take-map link_to (len - 1) next)
-    ∙ ap (λ (k : ℕ). take (k - 1) (map link_to next)) (all ∙ sym (length-map next link_to))
+    ∙ sym (take-map link_to (len - count) next)
+    ∙ ap (λ (k : ℕ). take (k - count) (map link_to next)) (all ∙ sym (length-map next link_to))
     ))
+
+pub last_dropped : (first : ℕ) (next left : List ℕ) (n : Nexts) (len : ℕ) → stored first next ≡ n → len ≡ length next → left ≡ take (len - 1) next
+    → stored first left ≡ without_last n
+last_dropped first next left n len view all is = lasts_dropped first next left n len 1 view all is

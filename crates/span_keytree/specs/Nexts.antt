@@ -1,5 +1,5 @@
 -- The cells in the order of their keys: the first, and after each the next.
-use Rattle.std.specs.Prelude.{◌≡◌, ℕ, ◌+◌, ◌-◌, List, [], ◌∷◌, ◌++◌, length, take, Option, Some, None, slice_index_or, slice_set, nat_eq, nat_lt, if◌then◌else◌}
+use Rattle.std.specs.Prelude.{◌≡◌, ℕ, ◌+◌, ◌-◌, List, [], ◌∷◌, ◌++◌, length, replicate, take, Option, Some, None, slice_index_or, slice_set, nat_eq, nat_lt, if◌then◌else◌}
 use Rattle.span_keycode.specs.Order.{byte_order}
 use Rattle.span_keytree.specs.Trees.{Tree, Leaf, Fork, by_side}
 use Rattle.span_arena.specs.Cells.{is_past}
@@ -60,6 +60,14 @@ last_cell b (e ∷ es) = last_cell (Some e.chain.number) es
 abbrev pub head_cell : Option ℕ → List KeyEntry → Option ℕ
 head_cell a [] = a
 head_cell a (e ∷ es) = Some e.chain.number
+
+-- further cells, to which no link leads
+abbrev pub with_places : ℕ → Nexts → Nexts
+with_places count n = record { first = n.first; next = n.next ++ replicate count None }
+
+-- without the last places
+abbrev pub without_places : ℕ → Nexts → Nexts
+without_places count n = record { first = n.first; next = take (length n.next - count) n.next }
 
 -- without the last place
 abbrev pub without_last : Nexts → Nexts

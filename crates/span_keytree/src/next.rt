@@ -1,6 +1,6 @@
 //! The chains in the order of their keys, as links from each to the next.
-ghost use Rattle.std.specs.Prelude.{◌≡◌, ◌<◌, [], length, map, None, IfErr, IfSome, OnErr, OnOk};
-ghost use Rattle.span_keytree.specs.Nexts.{link_to, next_of, with_cell, with_empty_link, without_first, without_last};
+ghost use Rattle.std.specs.Prelude.{◌≡◌, ◌<◌, ◌≤◌, [], length, map, None, IfErr, IfSome, OnErr, OnOk};
+ghost use Rattle.span_keytree.specs.Nexts.{link_to, next_of, with_cell, with_empty_link, with_places, without_first, without_last, without_places};
 
 use span_arena::token::NO_CHAIN;
 use span_value::refusal::Refusal;
@@ -114,6 +114,30 @@ impl NextLinks {
         ensures { self.new ≡ without_last self.old }
     {
         self.next.truncate(self.next.len() - 1);
+    }
+
+    /// Places for further chains, to which no link leads. `Refusal::OutOfMemory` leaves all as it was.
+    pub fn add_places(&mut self, count: usize) -> Result<(), Refusal>
+        ensures ok { OnOk result (self.new ≡ with_places count self.old) }
+        ensures err { OnErr result (self.new ≡ self.old) }
+        ensures memory { IfErr result (λ why. why ≡ Refusal.OutOfMemory) }
+    {
+        let len = self.next.len();
+        if count > NO_CHAIN as usize - len {
+            return Err(Refusal::OutOfMemory);
+        }
+        let Ok(()) = self.next.resize(len + count, NO_CHAIN) else {
+            return Err(Refusal::OutOfMemory);
+        };
+        Ok(())
+    }
+
+    /// Removes the last places.
+    pub fn drop_places(&mut self, count: usize)
+        requires { count ≤ length self.old.next }
+        ensures { self.new ≡ without_places count self.old }
+    {
+        self.next.truncate(self.next.len() - count);
     }
 
     /// Puts a chain after another, or first.

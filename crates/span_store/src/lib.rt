@@ -7,6 +7,7 @@
 pub mod chain;
 mod node;
 pub mod place;
+mod room;
 mod search;
 pub mod snapshot;
 mod split;

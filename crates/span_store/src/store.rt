@@ -6,16 +6,21 @@ ghost use Rattle.span_store.specs.Versions.{applied_to_key, is_used};
 ghost use Rattle.span_store.specs.KeyLists.{AreInOrder, HaveFallingVersions, IsIdle, IsInUse, IsLaterCommit, IsPutRefused, keys_before, keys_from, with_write, trimmed_key, live};
 
 use super::node::{PreparedNode, end_nodes, prepare_node};
+use super::room::order_by_length;
 use super::search::{slot_near, split_at};
 use super::split::{move_versions, reserve_versions};
 use super::trim::trim_chains;
 use super::write::{NearWrite, Write, last_chains};
 use span_arena::arena::Arena;
+use span_arena::free_order::FreeOrder;
 use span_keyindex::index::KeyIndex;
 use span_keyindex::near::SEARCH_LANES;
 use span_value::refusal::Refusal;
 use std::alloc::Global;
 use std::marker::Model;
+
+/// Of how many writes one is looked at, to see whether they are of keys that are there.
+const WRITES_FOR_EACH: usize = 64;
 
 /// The keys of a shard. Contracts see what it has of each key.
 #[derive(Debug, Drop)]
@@ -82,6 +87,45 @@ impl Store {
                 Err(why)
             }
         }
+    }
+
+    /// Whether some of the writes, one in a number of them, are of keys that are not there.
+    fn are_new(&self, writes: &[NearWrite]) -> bool {
+        let mut at = 0;
+        while at < writes.len() {
+            let key = writes[at].write.key.as_slice();
+            if self.index.chain_at(&self.arena, key, writes[at].near).is_some() {
+                return false;
+            }
+            at = at.saturating_add(WRITES_FOR_EACH);
+        }
+        true
+    }
+
+    /// Free numbers of chains, and free nodes, for keys that are put in this order. A refusal leaves chains alone, or none: there may be no
+    /// memory for them, or no more nodes.
+    fn add_free(&mut self, order: &FreeOrder) -> Result<(), Refusal>
+        ensures { self.new ≡ self.old }
+    {
+        self.index.add_free_chains(&mut self.arena, order)?;
+        self.arena.add_free_nodes(order)?;
+        Ok(())
+    }
+
+    /// Before writes are put, from the last on: their rows get numbers by which those of one table mostly lie together in memory. Nothing
+    /// is changed that contracts see.
+    pub fn make_room(&mut self, writes: &[NearWrite])
+        ensures { self.new ≡ self.old }
+    {
+        if !self.are_new(writes) {
+            return;
+        }
+        let alloc = *self.prepared.allocator();
+        let Ok(Some(order)) = order_by_length(alloc, writes) else {
+            return;
+        };
+        // Where there are none, rows are put as they are without.
+        let _added = self.add_free(&order);
     }
 
     /// Looks at the places in the index of the keys of writes, of up to `SEARCH_LANES` from the last on. How many of them are searched near a

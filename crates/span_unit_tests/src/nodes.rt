@@ -1,10 +1,11 @@
-//! The limit on nodes, which no script can reach.
+//! The limit on nodes, and the order in which free numbers are handed out, which no script can reach.
 ghost use Rattle.std.specs.Prelude.{◌≡◌, ◌<◌, IfOk};
 ghost use Rattle.span_arena.specs.Content.{IsNewChain};
 ghost use Rattle.span_arena.specs.Tested.{IsReady};
 
 use smallvec::SmallVec;
 use span_arena::arena::Arena;
+use span_arena::free_order::FreeOrder;
 use span_arena::steps::Steps;
 use span_arena::token::{Chain, Node};
 use span_keycode::key::Key;
@@ -77,5 +78,36 @@ fn fourth_node(rt: HostRuntime) -> Result<(), Fail> {
     assert_eq!(rt; arena.live(), 3);
     exchange(&mut arena, chain, first)?;
     assert_eq!(rt; arena.live(), 3);
+    Ok(())
+}
+
+/// Free numbers are handed out in the order that they were added in, before new ones.
+#[test]
+fn numbers_in_order(rt: HostRuntime) -> Result<(), Fail> {
+    let alloc = rt.alloc();
+    let mut arena = Arena::new(alloc);
+    let numbers = Vec::from_array(alloc, [2, 0, 1])?;
+    let places = Vec::from_array(alloc, [1, 2, 0])?;
+    let Some(order) = FreeOrder::new(numbers, places) else {
+        assert!(rt; false);
+        return Ok(());
+    };
+    arena.add_free_chains(&order)?;
+    arena.add_free_nodes(&order)?;
+    for number in [2, 0, 1, 3] {
+        let (chain, node) = ready(alloc, &mut arena)?;
+        assert_eq!(rt; chain.number, number);
+        assert_eq!(rt; node.number, number);
+    }
+    Ok(())
+}
+
+/// An order is refused where the places are not those of its numbers.
+#[test]
+fn places_of_others(rt: HostRuntime) -> Result<(), Fail> {
+    let alloc = rt.alloc();
+    let numbers = Vec::from_array(alloc, [1, 0, 2])?;
+    let places = Vec::from_array(alloc, [1, 2, 0])?;
+    assert!(rt; FreeOrder::new(numbers, places).is_none());
     Ok(())
 }
