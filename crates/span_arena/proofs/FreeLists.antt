@@ -1,17 +1,16 @@
 -- New free numbers, in the order in which they are handed out.
-use Rattle.std.proofs.Common.{◌≡◌, ◌≢◌, ◌⊎◌, ℕ, zero, suc, ◌+◌, ◌-◌, ◌<◌, ◌≤◌, List, [], ◌∷◌, ◌++◌, refl, sym, ◌∙◌, ap, arith, length, map, Option, Some, None, get_or, replicate, inl, inr, length-append}
+use Rattle.std.proofs.Common.{◌≡◌, ◌⊎◌, ℕ, zero, suc, ◌+◌, ◌-◌, ◌<◌, ◌≤◌, List, [], ◌∷◌, ◌++◌, refl, sym, ◌∙◌, ap, arith, length, map, Option, None, get_or, replicate, inl, inr, length-append}
 use Rattle.std.proofs.Math.ListN.{get_or-eq_default}
 use Rattle.std.proofs.lemmas.List.{get_or_append_left, get_or-append-add, get_or-map, length-map, length-replicate, map-append}
 use Rattle.std.proofs.lemmas.Bool.{cases_lt}
 use Rattle.span_arena.specs.declared.cell.Cell.{Cell}
 use Rattle.span_arena.specs.declared.record.NodeRecord.{NodeRecord}
-use Rattle.span_arena.specs.declared.record.NodeUse.{NodeUse}
 use Rattle.span_arena.specs.declared.record.NodeUse.TheVariants.{Free, Linked}
 use Rattle.span_arena.specs.declared.record.ChainRecord.{ChainRecord}
 use Rattle.span_arena.specs.declared.record.ChainRecord.TheVariants as chain
 use Rattle.span_arena.specs.Cells as cells
-use Rattle.span_arena.specs.Content.{Content, Prepared, sum_for, one_if, one_for, prepared_for, with_free_chains, with_free_nodes, versions_in}
-use Rattle.span_arena.specs.Order.{AreInTimeOrder, AreFalling, timestamps}
+use Rattle.span_arena.specs.Content.{Content, Prepared, sum_for, one_if, one_for, with_free_chains, with_free_nodes}
+use Rattle.span_arena.specs.Order.{AreInTimeOrder}
 use Rattle.span_arena.specs.FreeOrders.{free_chain, free_node, number_at, AreFreeChains, AreFreeNodes, AreInverse}
 use Rattle.span_arena.specs.Runs.{walk, IsRun, IsFreeList, IsSound, IsSpare, AreSpare, node_at, blank, no_record, no_links, record_at, links_at, links_of, chain_of, prepared_of, content, total, used_count, version_of}
 use Rattle.span_arena.proofs.Blanks.{read_more}

@@ -1,4 +1,4 @@
-use Rattle.std.proofs.Common.{◌≡◌, ◌<◌, ℕ, get_or, length}
+use Rattle.std.proofs.Common.{◌<◌, ℕ, get_or, length}
 use Rattle.span_arena.specs.FreeOrders.{IsPlaceOf}
 use Rattle.span_arena.proofs.free_order.are_inverse.Given as goal
 

@@ -1,4 +1,3 @@
-use Rattle.std.proofs.Common.{◌∙◌, ◌++◌, List, ap}
 use Rattle.span_arena.proofs.Blanks.{lengths_more}
 use Rattle.span_arena.proofs.cells.Cells.add_blanks.Goals as goal
 
