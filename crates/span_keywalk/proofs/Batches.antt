@@ -33,7 +33,7 @@ pub none_left : (n : ℕ) → nat_lt 0 n ≡ false → n ≡ 0
 none_left n e = grind (arith, nat_tests)
 
 -- a number put in its place, and counted or not
-taken : (numbers : List ℕ) (count i : ℕ) (b : Bool) → count < length numbers → take (count + bool_byte b) (set numbers count i) ≡ cond b (take count numbers ++ i ∷ []) (take count numbers)
+pub taken : (numbers : List ℕ) (count i : ℕ) (b : Bool) → count < length numbers → take (count + bool_byte b) (set numbers count i) ≡ cond b (take count numbers ++ i ∷ []) (take count numbers)
 taken numbers count i true fits = take_more_set numbers count i fits
 taken numbers count i false fits =
     let e : count + 0 ≡ count = omega arith in

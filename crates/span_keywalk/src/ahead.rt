@@ -9,7 +9,7 @@
 //!
 //! Nothing that a walk hands out rests on it.
 
-use crate::batch::{BATCH_KEYS, Batch};
+use crate::batch::{BATCH_KEYS, Batch, LINKS_TRIED};
 use span_arena::arena::Arena;
 use span_arena::token::NO_CHAIN;
 use span_keycode::key::LONGEST_KEY;
@@ -31,7 +31,7 @@ const MOST_STEPS: usize = 128;
 /// How many keys a walk hands out before it first looks ahead, and before it tries again.
 const FIRST_KEYS: usize = 64;
 
-/// The next key's number differs by no more where keys were put in order: memory is waited for at few of them.
+/// The number of the next key of the same table differs by no more where keys were put in order: memory is waited for at few of them.
 const NEAR: u32 = 8;
 
 /// How many keys a batch passes over at most.
@@ -130,9 +130,21 @@ fn look_from(
     }
 }
 
-// Whether the next key was put soon before or after this one.
+// Whether one of the next keys was put soon before or after the one that it follows. Where rows of several tables lie interleaved, numbers
+// that follow one another are those of one table.
 fn is_near(nexts: &NextLinks, number: u32) -> bool {
-    nexts.number_after(number).abs_diff(number) <= NEAR
+    let mut at = number;
+    for _ in 0..LINKS_TRIED {
+        let next = nexts.number_after(at);
+        if next == NO_CHAIN {
+            return false;
+        }
+        if next.abs_diff(at) <= NEAR {
+            return true;
+        }
+        at = next;
+    }
+    false
 }
 
 // How many levels of a tree with this many keys have lanes that begin there.

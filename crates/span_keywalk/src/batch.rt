@@ -2,7 +2,7 @@
 ghost use Rattle.std.specs.Prelude.{◌≡◌, ◌<◌, ◌≤◌, [], ◌∷◌, false, length, take, IsTrue, MatchOption};
 ghost use Rattle.span_keywalk.specs.Walks.{walked_in, AreBelow, AreShortOf};
 
-use crate::run::{RUN_KEYS, end_of, has_run, next_wait, pass_run};
+use crate::run::{RUN_KEYS, end_of, pass_run, run_len};
 use crate::walk::is_stop;
 use span_arena::arena::Arena;
 use span_arena::token::NO_CHAIN;
@@ -11,6 +11,9 @@ use std::marker::Model;
 
 /// How many keys a batch has at most.
 pub(crate) const BATCH_KEYS: usize = 32;
+
+/// How many links are looked at to know whether keys were put in order.
+pub(crate) const LINKS_TRIED: usize = 4;
 
 /// Numbers of chains whose keys are short. Contracts see those that were not handed out.
 #[derive(Debug, Drop)]
@@ -110,7 +113,7 @@ impl Refill {
     }
 }
 
-/// As `find_short`, where each chain leads to the next number mostly: eight are passed over together where they do, and else one by its
+/// As `find_short`, where many chains lead to the next number: up to eight are passed over together where they do, and else one by its
 /// link.
 fn find_in_order(
     arena: &Arena,
@@ -135,19 +138,21 @@ fn find_in_order(
     let mut numbers = [NO_CHAIN; BATCH_KEYS];
     let mut count: usize = 0;
     let mut at = number;
-    let mut wait: usize = 0;
     let end = end_of(stop);
     while left > last {
         if count > BATCH_KEYS - RUN_KEYS {
             return Refill::of(numbers, count, Some(at), left, false);
         }
-        if wait == 0 && has_run(arena, nexts, most, at, end, left - last) {
-            count = pass_run(arena, most as u16, at, &mut numbers, count);
-            at += RUN_KEYS as u32;
-            left -= RUN_KEYS;
+        let run = run_len(arena, nexts, most, at, end, left - last);
+        if run > 0 {
+            count = pass_run(arena, most as u16, at, run, &mut numbers, count);
+            left -= run;
+            let Some(next) = nexts.after(at + run as u32 - 1) else {
+                return Refill::of(numbers, count, None, left, false);
+            };
+            at = next;
             continue;
         }
-        wait = next_wait(wait);
         if is_stop(at, stop) {
             return Refill::of(numbers, count, Some(at), left, false);
         }
@@ -203,6 +208,19 @@ fn find_by_links(
     Refill::of(numbers, count, Some(number), left, count == 0 && left > 0)
 }
 
+// Whether one of the next links leads to the next number: not each does where rows of several tables lie interleaved. Nothing that is found
+// rests on it.
+fn is_in_order(nexts: &NextLinks, number: u32) -> bool {
+    let mut at = number;
+    let mut is_next = false;
+    for _ in 0..LINKS_TRIED {
+        let next = nexts.number_after(at);
+        is_next = is_next | (next.wrapping_sub(at) == 1);
+        at = next;
+    }
+    is_next
+}
+
 /// Goes on from a chain over at most `keys` keys, and finds those of at most `most` bytes. Lengths and links alone are read.
 pub(crate) fn find_short(
     arena: &Arena,
@@ -223,7 +241,7 @@ pub(crate) fn find_short(
     ensures none { result.goes_on ≡ false → result.batch ≡ []
         → walked_in arena.now.cells nexts.now result.left result.at stop ≡ [] }
 {
-    if nexts.number_after(number).abs_diff(number) == 1 {
+    if is_in_order(nexts, number) {
         find_in_order(arena, nexts, most, number, stop, left, keys)
     } else {
         find_by_links(arena, nexts, most, number, stop, left, keys)

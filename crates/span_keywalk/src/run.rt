@@ -1,5 +1,8 @@
-//! Chains whose numbers follow one another, as those have that were put in order: a walk passes over eight of them at once.
-ghost use Rattle.std.specs.Prelude.{◌≡◌, ◌≢◌, ℕ, Option, ◌+◌, ◌^◌, ◌<◌, ◌≤◌, true, get_or, length, take, IfSome};
+//! Chains whose numbers follow one another, as those have that were put in order: a walk passes over up to eight of them at once.
+//!
+//! Such runs are short where rows of several tables lie interleaved, since each table's rows have numbers of their own, and how long the
+//! next one is can't be guessed. So nothing here branches on it: each length takes the same steps.
+ghost use Rattle.std.specs.Prelude.{◌≡◌, ◌≢◌, ℕ, Option, ◌+◌, ◌^◌, ◌<◌, ◌≤◌, get_or, length, take, IfSome};
 ghost use Rattle.span_arena.specs.Limits.{most_chains};
 ghost use Rattle.span_keywalk.specs.Walks.{IsPassed, IsRun};
 
@@ -8,7 +11,7 @@ use span_arena::arena::Arena;
 use span_arena::token::NO_CHAIN;
 use span_keytree::next::NextLinks;
 
-/// How many keys are passed over together.
+/// How many keys are passed over together at most.
 pub(crate) const RUN_KEYS: usize = 8;
 
 /// The number of the chain where a walk ends; that of no chain where it has no such end.
@@ -21,85 +24,89 @@ pub(crate) fn end_of(stop: Option<u32>) -> u32
     }
 }
 
-/// Whether a number is none of eight, from a number on.
-fn is_apart(end: u32, number: u32) -> bool
-    requires { number + 8 < 2 ^ 32 }
-    ensures { result ≡ true → (k : ℕ) → k < 8 → number + k ≢ end }
+/// How many of eight numbers, from a number on, come before the end.
+fn numbers_before(end: u32, number: u32) -> usize
+    ensures few { result ≤ 8 }
+    ensures apart { (j : ℕ) → j < result → number + j ≢ end }
 {
-    end < number || end >= number + RUN_KEYS as u32
+    if end < number {
+        RUN_KEYS
+    } else {
+        ((end - number) as usize).min(RUN_KEYS)
+    }
 }
 
-/// Whether each of eight links, from that of a chain on, leads to the next number.
-fn are_next_numbers(links: &[u32], number: u32) -> bool
+/// How many of eight chains, from one on, have numbers that follow one another: each of them but the last leads to the next number.
+fn chains_in_order(links: &[u32], number: u32) -> usize
     requires within { number + 8 < length links.now }
     requires few { length links.now ≤ most_chains }
-    ensures { result ≡ true → (k : ℕ) → k < 8 → get_or links.now (number + k) 0 ≡ number + k + 1 }
+    ensures some { 0 < result }
+    ensures few { result ≤ 8 }
+    ensures next { (j : ℕ) → j + 1 < result → get_or links.now (number + j) 0 ≡ number + j + 1 }
 {
     let at = number as usize;
     let mut are = true;
-    for i in 0..RUN_KEYS {
+    let mut len: usize = 1;
+    for i in 0..RUN_KEYS - 1 {
         let is_next = links[at + i] == number + i as u32 + 1;
         are = are & is_next;
+        len += are as usize;
     }
-    are
+    len
 }
 
-/// Whether a walk that is at a chain comes to the numbers that follow its own, and may pass over eight of them at once.
-pub(crate) fn has_run(
+/// How many chains, from the one that a walk is at, it may pass over at once: at most `keys`, and none from its end on. At 0 it goes on by
+/// the chain's link.
+pub(crate) fn run_len(
     arena: &Arena,
     nexts: &NextLinks,
     most: usize,
     number: u32,
     end: u32,
     keys: usize,
-) -> bool
+) -> usize
     requires { length nexts.now.next ≡ length arena.now.cells }
-    ensures run { result ≡ true → (stop : Option ℕ) → IfSome stop (λ number. end ≡ number)
-        → IsRun nexts.now (length arena.now.cells) stop number }
-    ensures most { result ≡ true → most < 65535 }
-    ensures keys { result ≡ true → 8 ≤ keys }
-    ensures fits { result ≡ true → number + 8 < 2 ^ 32 }
+    ensures run { 0 < result → (stop : Option ℕ) → IfSome stop (λ number. end ≡ number)
+        → IsRun nexts.now (length arena.now.cells) stop number result }
+    ensures most { 0 < result → most < 65535 }
+    ensures keys { result ≤ keys }
+    ensures few { result ≤ 8 }
+    ensures within { 0 < result → number + 8 < length arena.now.cells }
+    ensures fits { 0 < result → number + 8 < 2 ^ 32 }
 {
-    if keys < RUN_KEYS {
-        return false;
-    }
     if most >= u16::MAX as usize {
-        return false;
+        return 0;
     }
     if number as usize + RUN_KEYS >= arena.numbers() {
-        return false;
+        return 0;
     }
-    if !is_apart(end, number) {
-        return false;
-    }
-    are_next_numbers(nexts.numbers(), number)
+    let in_order = chains_in_order(nexts.numbers(), number);
+    in_order.min(numbers_before(end, number)).min(keys)
 }
 
-/// Passes over a run. Each number is put, and that of a short key stays: which are short can't be guessed, and a wrong guess takes longer
-/// than both. How many numbers there are then.
+/// Passes over a run of `keys` chains. Each of eight numbers is put, and that of a short key of the run stays: which are short can't be
+/// guessed, and a wrong guess takes longer than both. How many numbers there are then.
 pub(crate) fn pass_run(
     arena: &Arena,
     most: u16,
     number: u32,
+    keys: usize,
     numbers: &mut [u32; BATCH_KEYS],
     mut count: usize,
 ) -> usize
     requires within { number + 8 < length arena.now.cells }
     requires fits { number + 8 < 2 ^ 32 }
     requires most { most < 65535 }
+    requires few { keys ≤ 8 }
     requires room { count ≤ 24 }
     ensures room { result ≤ 32 }
-    ensures passed { IsPassed arena.now.cells most number (take count numbers.old) (take result numbers.new) }
+    ensures passed { IsPassed arena.now.cells most number keys (take count numbers.old) (take result numbers.new) }
 {
     let lengths = arena.key_lengths();
     for i in 0..RUN_KEYS {
+        let is_short = lengths[number as usize + i] <= most;
         numbers[count] = number + i as u32;
-        count += (lengths[number as usize + i] <= most) as usize;
+        count += (is_short & (i < keys)) as usize;
     }
     count
-}
-
-/// How many keys a walk is to go on by links, one of them now, before it looks for a run again. At 0 it has found none here.
-pub(crate) fn next_wait(wait: usize) -> usize {
-    if wait == 0 { RUN_KEYS } else { wait - 1 }
 }
