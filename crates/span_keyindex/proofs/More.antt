@@ -1,13 +1,11 @@
 -- Free numbers of chains more in the arena of an index.
-use Rattle.std.proofs.Common.{◌≡◌, ℕ, List, Option, None, sym, ◌∙◌, ap}
+use Rattle.std.proofs.Common.{◌≡◌, ℕ, None, sym, ◌∙◌, ap}
 use Rattle.span_arena.specs.Content.{Content, with_free_chains}
-use Rattle.span_arena.specs.declared.version.ArenaVersion.{ArenaVersion}
 use Rattle.span_arena.proofs.Blanks.{read_more}
 use Rattle.span_keytree.specs.declared.tree.TreeRoot.{TreeRoot}
-use Rattle.span_keytree.specs.Arenas.{one_if_chain, IsArenaOf}
-use Rattle.span_keytree.specs.Entries.{KeyEntry}
+use Rattle.span_keytree.specs.Arenas.{one_if_chain}
 use Rattle.span_keytree.specs.Items.{holders}
-use Rattle.span_keytree.specs.Nexts.{Nexts, with_places}
+use Rattle.span_keytree.specs.Nexts.{with_places}
 use Rattle.span_keytree.specs.Roots.{entries_at}
 use Rattle.span_keytree.proofs.More.{entries_same, index_more}
 use Rattle.span_keyindex.specs.declared.index.KeyIndex.{KeyIndex}

@@ -1,8 +1,8 @@
 -- Cells of no chain after the others, with places for them, change no tree.
-use Rattle.std.proofs.Common.{◌≡◌, ℕ, ◌+◌, ◌-◌, ◌<◌, ◌≤◌, List, ◌++◌, refl, sym, ◌∙◌, ap, arith, length, map, take, Option, None, replicate, subst, length-append, take_all}
+use Rattle.std.proofs.Common.{◌≡◌, ℕ, ◌+◌, ◌-◌, ◌<◌, List, ◌++◌, sym, ◌∙◌, ap, arith, length, map, take, Option, None, replicate, subst, length-append, take_all}
 use Rattle.std.proofs.Math.Path.{fun_ext}
 use Rattle.std.proofs.Math.Seq.{take-append_seam}
-use Rattle.std.proofs.lemmas.List.{length-map, length-replicate, map-append}
+use Rattle.std.proofs.lemmas.List.{length-replicate, map-append}
 use Rattle.span_arena.specs.declared.cell.Cell.{Cell}
 use Rattle.span_arena.specs.Cells.{blank, cell_at}
 use Rattle.span_arena.specs.Limits.{most_chains}
@@ -10,7 +10,7 @@ use Rattle.span_arena.proofs.Blanks.{map_replicate, read_more}
 use Rattle.span_keytree.specs.declared.tree.TreeRoot.{TreeRoot}
 use Rattle.span_keytree.specs.Trees.{Tree, root_of, shape, count, height, IsInCells, IsAvl}
 use Rattle.span_keytree.specs.Items.{items, AreRising}
-use Rattle.span_keytree.specs.Nexts.{Nexts, link_to, next_of, last_cell, with_places, without_places, IsLinked}
+use Rattle.span_keytree.specs.Nexts.{Nexts, link_to, next_of, last_cell, with_places, without_places}
 use Rattle.span_keytree.specs.Roots.{entries_at, tree_of, IsIndex, IsSearchTree}
 
 long_links : (ls : List (Option ℕ)) (n : ℕ) → length (ls ++ replicate n None) ≡ length ls + n

@@ -9,7 +9,7 @@ pub mod Moving
 pub mod Owned
 pub mod Parting
 pub mod Preparing
-pub mod Room
+pub mod FreeNumbers
 pub mod Seeing
 pub mod Slots
 pub mod Unused

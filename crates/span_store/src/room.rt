@@ -19,12 +19,9 @@ const LENGTHS: usize = 256;
 /// The most lengths of keys. Where there are more, rows of one table have keys of several lengths, and are kept in the order of their keys.
 const MOST_LENGTHS: usize = 4;
 
-/// How many writes there are with keys of each length. None where a key is too long, or there are more writes than numbers.
+/// How many writes there are with keys of each length. None where a key is too long.
 fn count_lengths(writes: &[NearWrite]) -> Option<[u32; LENGTHS]> {
-    let mut counts = [0; LENGTHS];
-    if writes.len() >= u32::MAX as usize {
-        return None;
-    }
+    let mut counts: [u32; LENGTHS] = [0; LENGTHS];
     for write in writes {
         let len = write.write.key.as_slice().len();
         if len >= LENGTHS {
@@ -37,7 +34,7 @@ fn count_lengths(writes: &[NearWrite]) -> Option<[u32; LENGTHS]> {
 
 /// The first number for the keys of each length. None where there are fewer than two lengths, or too many.
 fn first_numbers(counts: &[u32; LENGTHS]) -> Option<[u32; LENGTHS]> {
-    let mut firsts = [0; LENGTHS];
+    let mut firsts: [u32; LENGTHS] = [0; LENGTHS];
     let mut lengths: usize = 0;
     let mut next: u32 = 0;
     for len in 0..LENGTHS {
@@ -53,17 +50,21 @@ fn first_numbers(counts: &[u32; LENGTHS]) -> Option<[u32; LENGTHS]> {
     Some(firsts)
 }
 
-/// The numbers of the writes in the order in which they are put, from the last on.
+/// The numbers of the writes in the order in which they are put, from the last on. None where there are more writes than numbers.
 fn number_writes(
     alloc: Global,
     writes: &[NearWrite],
     firsts: &[u32; LENGTHS],
 ) -> Result<Option<FreeOrder>, AllocError> {
+    if writes.len() >= u32::MAX as usize {
+        return Ok(None);
+    }
     let mut next = *firsts;
     let mut numbers = Vec::with_capacity(alloc, writes.len())?;
-    let mut places = Vec::from_elem(alloc, 0, writes.len())?;
+    let mut places: Vec<u32> = Vec::from_elem(alloc, 0, writes.len())?;
     for place in 0..writes.len() {
-        let len = writes[writes.len() - 1 - place].write.key.as_slice().len();
+        let write = &writes[writes.len() - 1 - place];
+        let len = write.write.key.as_slice().len();
         if len >= LENGTHS {
             return Ok(None);
         }

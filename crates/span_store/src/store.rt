@@ -89,15 +89,20 @@ impl Store {
         }
     }
 
-    /// Whether some of the writes, one in a number of them, are of keys that are not there.
+    /// Whether the key of a write is there.
+    fn is_there(&self, write: &NearWrite) -> bool {
+        let key = write.write.key.as_slice();
+        self.index
+            .chain_at(&self.arena, key, write.near)
+            .is_some()
+    }
+
+    /// Whether none of some of the writes, one in a number of them, is of a key that is there.
     fn are_new(&self, writes: &[NearWrite]) -> bool {
-        let mut at = 0;
-        while at < writes.len() {
-            let key = writes[at].write.key.as_slice();
-            if self.index.chain_at(&self.arena, key, writes[at].near).is_some() {
+        for at in 0..writes.len() {
+            if at % WRITES_FOR_EACH == 0 && self.is_there(&writes[at]) {
                 return false;
             }
-            at = at.saturating_add(WRITES_FOR_EACH);
         }
         true
     }

@@ -1,16 +1,17 @@
 -- Free numbers change nothing that is kept.
-use Rattle.std.proofs.Common.{◌≡◌, ℕ, ◌+◌, List, [], ◌∷◌, ◌++◌, Option, Some, None, refl, sym, ◌∙◌, ap, replicate, map, if◌then◌else◌}
+use Rattle.std.proofs.Common.{◌≡◌, ℕ, List, [], ◌∷◌, Option, Some, None, refl, ◌∙◌, ap, map, if◌then◌else◌}
 use Rattle.std.specs.List.{AllByRecursion}
 use Rattle.span_arena.specs.declared.version.ArenaVersion.{ArenaVersion}
 use Rattle.span_arena.specs.Content.{Content, Prepared, versions, versions_in, prepared_at, prepared_for, one_for, IsChain, with_free_chains, with_free_nodes}
 use Rattle.span_arena.proofs.Blanks.{read_more}
 use Rattle.span_arena.proofs.FreeLists.{sum_none}
 use Rattle.span_keytree.specs.Entries.{KeyEntry}
+use Rattle.span_keyindex.specs.declared.index.KeyIndex.{KeyIndex}
+use Rattle.span_keyindex.specs.Indexes.{entries_of, IsIndexOf}
 use Rattle.span_store.specs.declared.node.PreparedNode.{PreparedNode}
 use Rattle.span_store.specs.declared.chain.PreparedWrite.{PreparedWrite}
-use Rattle.span_store.specs.declared.chain.Version.{Version}
 use Rattle.span_store.specs.KeyVersions.{KeyVersions}
-use Rattle.span_store.specs.Stored.{all_kept, chain_versions, image_of, is_for, kept_entry, version_of, write_for, AreOwned, IsNodeOf}
+use Rattle.span_store.specs.Stored.{all_kept, chain_versions, image_of, is_for, kept_entry, version_of, write_for, AreOwned, IsKept, IsNodeOf}
 
 -- each chain, with its versions, and each prepared node is as it was
 pub record IsReadAlike (a b : Content) : Type 0 where
@@ -77,3 +78,21 @@ module _ (a b : Content) (alike : IsReadAlike a b) where
     counted = λ c. alike.counted c ∙ owned.counted c;
     once = owned.once;
   }
+
+-- the index is that of the arena with free nodes too
+pub index_nodes : (i : KeyIndex) (n : ℕ) (a b : Content) → b ≡ with_free_nodes n a → IsIndexOf i a → IsIndexOf i b
+index_nodes i n a b more own = rw more (record { index = own.index; own = record { each = own.own.each } })
+
+pub entries_nodes : (i : KeyIndex) (n : ℕ) (a b : Content) → b ≡ with_free_nodes n a → entries_of i b ≡ entries_of i a
+entries_nodes i n a b more = rw more refl
+
+module _ (i j : KeyIndex) (a b c : Content) (ps : List PreparedNode) (first : IsReadAlike a b) (second : IsReadAlike b c) (same : entries_of j c ≡ entries_of i a) where
+  pub kept_after : IsIndexOf j c → IsKept i a ps → IsKept j c ps
+  kept_after own kept = record {
+    index = own;
+    owned = owned_alike b c second ps (owned_alike a b first ps kept.owned);
+    most = second.most ∙ first.most ∙ kept.most;
+  }
+
+  pub view_after : all_kept c ps (entries_of j c) ≡ all_kept a ps (entries_of i a)
+  view_after = ap (all_kept c ps) same ∙ kept_alike b c second ps (entries_of i a) ∙ kept_alike a b first ps (entries_of i a)
