@@ -105,26 +105,25 @@ pub(crate) fn take_columns_of(
     Ok(part)
 }
 
-/// The table all of whose rows a query puts in order, where it is such a query: one SELECT with no condition and no groups. None where
-/// LIMIT needs few of them, for which the others are not sorted.
+/// The table all of whose rows a query puts in order, where it is such a query: one SELECT with no condition and no groups.
 pub fn ordered_table(query: &BoundQuery) -> Option<usize>
     ensures table { IfSome result (λ number. IsTable (out-BoundQuery query.now).first number) }
     ensures takes { IfSome result (λ _. TakesAllRows (out-BoundQuery query.now)) }
 {
-    if orders_all_rows(query) && few_rows(query.limit).is_none() {
+    if orders_all_rows(query) {
         only_table(&query.first)
     } else {
         None
     }
 }
 
-/// Rows of the table that a query puts in order, with this order where its select list is columns alone. The only error is out of
-/// memory.
+/// Rows of the table that a query puts in order, with this order where its select list is columns alone. Where LIMIT needs few rows,
+/// these alone are put in order. The only error is out of memory.
 pub fn order_part(alloc: Global, query: &BoundQuery, rows: RowList) -> Result<PartRows, AllocError>
     ensures { IfOk result (λ ordered. ordered ≡ rows) }
 {
     match column_order(alloc, query)? {
-        Some(order) => PartRows::with_order(alloc, order.keys(), rows),
+        Some(order) => PartRows::with_order(alloc, order.keys(), few_rows(query.limit), rows),
         None => Ok(PartRows::new(rows)),
     }
 }

@@ -1,18 +1,22 @@
 -- Rows of a list with their codes and their places, in order.
-use Rattle.std.proofs.Common.{◌≡◌, refl, sym, ap, subst, ◌∙◌, ℕ, ◌<◌, Bool, ◌&&◌, List, [], ◌∷◌, ◌++◌, length, map, get_or}
+use Rattle.std.proofs.Common.{◌≡◌, refl, sym, ap, subst, ◌∙◌, ℕ, zero, suc, ◌<◌, Bool, false, ◌&&◌, List, [], ◌∷◌, ◌++◌, Option, Some, None, length, map, get_or, take}
+use Rattle.std.specs.Cmp.{IsStrictWeakOrder}
 use Rattle.std.specs.List.{AllByRecursion}
 use Rattle.std.proofs.lemmas.Bool.{and_parts}
-use Rattle.std.proofs.lemmas.List.{map_push}
-use Rattle.std.proofs.lemmas.List.Elements.{All-from_recursion}
+use Rattle.std.proofs.lemmas.List.{map_push, take-map}
+use Rattle.std.proofs.lemmas.List.Elements.{All-from_recursion, recursion_from_All}
+use Rattle.std.proofs.lemmas.List.MinMax.{ranks_by}
+use Rattle.span_value.proofs.Lists.{all_take}
 use Rattle.span_query.specs.declared.query.SortKey.{SortKey}
 use Rattle.span_query.specs.Rows.{Row}
-use Rattle.span_query.specs.Sorting.{insertion_sort, sorted}
+use Rattle.span_query.specs.Sorting.{comes_before, insert_sorted, insertion_sort, sorted}
 use Rattle.span_sorting.specs.declared.placed.PlacedRow.{PlacedRow}
 use Rattle.span_sorting.specs.Codes.{IsCoded, IsCodedAs, are_exact, code_before, uncoded}
 use Rattle.span_rows.specs.RowPlaces.{rows_at}
-use Rattle.span_sorting.specs.PlacesInOrder.{ArePlacesBy, IsPlaced, without_places}
-use Rattle.span_sorting.proofs.CodedRows.{uncoded_more, uncoded_in_order}
-use Rattle.span_sorting.proofs.Sorting.{all_in_order, sorted_map}
+use Rattle.span_sorting.specs.Orders.{take_first}
+use Rattle.span_sorting.specs.PlacesInOrder.{ArePlacesBy, IsPlaced, placed_before, without_places}
+use Rattle.span_sorting.proofs.CodedRows.{code_total, uncoded_more, uncoded_inserted, uncoded_in_order}
+use Rattle.span_sorting.proofs.Sorting.{all_in_order, inserted_map, sorted_map}
 
 abbrev pub places_of : List PlacedRow → List ℕ
 places_of xs = map (λ (x : PlacedRow). x.place) xs
@@ -60,17 +64,59 @@ module _ (rows : List Row) (keys : List SortKey) where
     all_within [] all = tt
     all_within (x ∷ xs) all = (all.0.within, all_within xs all.1)
 
+    -- the places of rows that are the first in the order of the keys, or all
+    pub are_places : (count : Option ℕ) (xs : List PlacedRow) → AllByRecursion (IsPlaced rows keys exact) xs
+        → uncoded (without_places xs) ≡ take_first count (sorted keys rows) → ArePlacesBy keys count rows (places_of xs)
+    are_places count xs all is = record {
+      within = All-from_recursion (λ (place : ℕ). place < length rows) (places_of xs) (all_within xs all);
+      sorted = at_places xs all ∙ is;
+    }
+
     -- the places of rows in the order of their codes are in the order of the keys
     pub places_in_order : (xs ys : List PlacedRow) → AllByRecursion (IsPlaced rows keys exact) xs → uncoded (without_places xs) ≡ rows
-        → ys ≡ insertion_sort (λ (x y : PlacedRow). code_before keys exact x.coded y.coded) xs → ArePlacesBy keys rows (places_of ys)
+        → ys ≡ insertion_sort (λ (x y : PlacedRow). code_before keys exact x.coded y.coded) xs → ArePlacesBy keys None rows (places_of ys)
     places_in_order xs ys all whole is =
         let lt : PlacedRow → PlacedRow → Bool = λ x y. code_before keys exact x.coded y.coded in
         let placed : AllByRecursion (IsPlaced rows keys exact) ys = subst (AllByRecursion (IsPlaced rows keys exact)) (sym is) (all_in_order lt (IsPlaced rows keys exact) xs all) in
-        record {
-          within = All-from_recursion (λ (place : ℕ). place < length rows) (places_of ys) (all_within ys placed);
-          sorted = at_places ys placed
-              ∙ ap (λ (l : List PlacedRow). uncoded (without_places l)) is
-              ∙ ap uncoded (sym (sorted_map (λ (x : PlacedRow). x.coded) (code_before keys exact) lt (λ x y. refl) xs))
-              ∙ uncoded_in_order keys exact (without_places xs) (all_coded xs all)
-              ∙ ap (sorted keys) whole;
-        }
+        are_places None ys placed
+        (ap (λ (l : List PlacedRow). uncoded (without_places l)) is
+        ∙ ap uncoded (sym (sorted_map (λ (x : PlacedRow). x.coded) (code_before keys exact) lt (λ x y. refl) xs))
+        ∙ uncoded_in_order keys exact (without_places xs) (all_coded xs all)
+        ∙ ap (sorted keys) whole)
+
+  -- ---- one more among the first
+
+  pub unplaced_inserted : (x : PlacedRow) (ys : List PlacedRow) → IsPlaced rows keys false x → AllByRecursion (IsPlaced rows keys false) ys
+      → uncoded (without_places (insert_sorted (placed_before keys) x ys)) ≡ insert_sorted (comes_before keys) x.coded.row.now (uncoded (without_places ys))
+  unplaced_inserted x ys is all =
+      ap uncoded (sym (inserted_map (λ (y : PlacedRow). y.coded) (code_before keys false) (placed_before keys) (λ y z. refl) x ys))
+      ∙ uncoded_inserted keys false x.coded (without_places ys) is.coded (all_coded false ys all)
+
+pub placed_ranked : (keys : List SortKey) → IsStrictWeakOrder (placed_before keys)
+placed_ranked keys = ranks_by (code_total keys false) (λ (x : PlacedRow). x.coded)
+
+pub unplaced_first : (count : ℕ) (xs : List PlacedRow) → uncoded (without_places (take count xs)) ≡ take count (uncoded (without_places xs))
+unplaced_first zero xs = refl
+unplaced_first (suc count) [] = refl
+unplaced_first (suc count) (x ∷ xs) = ap (λ (l : List Row). x.coded.row.now ∷ l) (unplaced_first count xs)
+
+-- ---- the first of some places
+
+rows_at_first : (count : Option ℕ) (rows : List Row) (places : List ℕ) → rows_at rows (take_first count places) ≡ take_first count (rows_at rows places)
+rows_at_first None rows places = refl
+rows_at_first (Some n) rows places = sym (take-map (λ (place : ℕ). get_or rows place []) n places)
+
+all_first : (P : ℕ → Type 0) (count : Option ℕ) (places : List ℕ) → AllByRecursion P places → AllByRecursion P (take_first count places)
+all_first P None places all = all
+all_first P (Some n) places all = all_take P n places all
+
+-- those of as many as are wanted, where there are enough
+pub first_of_places : (keys : List SortKey) (wanted count : Option ℕ) (rows : List Row) (places : List ℕ)
+    → ((rs : List Row) → take_first wanted (take_first count rs) ≡ take_first wanted rs)
+    → ArePlacesBy keys count rows places → ArePlacesBy keys wanted rows (take_first wanted places)
+first_of_places keys wanted count rows places among are =
+    let inside : ℕ → Type 0 = λ place. place < length rows in
+    record {
+      within = All-from_recursion inside (take_first wanted places) (all_first inside wanted places (recursion_from_All inside places are.within));
+      sorted = rows_at_first wanted rows places ∙ ap (take_first wanted) are.sorted ∙ among (sorted keys rows);
+    }

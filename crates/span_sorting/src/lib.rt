@@ -4,6 +4,7 @@
 mod code;
 mod coded;
 pub mod columns;
+mod first_places;
 mod first_rows;
 mod placed;
 pub mod rows_with_order;

@@ -1,5 +1,5 @@
 //! The places of the rows of a list in the order of some keys.
-ghost use Rattle.std.specs.Prelude.{◌≡◌, IfOk, map};
+ghost use Rattle.std.specs.Prelude.{◌≡◌, IfOk, None, map};
 ghost use Rattle.std.specs.List.{AllByRecursion};
 ghost use Rattle.span_sorting.specs.Codes.{code_order, uncoded};
 ghost use Rattle.span_sorting.specs.PlacesInOrder.{ArePlacesBy, IsPlaced, without_places};
@@ -12,9 +12,9 @@ use std::cmp::Ordering;
 
 /// A row of a list with its codes, and its place there.
 #[derive(Drop)]
-struct PlacedRow<'a> {
-    coded: CodedRow<'a>,
-    place: usize,
+pub(crate) struct PlacedRow<'a> {
+    pub(crate) coded: CodedRow<'a>,
+    pub(crate) place: usize,
 }
 
 /// The rows of a list with their codes and their places.
@@ -62,7 +62,7 @@ fn compare_placed(
 }
 
 /// The places alone.
-fn places_of(alloc: Global, rows: &[PlacedRow<'_>]) -> Result<Vec<usize>, AllocError>
+pub(crate) fn places_of(alloc: Global, rows: &[PlacedRow<'_>]) -> Result<Vec<usize>, AllocError>
     ensures { IfOk result (λ places. places.items ≡ map (λ row. row.place) rows.now) }
 {
     let mut places = Vec::with_capacity(alloc, rows.len())?;
@@ -78,7 +78,7 @@ pub(crate) fn order_places(
     keys: &[SortKey],
     rows: &RowList,
 ) -> Result<Vec<usize>, AllocError>
-    ensures { IfOk result (λ places. ArePlacesBy keys.now rows.now places.items) }
+    ensures { IfOk result (λ places. ArePlacesBy keys.now None rows.now places.items) }
 {
     let PlacedRows {
         rows: mut placed,

@@ -1,9 +1,12 @@
 //! Rows with their order by some keys, made where the rows are read, so that several threads can put their parts in order.
-ghost use Rattle.std.specs.Prelude.{◌≡◌, ◌++◌, IfOk, IfSome, IsTrue, OnOk};
+ghost use Rattle.std.specs.Prelude.{◌≡◌, ◌++◌, IfOk, IfSome, IsTrue, List, OnOk, true};
+ghost use Rattle.span_query.specs.Rows.{Row};
 ghost use Rattle.span_query.specs.Sorting.{sorted};
 ghost use Rattle.span_rows.specs.LentRows.{lent_rows};
+ghost use Rattle.span_sorting.specs.Orders.{take_first};
 ghost use Rattle.span_sorting.specs.PlacesInOrder.{ArePlacesBy};
 
+use super::first_places::first_places;
 use super::placed::order_places;
 use span_query::query::SortKey;
 use span_rows::row_list::{RowList, lend_places, lend_rows};
@@ -15,7 +18,46 @@ use std::marker::Model;
 #[derive(Debug, Drop)]
 struct RowOrder {
     keys: Vec<SortKey>,
+    /// Of how many of the first rows there are the places. None where there are those of all.
+    count: Option<usize>,
     places: Vec<usize>,
+}
+
+/// The places of the rows of a list in the order of the keys: of the first `count`, where there is a count.
+fn find_places(
+    alloc: Global,
+    keys: &[SortKey],
+    count: Option<usize>,
+    rows: &RowList,
+) -> Result<Vec<usize>, AllocError>
+    ensures { IfOk result (λ places. ArePlacesBy keys.now count rows.now places.items) }
+{
+    match count {
+        Some(count) => first_places(alloc, keys, rows, count),
+        None => order_places(alloc, keys, rows),
+    }
+}
+
+/// Whether the first `wanted` rows of a list are among its first `count`. No count is all rows.
+fn are_among(wanted: Option<usize>, count: Option<usize>) -> bool
+    ensures { result ≡ true
+        → (rows : List Row) → take_first wanted (take_first count rows) ≡ take_first wanted rows }
+{
+    match (wanted, count) {
+        (_, None) => true,
+        (Some(wanted), Some(count)) => wanted <= count,
+        (None, Some(_)) => false,
+    }
+}
+
+/// The first of some places, where a count of them is given; else all.
+fn take_first(count: Option<usize>, places: &[usize]) -> &[usize]
+    ensures { result.now ≡ take_first count places.now }
+{
+    match count {
+        Some(count) => &places[..places.len().min(count)],
+        None => places,
+    }
 }
 
 fn is_same_key(left: &SortKey, right: &SortKey) -> bool
@@ -66,19 +108,25 @@ impl RowsWithOrder {
         RowsWithOrder { rows, order: None }
     }
 
-    /// Rows with their order by the keys. The only error is out of memory.
+    /// Rows with their order by the keys; where a count is given, with that of the first `count` alone. The only error is out of
+    /// memory.
     pub fn with_order(
         alloc: Global,
         keys: &[SortKey],
+        count: Option<usize>,
         rows: RowList,
     ) -> Result<RowsWithOrder, AllocError>
         ensures { IfOk result (λ ordered. ordered ≡ rows) }
     {
-        let places = order_places(alloc, keys, &rows)?;
+        let places = find_places(alloc, keys, count, &rows)?;
         let keys = keys.to_vec(alloc)?;
         Ok(RowsWithOrder {
             rows,
-            order: Some(RowOrder { keys, places }),
+            order: Some(RowOrder {
+                keys,
+                count,
+                places,
+            }),
         })
     }
 
@@ -89,32 +137,36 @@ impl RowsWithOrder {
         &self.rows
     }
 
-    /// The places of the rows in the order of the keys, where it was made.
-    fn places_by(&self, keys: &[SortKey]) -> Option<&[usize]>
-        ensures { IfSome result (λ places. ArePlacesBy keys.now self.now places.now) }
+    /// The places of the rows in the order of the keys, where they were found; where a count is given, those of the first `count`
+    /// alone.
+    fn places_by(&self, keys: &[SortKey], count: Option<usize>) -> Option<&[usize]>
+        ensures { IfSome result (λ places. ArePlacesBy keys.now count self.now places.now) }
     {
         let Some(order) = &self.order else {
             return None;
         };
-        if are_same_keys(keys, order.keys.as_slice()) {
-            Some(order.places.as_slice())
+        if are_same_keys(keys, order.keys.as_slice()) && are_among(count, order.count) {
+            Some(take_first(count, order.places.as_slice()))
         } else {
             None
         }
     }
 
-    /// Lends the rows after others, in the order of the keys where it was made, so that sorting all has less to do. The only error
-    /// is out of memory.
+    /// Lends the rows after others, in the order of the keys where it was made, so that sorting all has less to do. Where a count is
+    /// given, the first `count` in this order are what is wanted of all, and the others are not lent where these were found. The only
+    /// error is out of memory.
     pub fn lend_in_order<'a>(
         &'a self,
         keys: &[SortKey],
+        count: Option<usize>,
         all: &mut Vec<&'a [Value]>,
     ) -> Result<(), AllocError>
         ensures { OnOk result
-            (sorted keys.now (lent_rows all.new.items) ≡ sorted keys.now (lent_rows all.old.items ++ self.now)) }
+            (take_first count (sorted keys.now (lent_rows all.new.items))
+            ≡ take_first count (sorted keys.now (lent_rows all.old.items ++ self.now))) }
     {
-        match self.places_by(keys) {
-            Some(places) => lend_sorted(keys, &self.rows, places, all),
+        match self.places_by(keys, count) {
+            Some(places) => lend_sorted(keys, count, &self.rows, places, all),
             None => lend_rows(&self.rows, all),
         }
     }
@@ -123,13 +175,15 @@ impl RowsWithOrder {
 /// Lends the rows at their places in the order of the keys, after others.
 fn lend_sorted<'a>(
     keys: &[SortKey],
+    count: Option<usize>,
     rows: &'a RowList,
     places: &[usize],
     all: &mut Vec<&'a [Value]>,
 ) -> Result<(), AllocError>
-    requires { ArePlacesBy keys.now rows.now places.now }
+    requires { ArePlacesBy keys.now count rows.now places.now }
     ensures { OnOk result
-        (sorted keys.now (lent_rows all.new.items) ≡ sorted keys.now (lent_rows all.old.items ++ rows.now)) }
+        (take_first count (sorted keys.now (lent_rows all.new.items))
+        ≡ take_first count (sorted keys.now (lent_rows all.old.items ++ rows.now))) }
 {
     lend_places(rows, places, all)?;
     Ok(())

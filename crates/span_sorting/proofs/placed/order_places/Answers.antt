@@ -1,4 +1,4 @@
-use Rattle.std.proofs.Common.{rules, ◌≡◌, sym, subst, List}
+use Rattle.std.proofs.Common.{rules, ◌≡◌, sym, subst, List, None}
 use Rattle.std.specs.List.{AllByRecursion}
 use Rattle.span_query.specs.Rows.{Row}
 use Rattle.span_query.specs.Sorting.{insertion_sort}
@@ -21,4 +21,4 @@ returns c =
     let places : c.in_ok-places.places.items ≡ places_of ys = search rules in
     let order : ys ≡ insertion_sort (λ (x y : PlacedRow). code_before keys exact x.coded y.coded) xs =
     in_code_order keys exact (λ (x : PlacedRow). x.coded) xs ys c.in_ok-sort_by.ensures.sorted c.sort_by.ensures.stable (λ a r q k. search rules) in
-    subst (ArePlacesBy keys rows) (sym places) (places_in_order rows keys exact xs ys placed whole order)
+    subst (ArePlacesBy keys None rows) (sym places) (places_in_order rows keys exact xs ys placed whole order)
