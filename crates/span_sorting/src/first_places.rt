@@ -5,7 +5,7 @@ ghost use Rattle.span_sorting.specs.Orders.{GoesBefore, IsSorted};
 ghost use Rattle.span_sorting.specs.PlacesInOrder.{ArePlacesBy, IsPlaced, placed_before};
 
 use super::coded::{code_row, compare_coded};
-use super::placed::{PlacedRow, places_of};
+use super::placed::{CodedPlaces, PlacedRow, places_of};
 use span_query::query::SortKey;
 use span_rows::row_list::RowList;
 use std::alloc::{AllocError, Global};
@@ -81,8 +81,9 @@ pub(crate) fn first_places(
     keys: &[SortKey],
     rows: &RowList,
     count: usize,
-) -> Result<Vec<usize>, AllocError>
-    ensures { IfOk result (λ places. ArePlacesBy keys.now (Some count) rows.now places.items) }
+) -> Result<CodedPlaces, AllocError>
+    ensures { IfOk result
+        (λ found. ArePlacesBy keys.now (Some count) rows.now found.are_exact found.places.items) }
 {
     let mut first = Vec::new(alloc);
     let mut at = rows.len();
@@ -92,5 +93,9 @@ pub(crate) fn first_places(
         put_in_order(keys, &mut first, row, count)?;
     }
     let places = places_of(alloc, first.as_slice())?;
-    Ok(places)
+    // Whether the codes are exact is not looked at: the rows are few.
+    Ok(CodedPlaces {
+        places,
+        are_exact: false,
+    })
 }

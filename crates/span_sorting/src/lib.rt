@@ -2,7 +2,7 @@
 #![tactic(auto)]
 
 mod code;
-mod coded;
+pub mod coded;
 pub mod columns;
 mod first_places;
 mod first_rows;

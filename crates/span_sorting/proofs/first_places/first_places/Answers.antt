@@ -9,7 +9,7 @@ use Rattle.span_sorting.specs.Codes.{uncoded}
 use Rattle.span_sorting.specs.Orders.{IsSorted}
 use Rattle.span_sorting.specs.PlacesInOrder.{ArePlacesBy, IsPlaced, placed_before, without_places}
 use Rattle.span_sorting.proofs.FirstRows.{first_of_inserted, first_sorted}
-use Rattle.span_sorting.proofs.Placing.{are_places, placed_ranked, places_of, unplaced_first, unplaced_inserted}
+use Rattle.span_sorting.proofs.Placing.{are_places, coded_places, placed_ranked, unplaced_first, unplaced_inserted}
 use Rattle.span_sorting.proofs.Sorting.{all_placed, placed_in_order}
 use Rattle.span_sorting.proofs.first_places.first_places.Goals as goal
 
@@ -57,5 +57,5 @@ returns c =
     let none : c.loop-at.at ≡ 0 = search rules in
     let first : uncoded (without_places xs) ≡ take c.args.count (sorted keys rows) =
     c.loop-at.invariant.first ∙ ap (λ (n : ℕ). take c.args.count (sorted keys (drop n rows))) none in
-    let places : c.in_ok-places.places.items ≡ places_of xs = search rules in
-    subst (ArePlacesBy keys (Some c.args.count) rows) (sym places) (are_places rows keys false (Some c.args.count) xs c.loop-at.invariant.placed first)
+    let places : c.in_ok-places.places.items ≡ coded_places xs = search rules in
+    subst (ArePlacesBy keys (Some c.args.count) rows false) (sym places) (are_places rows keys false (Some c.args.count) xs c.loop-at.invariant.placed first)

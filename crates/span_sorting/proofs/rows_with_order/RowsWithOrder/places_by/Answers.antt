@@ -1,6 +1,7 @@
 use Rattle.std.proofs.Common.{rules, ◌≡◌, sym, subst, ℕ, List, Option}
 use Rattle.span_query.specs.Rows.{Row}
 use Rattle.span_query.specs.declared.query.SortKey.{SortKey}
+use Rattle.span_sorting.specs.declared.placed.CodedPlace.{CodedPlace}
 use Rattle.span_sorting.specs.Orders.{take_first}
 use Rattle.span_sorting.specs.PlacesInOrder.{ArePlacesBy}
 use Rattle.span_sorting.proofs.Placing.{first_of_places}
@@ -12,9 +13,11 @@ returns-then-are_among c =
     let keys : List SortKey = c.args.keys.now in
     let wanted : Option ℕ = c.args.count in
     let order = c.in-Some.order in
-    let is : ArePlacesBy order.keys.items order.count rows order.places.items = search rules in
+    let all : List CodedPlace = order.found.places.items in
+    let exact = order.found.are_exact in
+    let is : ArePlacesBy order.keys.items order.count rows exact all = search rules in
     let same : keys ≡ order.keys.items = search rules in
-    let places : c.take_first.result.now ≡ take_first wanted order.places.items = search rules in
-    subst (ArePlacesBy keys wanted rows) (sym places)
-    (first_of_places keys wanted order.count rows order.places.items (c.are_among.ensures c.if-are_among.true)
-    (subst (λ (ks : List SortKey). ArePlacesBy ks order.count rows order.places.items) (sym same) is))
+    let places : c.take_first-places.result.now ≡ take_first wanted all = search rules in
+    subst (ArePlacesBy keys wanted rows exact) (sym places)
+    (first_of_places keys wanted order.count rows exact all (c.are_among.ensures c.if-are_among.true)
+    (subst (λ (ks : List SortKey). ArePlacesBy ks order.count rows exact all) (sym same) is))
