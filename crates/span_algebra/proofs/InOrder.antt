@@ -1,5 +1,6 @@
 -- What a query means whose rows are put in order before the columns of its select list are copied.
 use Rattle.std.proofs.Common.{◌≡◌, ◌∙◌, refl, ap, sym, ℕ, Bool, false, List, [], map, Option, Some, None, Err}
+use Rattle.std.specs.Prelude.{IfSome}
 use Rattle.std.proofs.lemmas.List.{append-nil}
 use Rattle.span_expr.specs.declared.expr.Expr.{Expr}
 use Rattle.span_query.specs.declared.query.Block.{Block}
@@ -18,6 +19,7 @@ use Rattle.span_query.specs.Sorting.{sorted}
 use Rattle.span_expr.specs.declared.cell.Failure.{Failure}
 use Rattle.span_expr.specs.declared.cell.Failure.TheVariants.{Fault, OutOfMemory}
 use Rattle.span_rows.specs.Answers.{Gives}
+use Rattle.span_sorting.proofs.Limits.{IsNeededBy, limit_of_first}
 use Rattle.span_sorting.proofs.TakenColumns.{project_columns, columns_in_order}
 use Rattle.span_algebra.specs.declared.ordered.ColumnOrder.{ColumnOrder}
 use Rattle.span_algebra.specs.ColumnOrders.{IsColumnOrder, IsTable}
@@ -68,12 +70,16 @@ rows_of_table tables b n h =
     ap (λ (i : Item BoundQuery). from tables (map_item (meaning_over tables) i) (map (map_join (meaning_over tables)) b.joins)) h.from
     ∙ ap (λ (js : List (Join BoundQuery)). from tables (item.Table n) (map (map_join (meaning_over tables)) js)) h.joins
 
--- rows that are the same as those of the FROM once sorted, put in order
-pub sorts_columns : (q : BoundQuery-F BoundQuery) (order : ColumnOrder) (rows : List Row) (o : Rows) → SortsAs order.keys.items rows o
+-- rows of which the first that LIMIT needs are those of the FROM once sorted, put in order
+pub sorts_columns : (q : BoundQuery-F BoundQuery) (order : ColumnOrder) (count : Option ℕ) (rows : List Row) (o : Rows)
+    → IfSome count (IsNeededBy q.limit) → SortsAs order.keys.items count rows o
     → (o >>= (λ found. Some (columns_first q order found))) ≡ Some (columns_first q order rows)
-sorts_columns q order rows None h = absurd h
-sorts_columns q order rows (Some all) h =
-    ap (λ (l : List Row). Some (map (columns_at order.columns.items) (limit_rows q.limit l))) (sym h)
+sorts_columns q order count rows None needed h = absurd h
+sorts_columns q order count rows (Some all) needed h =
+    ap (λ (l : List Row). Some (map (columns_at order.columns.items) l))
+    (sym (limit_of_first q.limit count (sorted order.keys.items all) needed)
+    ∙ ap (limit_rows q.limit) (sym h)
+    ∙ limit_of_first q.limit count (sorted order.keys.items rows) needed)
 
 -- where the FROM fails, the query does
 pub ordered_fails : (why : Failure) (tables : ℕ → Rows) (q : BoundQuery) (order : ColumnOrder) → IsColumnOrder (out-BoundQuery q) order

@@ -6,6 +6,7 @@ use Rattle.span_query.specs.declared.query.SortKey.{SortKey}
 use Rattle.span_query.specs.Rows.{Row, Rows}
 use Rattle.span_query.specs.Sorting.{sorted}
 use Rattle.span_rows.specs.Columns.{distinct_at}
+use Rattle.span_sorting.specs.Orders.{take_first}
 use Rattle.span_algebra.specs.declared.source.SourceRows.{SourceRows}
 use Rattle.span_algebra.specs.declared.source.SourceRows.TheVariants.{Lent, Made}
 use Rattle.span_algebra.specs.declared.source.TableSource.{TableSource}
@@ -32,10 +33,10 @@ abbrev pub IsGivenBy : Option TableSource → Rows → Type 0
 IsGivenBy None o = o ≡ Some []
 IsGivenBy (Some source) o = o ≡ source_result source
 
--- sorted by the keys, these rows and those are the same
-abbrev pub SortsAs : List SortKey → List Row → Rows → Type 0
-SortsAs keys rows None = ⊥
-SortsAs keys rows (Some all) = sorted keys rows ≡ sorted keys all
+-- sorted by the keys, these rows and those are the same; where a count is given, the first `count` are
+abbrev pub SortsAs : List SortKey → Option ℕ → List Row → Rows → Type 0
+SortsAs keys count rows None = ⊥
+SortsAs keys count rows (Some all) = take_first count (sorted keys rows) ≡ take_first count (sorted keys all)
 
 -- the values of these rows at the columns, each once, are those of those
 abbrev pub HasSameValues : List ℕ → List Row → Rows → Type 0

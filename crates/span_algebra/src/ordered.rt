@@ -4,15 +4,15 @@ ghost use Rattle.span_query.specs.declared.query.BoundQuery.TheViews.{out-BoundQ
 ghost use Rattle.span_query.specs.Groups.{columns_at};
 ghost use Rattle.span_query.specs.Meaning.{limit_rows};
 ghost use Rattle.span_query.specs.Sorting.{sorted};
-ghost use Rattle.span_rows.specs.LentRows.{lent_rows};
+ghost use Rattle.span_sorting.specs.Codes.{HaveCodes, coded_rows};
 ghost use Rattle.span_algebra.specs.ColumnOrders.{IsColumnOrder, IsTable, TakesAllRows};
 
 use span_groups::part_rows::PartRows;
 use span_query::query::{Block, BoundQuery, Item, Limit, SortKey};
 use span_rows::row_list::{RowList, lent_rows};
+use span_sorting::coded::CodedRows;
 use span_sorting::columns::{columns_of, keys_over};
-use span_sorting::sort::{few_rows, order_columns};
-use span_value::value::Value;
+use span_sorting::sort::{few_rows, order_coded, order_columns};
 use std::alloc::{AllocError, Global};
 
 /// A select list of columns, and the keys of its rows as keys of the rows that it is taken at.
@@ -73,23 +73,24 @@ pub(crate) fn only_table(block: &Block<BoundQuery>) -> Option<usize>
     }
 }
 
-/// The columns of the part that LIMIT leaves of the rows in order.
+/// The columns of the part that LIMIT leaves of rows with their codes, in order.
 pub(crate) fn take_columns(
     alloc: Global,
     order: &ColumnOrder,
     limit: Option<Limit>,
-    rows: Vec<&[Value]>,
+    rows: CodedRows<'_>,
 ) -> Result<RowList, AllocError>
+    requires { HaveCodes order.now.keys.items rows }
     ensures { IfOk result
         (λ part. part
         ≡ map (columns_at order.now.columns.items)
-        (limit_rows limit (sorted order.now.keys.items (lent_rows rows.entry.items)))) }
+        (limit_rows limit (sorted order.now.keys.items (coded_rows rows.entry)))) }
 {
     let (keys, columns) = (order.keys.as_slice(), order.columns.as_slice());
-    order_columns(alloc, keys, limit, columns, rows)
+    order_coded(alloc, keys, limit, columns, rows)
 }
 
-/// The same of rows in a list.
+/// The same of rows in a list, without codes.
 pub(crate) fn take_columns_of(
     alloc: Global,
     order: &ColumnOrder,
@@ -101,30 +102,30 @@ pub(crate) fn take_columns_of(
         ≡ map (columns_at order.now.columns.items) (limit_rows limit (sorted order.now.keys.items rows.now))) }
 {
     let lent = lent_rows(alloc, rows)?;
-    let part = take_columns(alloc, order, limit, lent)?;
+    let (keys, columns) = (order.keys.as_slice(), order.columns.as_slice());
+    let part = order_columns(alloc, keys, limit, columns, lent)?;
     Ok(part)
 }
 
-/// The table all of whose rows a query puts in order, where it is such a query: one SELECT with no condition and no groups. None where
-/// LIMIT needs few of them, for which the others are not sorted.
+/// The table all of whose rows a query puts in order, where it is such a query: one SELECT with no condition and no groups.
 pub fn ordered_table(query: &BoundQuery) -> Option<usize>
     ensures table { IfSome result (λ number. IsTable (out-BoundQuery query.now).first number) }
     ensures takes { IfSome result (λ _. TakesAllRows (out-BoundQuery query.now)) }
 {
-    if orders_all_rows(query) && few_rows(query.limit).is_none() {
+    if orders_all_rows(query) {
         only_table(&query.first)
     } else {
         None
     }
 }
 
-/// Rows of the table that a query puts in order, with this order where its select list is columns alone. The only error is out of
-/// memory.
+/// Rows of the table that a query puts in order, with this order where its select list is columns alone. Where LIMIT needs few rows,
+/// these alone are put in order. The only error is out of memory.
 pub fn order_part(alloc: Global, query: &BoundQuery, rows: RowList) -> Result<PartRows, AllocError>
     ensures { IfOk result (λ ordered. ordered ≡ rows) }
 {
     match column_order(alloc, query)? {
-        Some(order) => PartRows::with_order(alloc, order.keys(), rows),
+        Some(order) => PartRows::with_order(alloc, order.keys(), few_rows(query.limit), rows),
         None => Ok(PartRows::new(rows)),
     }
 }

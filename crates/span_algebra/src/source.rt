@@ -8,6 +8,8 @@ ghost use Rattle.span_query.specs.Sorting.{sorted};
 ghost use Rattle.span_rows.specs.Answers.{Gives};
 ghost use Rattle.span_rows.specs.Columns.{distinct_at};
 ghost use Rattle.span_rows.specs.LentRows.{lent_rows};
+ghost use Rattle.span_sorting.specs.Codes.{HaveCodes, coded_rows};
+ghost use Rattle.span_sorting.specs.Orders.{take_first};
 ghost use Rattle.span_groups.specs.Parts.{all_rows};
 ghost use Rattle.span_algebra.specs.Sources.{GivesRows, HasSameValues, IsGivenBy, SortsAs, source_rows, source_result};
 
@@ -16,6 +18,7 @@ use span_groups::part_rows::PartRows;
 use span_groups::parts::groups_of;
 use span_query::query::{Grouping, SortKey};
 use span_rows::row_list::RowList;
+use span_sorting::coded::CodedRows;
 use span_value::value::Value;
 use std::alloc::{AllocError, Global};
 use std::marker::Model;
@@ -101,22 +104,26 @@ impl<'a> Tables<'a> {
         }
     }
 
-    /// The rows of the table with this number, each lent where it lies, for them to be sorted by the keys: those of a part that is in
-    /// their order already, in this order. `Fault` where the table is one, or out of memory.
+    /// The rows of the table with this number, each lent where it lies, with their codes, for them to be sorted by the keys: those of a
+    /// part that is in their order already, in this order. Where a count is given, the first `count` in this order are what is wanted of all, and of a
+    /// part in which these were found, they alone are lent. `Fault` where the table is one, or out of memory.
     pub(crate) fn lend_in_order(
         &self,
         alloc: Global,
         number: usize,
         keys: &[SortKey],
-    ) -> Result<Vec<&[Value]>, Failure>
+        count: Option<usize>,
+    ) -> Result<CodedRows<'_>, Failure>
         ensures { MatchResult result
-            (λ rows. SortsAs keys.now (lent_rows rows.items) (spec.given self.now number))
+            (λ rows. HaveCodes keys.now rows × SortsAs keys.now count (coded_rows rows) (spec.given self.now number))
             (λ why. Gives {A = List Row} (Err why) (spec.given self.now number)) }
     {
         match numbered_source(self.sources.as_slice(), number) {
-            None => Ok(Vec::new(alloc)),
+            None => Ok(CodedRows::new(alloc)),
             Some(TableSource::Fault) => Err(Failure::Fault),
-            Some(TableSource::Parts(parts)) => Ok(lend_parts(alloc, keys, parts.as_slice())?),
+            Some(TableSource::Parts(parts)) => {
+                Ok(lend_parts(alloc, keys, count, parts.as_slice())?)
+            }
         }
     }
 
@@ -202,17 +209,22 @@ fn add_copies(alloc: Global, rows: &mut RowList, more: &RowList) -> Result<(), A
     Ok(())
 }
 
-/// The rows of parts, one after another, each lent: those of a part that is in the order of the keys already, in this order.
+/// The rows of parts, one after another, each lent with its codes: those of a part that is in the order of the keys already, in this
+/// order. Where a count is given, of a part in which the first `count` in this order were found, they alone.
 fn lend_parts<'a>(
     alloc: Global,
     keys: &[SortKey],
+    count: Option<usize>,
     parts: &[&'a PartRows],
-) -> Result<Vec<&'a [Value]>, AllocError>
-    ensures { IfOk result (λ rows. sorted keys.now (lent_rows rows.items) ≡ sorted keys.now (all_rows parts.now)) }
+) -> Result<CodedRows<'a>, AllocError>
+    ensures rows { IfOk result
+        (λ rows. take_first count (sorted keys.now (coded_rows rows))
+        ≡ take_first count (sorted keys.now (all_rows parts.now))) }
+    ensures coded { IfOk result (HaveCodes keys.now) }
 {
-    let mut rows = Vec::new(alloc);
+    let mut rows = CodedRows::new(alloc);
     for part in parts {
-        part.lend_in_order(keys, &mut rows)?;
+        part.lend_in_order(keys, count, &mut rows)?;
     }
     Ok(rows)
 }

@@ -5,6 +5,8 @@ ghost use Rattle.span_query.specs.Groups as spec;
 ghost use Rattle.span_query.specs.Sorting.{sorted};
 ghost use Rattle.span_rows.specs.Columns.{distinct_at};
 ghost use Rattle.span_rows.specs.LentRows.{lent_rows};
+ghost use Rattle.span_sorting.specs.Codes.{HaveCodes, coded_rows};
+ghost use Rattle.span_sorting.specs.Orders.{take_first};
 ghost use Rattle.span_groups.specs.FirstRows.{AreFirstsAt};
 ghost use Rattle.span_groups.specs.GroupStates.{HoldGroups};
 ghost use Rattle.span_groups.specs.Parts.{aggregate_of, AreMeasuresOf, HaveGroups};
@@ -17,6 +19,7 @@ use span_expr::expr::Expr;
 use span_query::query::{Aggregate, Function, Grouping, SortKey};
 use span_rows::key::LentKey;
 use span_rows::row_list::{RowList, lend_rows};
+use span_sorting::coded::CodedRows;
 use span_sorting::rows_with_order::RowsWithOrder;
 use span_value::value::Value;
 use std::alloc::{AllocError, Global};
@@ -177,16 +180,18 @@ impl PartRows {
         }
     }
 
-    /// Rows with their order by the keys. The only error is out of memory.
+    /// Rows with their order by the keys; where a count is given, with that of the first `count` alone. The only error is out of
+    /// memory.
     pub fn with_order(
         alloc: Global,
         keys: &[SortKey],
+        count: Option<usize>,
         rows: RowList,
     ) -> Result<PartRows, AllocError>
         ensures { IfOk result (λ ordered. ordered ≡ rows) }
     {
         Ok(PartRows {
-            rows: RowsWithOrder::with_order(alloc, keys, rows)?,
+            rows: RowsWithOrder::with_order(alloc, keys, count, rows)?,
             groups: None,
             firsts: None,
         })
@@ -232,17 +237,22 @@ impl PartRows {
         self.rows.rows()
     }
 
-    /// Lends the rows after others, in the order of the keys where it was made, so that sorting all has less to do. The only error
-    /// is out of memory.
+    /// Lends the rows with their codes after others, in the order of the keys where it was made, so that sorting all has less to do: no
+    /// value of these is read. Where a count is given, the first `count` in this order are what is wanted of all, and the others are
+    /// not lent where these were found. The only error is out of memory.
     pub fn lend_in_order<'a>(
         &'a self,
         keys: &[SortKey],
-        all: &mut Vec<&'a [Value]>,
+        count: Option<usize>,
+        all: &mut CodedRows<'a>,
     ) -> Result<(), AllocError>
-        ensures { OnOk result
-            (sorted keys.now (lent_rows all.new.items) ≡ sorted keys.now (lent_rows all.old.items ++ self.now)) }
+        requires { HaveCodes keys.now all.old }
+        ensures rows { OnOk result
+            (take_first count (sorted keys.now (coded_rows all.new))
+            ≡ take_first count (sorted keys.now (coded_rows all.old ++ self.now))) }
+        ensures coded { OnOk result (HaveCodes keys.now all.new) }
     {
-        self.rows.lend_in_order(keys, all)
+        self.rows.lend_in_order(keys, count, all)
     }
 
     /// The places at which the values of the columns appear first, where they were found.

@@ -182,7 +182,7 @@ module _ (keys : List SortKey) where
       same_next (nat_cmp x.first y.first) (or_next (nat_cmp x.second y.second) (rest_order exact x y))
       ∙ ap (ordering_then (nat_cmp x.first y.first)) (same_next (nat_cmp x.second y.second) (rest_order exact x y))
 
-  code_total : (exact : Bool) → IsTotalOrder (code_order keys exact)
+  pub code_total : (exact : Bool) → IsTotalOrder (code_order keys exact)
   code_total exact =
       subst IsTotalOrder (λ i x y. sym (then_codes exact x y) i)
       (then_total (on_total (λ (x : CodedRow). x.first) nat_cmp_total) (then_total (on_total (λ (x : CodedRow). x.second) nat_cmp_total) (rest_total exact)))
@@ -191,7 +191,7 @@ module _ (keys : List SortKey) where
   code_ranked exact = ranks_by (code_total exact) (λ (x : CodedRow). x)
 
   module _ (exact : Bool) where
-    uncoded_inserted : (x : CodedRow) (ys : List CodedRow) → IsCodedAs keys exact x → AllByRecursion (IsCodedAs keys exact) ys
+    pub uncoded_inserted : (x : CodedRow) (ys : List CodedRow) → IsCodedAs keys exact x → AllByRecursion (IsCodedAs keys exact) ys
         → uncoded (insert_sorted (code_before keys exact) x ys) ≡ insert_sorted (comes_before keys) x.row.now (uncoded ys)
     uncoded_inserted x [] f all = refl
     uncoded_inserted x (y ∷ ys) f all =

@@ -1,13 +1,13 @@
 -- The first items of two lists in order, one after the other: what is beyond the first of either is not needed.
-use Rattle.std.proofs.Common.{◌≡◌, refl, sym, ap, arith, ◌∙◌, ℕ, zero, suc, ◌≤◌, Bool, true, false, cond, List, [], ◌∷◌, ◌++◌, take, true≢false}
+use Rattle.std.proofs.Common.{◌≡◌, refl, sym, ap, arith, ◌∙◌, ℕ, zero, suc, ◌≤◌, Bool, true, false, cond, List, [], ◌∷◌, ◌++◌, Option, Some, None, take, take-take, true≢false}
 use Rattle.std.specs.List.{AllByRecursion}
 use Rattle.std.specs.Cmp.{IsStrictWeakOrder}
 use Rattle.std.proofs.lemmas.Bool.{true_from_ne_false}
 use Rattle.span_value.proofs.Lists.{all_take}
 use Rattle.span_query.specs.Sorting.{insert_sorted, insertion_sort}
-use Rattle.span_sorting.specs.Orders.{IsSorted}
-use Rattle.span_sorting.proofs.FirstRows.{first_of_inserted}
-use Rattle.span_sorting.proofs.Sorting.{all_placed, is_in_order, none_before, sorted_again, sorted_both}
+use Rattle.span_sorting.specs.Orders.{IsSorted, take_first}
+use Rattle.span_sorting.proofs.FirstRows.{first_in_order, first_of_inserted}
+use Rattle.span_sorting.proofs.Sorting.{all_placed, is_in_order, is_the_order, none_before, sorted_again, sorted_both}
 
 module _ {A : Type 0} (lt : A → A → Bool) where
   -- a list into which items are put one by one, from the last on
@@ -83,3 +83,20 @@ module _ {A : Type 0} (lt : A → A → Bool) where
         ∙ ap (λ (l : List A). take n (put_all l (insertion_sort lt ys))) e
         ∙ sym (first_of_both n us ys)
         ∙ first_right n us ys vs f
+
+    -- the same where no count may be given
+    pub first_of_parts : (count : Option ℕ) (xs us ys vs : List A)
+        → take_first count (insertion_sort lt xs) ≡ take_first count (insertion_sort lt us)
+        → take_first count (insertion_sort lt ys) ≡ take_first count (insertion_sort lt vs)
+        → take_first count (insertion_sort lt (xs ++ ys)) ≡ take_first count (insertion_sort lt (us ++ vs))
+    first_of_parts None xs us ys vs e f = sorted_both lt o xs us ys vs e f
+    first_of_parts (Some n) xs us ys vs e f = first_both n xs us ys vs e f
+
+    -- the first items in order stay so
+    pub first_again : (count : Option ℕ) (xs : List A)
+        → take_first count (insertion_sort lt (take_first count (insertion_sort lt xs))) ≡ take_first count (insertion_sort lt xs)
+    first_again None xs = sorted_again lt o xs
+    first_again (Some n) xs =
+        let first : List A = take n (insertion_sort lt xs) in
+        ap (take n) (sym (is_the_order lt o first first (first_in_order lt o n xs) (λ z. refl)))
+        ∙ take-take n n (insertion_sort lt xs) (omega arith)

@@ -1,21 +1,27 @@
 -- Rows of a list with their codes and their places, in order.
-use Rattle.std.proofs.Common.{◌≡◌, refl, sym, ap, subst, ◌∙◌, ℕ, ◌<◌, Bool, ◌&&◌, List, [], ◌∷◌, ◌++◌, length, map, get_or}
-use Rattle.std.specs.List.{AllByRecursion}
+use Rattle.std.proofs.Common.{◌≡◌, refl, sym, ap, subst, ◌∙◌, ℕ, zero, suc, ◌<◌, Bool, true, false, ◌&&◌, List, [], ◌∷◌, ◌++◌, Option, Some, None, length, map, get_or, take}
+use Rattle.std.specs.Cmp.{IsStrictWeakOrder}
+use Rattle.std.specs.List.{All, AllByRecursion}
 use Rattle.std.proofs.lemmas.Bool.{and_parts}
-use Rattle.std.proofs.lemmas.List.{map_push}
+use Rattle.std.proofs.lemmas.List.{map_push, take-map}
 use Rattle.std.proofs.lemmas.List.Elements.{All-from_recursion}
+use Rattle.std.proofs.lemmas.List.MinMax.{ranks_by}
+use Rattle.span_value.proofs.Lists.{all_take}
 use Rattle.span_query.specs.declared.query.SortKey.{SortKey}
 use Rattle.span_query.specs.Rows.{Row}
-use Rattle.span_query.specs.Sorting.{insertion_sort, sorted}
+use Rattle.span_query.specs.Sorting.{comes_before, insert_sorted, insertion_sort, sorted}
+use Rattle.span_sorting.specs.declared.coded.CodedRow.{CodedRow}
+use Rattle.span_sorting.specs.declared.placed.CodedPlace.{CodedPlace}
 use Rattle.span_sorting.specs.declared.placed.PlacedRow.{PlacedRow}
-use Rattle.span_sorting.specs.Codes.{IsCoded, IsCodedAs, are_exact, code_before, uncoded}
+use Rattle.span_sorting.specs.Codes.{AreInRange, IsCoded, IsCodedAs, are_exact, code_before, first_code, second_code, uncoded}
 use Rattle.span_rows.specs.RowPlaces.{rows_at}
-use Rattle.span_sorting.specs.PlacesInOrder.{ArePlacesBy, IsPlaced, without_places}
-use Rattle.span_sorting.proofs.CodedRows.{uncoded_more, uncoded_in_order}
-use Rattle.span_sorting.proofs.Sorting.{all_in_order, sorted_map}
+use Rattle.span_sorting.specs.Orders.{take_first}
+use Rattle.span_sorting.specs.PlacesInOrder.{ArePlacesBy, IsCodedPlace, IsPlaced, coded_place, placed_before, without_codes, without_places}
+use Rattle.span_sorting.proofs.CodedRows.{code_total, uncoded_more, uncoded_inserted, uncoded_in_order}
+use Rattle.span_sorting.proofs.Sorting.{all_in_order, inserted_map, sorted_map}
 
-abbrev pub places_of : List PlacedRow → List ℕ
-places_of xs = map (λ (x : PlacedRow). x.place) xs
+abbrev pub coded_places : List PlacedRow → List CodedPlace
+coded_places xs = map coded_place xs
 
 -- ---- the rows so far
 
@@ -50,27 +56,118 @@ module _ (rows : List Row) (keys : List SortKey) where
     all_coded [] all = tt
     all_coded (x ∷ xs) all = (all.0.coded, all_coded xs all.1)
 
-    at_places : (xs : List PlacedRow) → AllByRecursion (IsPlaced rows keys exact) xs → rows_at rows (places_of xs) ≡ uncoded (without_places xs)
+    at_places : (xs : List PlacedRow) → AllByRecursion (IsPlaced rows keys exact) xs → rows_at rows (without_codes (coded_places xs)) ≡ uncoded (without_places xs)
     at_places [] all = refl
     at_places (x ∷ xs) all =
-        ap (λ (r : Row). r ∷ rows_at rows (places_of xs)) (sym all.0.row)
+        ap (λ (r : Row). r ∷ rows_at rows (without_codes (coded_places xs))) (sym all.0.row)
         ∙ ap (λ (l : List Row). x.coded.row.now ∷ l) (at_places xs all.1)
 
-    all_within : (xs : List PlacedRow) → AllByRecursion (IsPlaced rows keys exact) xs → AllByRecursion (λ (place : ℕ). place < length rows) (places_of xs)
-    all_within [] all = tt
-    all_within (x ∷ xs) all = (all.0.within, all_within xs all.1)
+    place_is_coded : (x : PlacedRow) → IsPlaced rows keys exact x → IsCodedPlace rows keys exact (coded_place x)
+    place_is_coded x is = record {
+      within = is.within;
+      first = is.coded.coded.first ∙ ap (first_code keys) is.row;
+      second = is.coded.coded.second ∙ ap (second_code keys) is.row;
+      range = subst (AreInRange keys) is.row is.coded.coded.range;
+      ties = λ e. ap (are_exact keys) (sym is.row) ∙ is.coded.ties e;
+    }
+
+    places_coded : (xs : List PlacedRow) → AllByRecursion (IsPlaced rows keys exact) xs → AllByRecursion (IsCodedPlace rows keys exact) (coded_places xs)
+    places_coded [] all = tt
+    places_coded (x ∷ xs) all = (place_is_coded x all.0, places_coded xs all.1)
+
+    -- the places of rows that are the first in the order of the keys, or all
+    pub are_places : (count : Option ℕ) (xs : List PlacedRow) → AllByRecursion (IsPlaced rows keys exact) xs
+        → uncoded (without_places xs) ≡ take_first count (sorted keys rows) → ArePlacesBy keys count rows exact (coded_places xs)
+    are_places count xs all is = record {
+      coded = places_coded xs all;
+      sorted = at_places xs all ∙ is;
+    }
 
     -- the places of rows in the order of their codes are in the order of the keys
     pub places_in_order : (xs ys : List PlacedRow) → AllByRecursion (IsPlaced rows keys exact) xs → uncoded (without_places xs) ≡ rows
-        → ys ≡ insertion_sort (λ (x y : PlacedRow). code_before keys exact x.coded y.coded) xs → ArePlacesBy keys rows (places_of ys)
+        → ys ≡ insertion_sort (λ (x y : PlacedRow). code_before keys exact x.coded y.coded) xs → ArePlacesBy keys None rows exact (coded_places ys)
     places_in_order xs ys all whole is =
         let lt : PlacedRow → PlacedRow → Bool = λ x y. code_before keys exact x.coded y.coded in
         let placed : AllByRecursion (IsPlaced rows keys exact) ys = subst (AllByRecursion (IsPlaced rows keys exact)) (sym is) (all_in_order lt (IsPlaced rows keys exact) xs all) in
-        record {
-          within = All-from_recursion (λ (place : ℕ). place < length rows) (places_of ys) (all_within ys placed);
-          sorted = at_places ys placed
-              ∙ ap (λ (l : List PlacedRow). uncoded (without_places l)) is
-              ∙ ap uncoded (sym (sorted_map (λ (x : PlacedRow). x.coded) (code_before keys exact) lt (λ x y. refl) xs))
-              ∙ uncoded_in_order keys exact (without_places xs) (all_coded xs all)
-              ∙ ap (sorted keys) whole;
-        }
+        are_places None ys placed
+        (ap (λ (l : List PlacedRow). uncoded (without_places l)) is
+        ∙ ap uncoded (sym (sorted_map (λ (x : PlacedRow). x.coded) (code_before keys exact) lt (λ x y. refl) xs))
+        ∙ uncoded_in_order keys exact (without_places xs) (all_coded xs all)
+        ∙ ap (sorted keys) whole)
+
+  -- ---- one more among the first
+
+  pub unplaced_inserted : (x : PlacedRow) (ys : List PlacedRow) → IsPlaced rows keys false x → AllByRecursion (IsPlaced rows keys false) ys
+      → uncoded (without_places (insert_sorted (placed_before keys) x ys)) ≡ insert_sorted (comes_before keys) x.coded.row.now (uncoded (without_places ys))
+  unplaced_inserted x ys is all =
+      ap uncoded (sym (inserted_map (λ (y : PlacedRow). y.coded) (code_before keys false) (placed_before keys) (λ y z. refl) x ys))
+      ∙ uncoded_inserted keys false x.coded (without_places ys) is.coded (all_coded false ys all)
+
+pub placed_ranked : (keys : List SortKey) → IsStrictWeakOrder (placed_before keys)
+placed_ranked keys = ranks_by (code_total keys false) (λ (x : PlacedRow). x.coded)
+
+pub unplaced_first : (count : ℕ) (xs : List PlacedRow) → uncoded (without_places (take count xs)) ≡ take count (uncoded (without_places xs))
+unplaced_first zero xs = refl
+unplaced_first (suc count) [] = refl
+unplaced_first (suc count) (x ∷ xs) = ap (λ (l : List Row). x.coded.row.now ∷ l) (unplaced_first count xs)
+
+-- ---- the first of some places
+
+rows_at_first : (count : Option ℕ) (rows : List Row) (places : List CodedPlace) → rows_at rows (without_codes (take_first count places)) ≡ take_first count (rows_at rows (without_codes places))
+rows_at_first None rows places = refl
+rows_at_first (Some n) rows places =
+    ap (rows_at rows) (sym (take-map (λ (x : CodedPlace). x.place) n places))
+    ∙ sym (take-map (λ (place : ℕ). get_or rows place []) n (without_codes places))
+
+all_first : (P : CodedPlace → Type 0) (count : Option ℕ) (places : List CodedPlace) → AllByRecursion P places → AllByRecursion P (take_first count places)
+all_first P None places all = all
+all_first P (Some n) places all = all_take P n places all
+
+-- those of as many as are wanted, where there are enough
+pub first_of_places : (keys : List SortKey) (wanted count : Option ℕ) (rows : List Row) (exact : Bool) (places : List CodedPlace)
+    → ((rs : List Row) → take_first wanted (take_first count rs) ≡ take_first wanted rs)
+    → ArePlacesBy keys count rows exact places → ArePlacesBy keys wanted rows exact (take_first wanted places)
+first_of_places keys wanted count rows exact places among are = record {
+  coded = all_first (IsCodedPlace rows keys exact) wanted places are.coded;
+  sorted = rows_at_first wanted rows places ∙ ap (take_first wanted) are.sorted ∙ among (sorted keys rows);
+}
+
+-- ---- rows lent at places
+
+module _ (rows : List Row) (keys : List SortKey) (exact : Bool) where
+  -- the row at a place, with the codes of the place
+  pub lent_coded : (p : CodedPlace) (x : CodedRow) → IsCodedPlace rows keys exact p
+      → x.row.now ≡ get_or rows p.place [] → x.first ≡ p.first → x.second ≡ p.second → IsCodedAs keys exact x
+  lent_coded p x is row first second = record {
+    coded = record {
+      first = first ∙ is.first ∙ ap (first_code keys) (sym row);
+      second = second ∙ is.second ∙ ap (second_code keys) (sym row);
+      range = subst (AreInRange keys) (sym row) is.range;
+    };
+    ties = λ e. ap (are_exact keys) row ∙ is.ties e;
+  }
+
+  places_within : (places : List CodedPlace) → AllByRecursion (IsCodedPlace rows keys exact) places → AllByRecursion (λ (x : CodedPlace). x.place < length rows) places
+  places_within [] all = tt
+  places_within (x ∷ xs) all = (all.0.within, places_within xs all.1)
+
+  pub all_within : (places : List CodedPlace) → AllByRecursion (IsCodedPlace rows keys exact) places → All (λ (x : CodedPlace). x.place < length rows) places
+  all_within places all = All-from_recursion (λ (x : CodedPlace). x.place < length rows) places (places_within places all)
+
+-- where exact codes are asked of fewer
+pub coded_weaker : (keys : List SortKey) (exact both : Bool) (xs : List CodedRow) → (both ≡ true → exact ≡ true)
+    → AllByRecursion (IsCodedAs keys exact) xs → AllByRecursion (IsCodedAs keys both) xs
+coded_weaker keys exact both [] less all = tt
+coded_weaker keys exact both (x ∷ xs) less all =
+    (record { coded = all.0.coded; ties = λ e. all.0.ties (less e) }, coded_weaker keys exact both xs less all.1)
+
+place_is_weaker : (rows : List Row) (keys : List SortKey) (exact both : Bool) (x : CodedPlace) → (both ≡ true → exact ≡ true)
+    → IsCodedPlace rows keys exact x → IsCodedPlace rows keys both x
+place_is_weaker rows keys exact both x less is =
+    record { within = is.within; first = is.first; second = is.second; range = is.range; ties = λ e. is.ties (less e) }
+
+pub places_weaker : (rows : List Row) (keys : List SortKey) (exact both : Bool) (xs : List CodedPlace) → (both ≡ true → exact ≡ true)
+    → AllByRecursion (IsCodedPlace rows keys exact) xs → AllByRecursion (IsCodedPlace rows keys both) xs
+places_weaker rows keys exact both [] less all = tt
+places_weaker rows keys exact both (x ∷ xs) less all =
+    (place_is_weaker rows keys exact both x less all.0, places_weaker rows keys exact both xs less all.1)

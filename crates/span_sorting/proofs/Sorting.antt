@@ -55,7 +55,7 @@ module _ {A : Type 0} (lt : A → A → Bool) where
     none_before x y [] e all = tt
     none_before x y (w ∷ ys) e all = (o.chain w y x all.0 e, none_before x y ys e all.1)
 
-    placed_in_order : (x : A) (ys : List A) → IsSorted lt ys → IsSorted lt (insert_sorted lt x ys)
+    pub placed_in_order : (x : A) (ys : List A) → IsSorted lt ys → IsSorted lt (insert_sorted lt x ys)
     placed_in_order x [] h = (tt, tt)
     placed_in_order x (y ∷ ys) h = elim (lt y x) as (λ b. lt y x ≡ b → IsSorted lt (cond b (y ∷ insert_sorted lt x ys) (x ∷ y ∷ ys))) [
       | true ↦ λ e. (all_placed (λ w. lt w y ≡ false) x ys (o.one_way y x e) h.0, placed_in_order x ys h.1)
@@ -94,7 +94,7 @@ module _ {A : Type 0} (lt : A → A → Bool) where
 -- ---- items by what is read of each
 
 module _ {A B : Type 0} (p : A → B) (before : B → B → Bool) (under : A → A → Bool) (same : (x y : A) → before (p x) (p y) ≡ under x y) where
-  inserted_map : (x : A) (ys : List A) → insert_sorted before (p x) (map p ys) ≡ map p (insert_sorted under x ys)
+  pub inserted_map : (x : A) (ys : List A) → insert_sorted before (p x) (map p ys) ≡ map p (insert_sorted under x ys)
   inserted_map x [] = refl
   inserted_map x (y ∷ ys) =
       ap (λ (b : Bool). cond b (p y ∷ insert_sorted before (p x) (map p ys)) (p x ∷ p y ∷ map p ys)) (same y x)

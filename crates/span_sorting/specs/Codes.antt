@@ -1,6 +1,7 @@
 -- Numbers that are in the order of values: rows are compared by those of their first two keys before their values.
 use Rattle.std.specs.Prelude.{◌≡◌, ℕ, zero, suc, ◌+◌, ◌-◌, ◌*◌, ◌^◌, Bool, true, false, ◌&&◌, List, [], ◌∷◌, FitsSigned, if◌then◌else◌}
 use Rattle.std.specs.Int.{w64}
+use Rattle.std.specs.List.{AllByRecursion}
 use Rattle.std.specs.Ordering.{nat_cmp, is_lt}
 use Rattle.std.specs.declared.cmp.Ordering.{Ordering}
 use Rattle.std.specs.declared.cmp.Ordering.TheVariants.{Equal}
@@ -12,6 +13,7 @@ use Rattle.span_query.specs.declared.query.SortKey.{SortKey}
 use Rattle.span_query.specs.Rows.{Row}
 use Rattle.span_query.specs.Sorting.{or_next, row_order}
 use Rattle.span_sorting.specs.declared.coded.CodedRow.{CodedRow}
+use Rattle.span_sorting.specs.declared.coded.CodedRows.{CodedRows}
 
 -- the number with `count` bytes more as its last digits; a byte that is not there counts as 0
 abbrev pub with_bytes : ℕ → ℕ → List ℕ → ℕ
@@ -102,3 +104,10 @@ code_before keys exact x y = is_lt (code_order keys exact x y)
 abbrev pub uncoded : List CodedRow → List Row
 uncoded [] = []
 uncoded (x ∷ xs) = x.row.now ∷ uncoded xs
+
+abbrev pub coded_rows : CodedRows → List Row
+coded_rows all = uncoded all.rows.items
+
+-- each of the rows has its codes by the keys
+abbrev pub HaveCodes : List SortKey → CodedRows → Type 0
+HaveCodes keys all = AllByRecursion (IsCodedAs keys all.are_exact) all.rows.items

@@ -1,5 +1,5 @@
 -- Lists in order.
-use Rattle.std.specs.Prelude.{◌≡◌, ℕ, Bool, false, List, [], ◌∷◌, ◌++◌, drop, take}
+use Rattle.std.specs.Prelude.{◌≡◌, ℕ, Bool, false, List, [], ◌∷◌, ◌++◌, Option, Some, None, drop, take}
 use Rattle.std.specs.List.{AllByRecursion}
 use Rattle.span_query.specs.Sorting.{insert_sorted}
 
@@ -7,6 +7,11 @@ use Rattle.span_query.specs.Sorting.{insert_sorted}
 abbrev pub IsSorted : {A : Type 0} → (A → A → Bool) → List A → Type 0
 IsSorted before [] = Unit {0}
 IsSorted before (x ∷ xs) = AllByRecursion (λ y. before y x ≡ false) xs × IsSorted before xs
+
+-- the first items of a list, where a count of them is given; else all
+abbrev pub take_first : {A : Type 0} → Option ℕ → List A → List A
+take_first None xs = xs
+take_first (Some count) xs = take count xs
 
 -- an item that is put among others in their order goes before the one at this place
 abbrev pub GoesBefore : {A : Type 0} → (A → A → Bool) → A → List A → ℕ → Type 0

@@ -1,14 +1,16 @@
 -- The places of the rows of a list, in the order of some keys.
-use Rattle.std.specs.Prelude.{◌≡◌, ℕ, ◌<◌, Bool, List, [], length, map, slice_index_or}
-use Rattle.std.specs.List.{All}
+use Rattle.std.specs.Prelude.{◌≡◌, ℕ, ◌<◌, Bool, true, false, List, [], Option, length, map, slice_index_or}
+use Rattle.std.specs.List.{AllByRecursion}
 use Rattle.span_query.specs.declared.query.SortKey.{SortKey}
 use Rattle.span_query.specs.Rows.{Row}
 use Rattle.span_query.specs.Sorting.{sorted}
 use Rattle.span_rows.specs.RowPlaces.{rows_at}
 use Rattle.span_sorting.specs.declared.coded.CodedRow.{CodedRow}
+use Rattle.span_sorting.specs.declared.placed.CodedPlace.{CodedPlace}
 use Rattle.span_sorting.specs.declared.placed.PlacedRow.{PlacedRow}
 use Rattle.span_sorting.specs.declared.rows_with_order.RowOrder.{RowOrder}
-use Rattle.span_sorting.specs.Codes.{IsCodedAs}
+use Rattle.span_sorting.specs.Codes.{AreInRange, IsCodedAs, are_exact, code_before, first_code, second_code}
+use Rattle.span_sorting.specs.Orders.{take_first}
 
 -- rows with their codes, without their places
 abbrev pub without_places : List PlacedRow → List CodedRow
@@ -20,10 +22,30 @@ pub record IsPlaced (rows : List Row) (keys : List SortKey) (exact : Bool) (x : 
   pub row : x.coded.row.now ≡ slice_index_or rows x.place []
   pub within : x.place < length rows
 
--- the places of the rows of a list, in the order of the keys
-pub record ArePlacesBy (keys : List SortKey) (rows : List Row) (places : List ℕ) : Type 0 where
-  pub within : All (λ (place : ℕ). place < length rows) places
-  pub sorted : rows_at rows places ≡ sorted keys rows
+-- by the codes, then by the keys
+abbrev pub placed_before : List SortKey → PlacedRow → PlacedRow → Bool
+placed_before keys x y = code_before keys false x.coded y.coded
+
+-- the place of a row with its codes, without the row
+abbrev pub coded_place : PlacedRow → CodedPlace
+coded_place x = record { first = x.coded.first; second = x.coded.second; place = x.place }
+
+-- a place of a list, with the codes of the row there, which are exact if it is stated
+pub record IsCodedPlace (rows : List Row) (keys : List SortKey) (exact : Bool) (x : CodedPlace) : Type 0 where
+  pub within : x.place < length rows
+  pub first : x.first ≡ first_code keys (slice_index_or rows x.place [])
+  pub second : x.second ≡ second_code keys (slice_index_or rows x.place [])
+  pub range : AreInRange keys (slice_index_or rows x.place [])
+  pub ties : exact ≡ true → are_exact keys (slice_index_or rows x.place []) ≡ true
+
+-- the places without the codes
+abbrev pub without_codes : List CodedPlace → List ℕ
+without_codes xs = map (λ (x : CodedPlace). x.place) xs
+
+-- the places of the rows of a list in the order of the keys: of the first, where a count of them is given, else of all
+pub record ArePlacesBy (keys : List SortKey) (count : Option ℕ) (rows : List Row) (exact : Bool) (places : List CodedPlace) : Type 0 where
+  pub coded : AllByRecursion (IsCodedPlace rows keys exact) places
+  pub sorted : rows_at rows (without_codes places) ≡ take_first count (sorted keys rows)
 
 abbrev pub IsOrderOf : List Row → RowOrder → Type 0
-IsOrderOf rows order = ArePlacesBy order.keys.items rows order.places.items
+IsOrderOf rows order = ArePlacesBy order.keys.items order.count rows order.found.are_exact order.found.places.items

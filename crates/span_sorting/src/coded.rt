@@ -1,12 +1,13 @@
 //! Rows beside numbers that are in the order of their first two keys, by which most of them are compared.
-ghost use Rattle.std.specs.Prelude.{◌≡◌, ◌&&◌, IfOk};
-ghost use Rattle.std.specs.List.{AllByRecursion};
-ghost use Rattle.span_sorting.specs.Codes.{IsCoded, IsCodedAs, are_exact, code_order, uncoded};
+ghost use Rattle.std.specs.Prelude.{◌≡◌, ◌&&◌, ◌++◌, ◌∷◌, [], IfOk, List, OnOk};
+ghost use Rattle.span_query.specs.declared.query.SortKey.{SortKey};
+ghost use Rattle.span_sorting.specs.Codes.{HaveCodes, IsCoded, are_exact, code_order, coded_rows, uncoded};
 ghost use Rattle.span_rows.specs.LentRows.{lent_rows};
 
 use super::code::{is_exact_at, key_code, next_code};
 use super::sort::compare_rows;
 use span_query::query::SortKey;
+use span_rows::row_list::RowList;
 use span_value::value::Value;
 use std::alloc::{AllocError, Global};
 use std::cmp::Ordering;
@@ -14,18 +15,31 @@ use std::cmp::Ordering;
 /// A row that is lent, with its codes at the first key and at the second.
 #[derive(Drop)]
 pub(crate) struct CodedRow<'a> {
-    row: &'a [Value],
-    first: u128,
+    pub(crate) row: &'a [Value],
+    pub(crate) first: u128,
     /// 0 where there is no second key, or the code at the first is not exact.
-    second: u128,
+    pub(crate) second: u128,
 }
 
 /// Rows with their codes.
 #[derive(Drop)]
-pub(crate) struct CodedRows<'a> {
+pub struct CodedRows<'a> {
     pub(crate) rows: Vec<CodedRow<'a>>,
     /// Whether rows that have the same codes are equal by the keys.
     pub(crate) are_exact: bool,
+}
+
+impl<'a> CodedRows<'a> {
+    /// No rows. It takes no memory.
+    pub fn new(alloc: Global) -> CodedRows<'a>
+        ensures rows { coded_rows result ≡ [] }
+        ensures coded { (keys : List SortKey) → HaveCodes keys result }
+    {
+        CodedRows {
+            rows: Vec::new(alloc),
+            are_exact: true,
+        }
+    }
 }
 
 /// The row with its codes.
@@ -77,8 +91,8 @@ pub(crate) fn code_rows<'a>(
     keys: &[SortKey],
     rows: &[&'a [Value]],
 ) -> Result<CodedRows<'a>, AllocError>
-    ensures rows { IfOk result (λ coded. uncoded coded.rows.items ≡ lent_rows rows.now) }
-    ensures coded { IfOk result (λ coded. AllByRecursion (IsCodedAs keys.now coded.are_exact) coded.rows.items) }
+    ensures rows { IfOk result (λ coded. coded_rows coded ≡ lent_rows rows.now) }
+    ensures coded { IfOk result (λ coded. HaveCodes keys.now coded) }
 {
     let mut all = Vec::with_capacity(alloc, rows.len())?;
     let mut exact = true;
@@ -90,6 +104,37 @@ pub(crate) fn code_rows<'a>(
         rows: all,
         are_exact: exact,
     })
+}
+
+/// Adds a row with its codes.
+fn add_row<'a>(
+    keys: &[SortKey],
+    row: &'a [Value],
+    all: &mut CodedRows<'a>,
+) -> Result<(), AllocError>
+    requires { HaveCodes keys.now all.old }
+    ensures rows { OnOk result (coded_rows all.new ≡ coded_rows all.old ++ row.now ∷ []) }
+    ensures coded { OnOk result (HaveCodes keys.now all.new) }
+{
+    all.are_exact = exact_with(all.are_exact, keys, row);
+    all.rows.push(code_row(keys, row))?;
+    Ok(())
+}
+
+/// Adds the rows of a list with their codes, in their order.
+pub(crate) fn add_rows<'a>(
+    keys: &[SortKey],
+    rows: &'a RowList,
+    all: &mut CodedRows<'a>,
+) -> Result<(), AllocError>
+    requires { HaveCodes keys.now all.old }
+    ensures rows { OnOk result (coded_rows all.new ≡ coded_rows all.old ++ rows.now) }
+    ensures coded { OnOk result (HaveCodes keys.now all.new) }
+{
+    for at in 0..rows.len() {
+        add_row(keys, rows.row(at), all)?;
+    }
+    Ok(())
 }
 
 /// The order of two rows by their codes; where these are the same, and not exact, by the keys.

@@ -2,8 +2,9 @@
 #![tactic(auto)]
 
 mod code;
-mod coded;
+pub mod coded;
 pub mod columns;
+mod first_places;
 mod first_rows;
 mod placed;
 pub mod rows_with_order;

@@ -1,8 +1,8 @@
 //! The places of the rows of a list in the order of some keys.
-ghost use Rattle.std.specs.Prelude.{◌≡◌, IfOk, map};
+ghost use Rattle.std.specs.Prelude.{◌≡◌, IfOk, None, map};
 ghost use Rattle.std.specs.List.{AllByRecursion};
 ghost use Rattle.span_sorting.specs.Codes.{code_order, uncoded};
-ghost use Rattle.span_sorting.specs.PlacesInOrder.{ArePlacesBy, IsPlaced, without_places};
+ghost use Rattle.span_sorting.specs.PlacesInOrder.{ArePlacesBy, IsPlaced, coded_place, without_places};
 
 use super::coded::{CodedRow, code_row, compare_coded, exact_with};
 use span_query::query::SortKey;
@@ -12,9 +12,25 @@ use std::cmp::Ordering;
 
 /// A row of a list with its codes, and its place there.
 #[derive(Drop)]
-struct PlacedRow<'a> {
-    coded: CodedRow<'a>,
-    place: usize,
+pub(crate) struct PlacedRow<'a> {
+    pub(crate) coded: CodedRow<'a>,
+    pub(crate) place: usize,
+}
+
+/// A place of a list, with the codes of the row there.
+#[derive(Debug, Drop)]
+pub(crate) struct CodedPlace {
+    pub(crate) first: u128,
+    pub(crate) second: u128,
+    pub(crate) place: usize,
+}
+
+/// Places of a list, with the codes of the rows there.
+#[derive(Debug, Drop)]
+pub(crate) struct CodedPlaces {
+    pub(crate) places: Vec<CodedPlace>,
+    /// Whether rows that have the same codes are equal by the keys.
+    pub(crate) are_exact: bool,
 }
 
 /// The rows of a list with their codes and their places.
@@ -61,24 +77,39 @@ fn compare_placed(
     compare_coded(keys, are_exact, &left.coded, &right.coded)
 }
 
-/// The places alone.
-fn places_of(alloc: Global, rows: &[PlacedRow<'_>]) -> Result<Vec<usize>, AllocError>
-    ensures { IfOk result (λ places. places.items ≡ map (λ row. row.place) rows.now) }
+/// The place of a row with its codes, without the row.
+fn coded_place(row: &PlacedRow<'_>) -> CodedPlace
+    ensures { result ≡ coded_place row.now }
+{
+    CodedPlace {
+        first: row.coded.first,
+        second: row.coded.second,
+        place: row.place,
+    }
+}
+
+/// The places of rows with their codes, without the rows.
+pub(crate) fn places_of(
+    alloc: Global,
+    rows: &[PlacedRow<'_>],
+) -> Result<Vec<CodedPlace>, AllocError>
+    ensures { IfOk result (λ places. places.items ≡ map coded_place rows.now) }
 {
     let mut places = Vec::with_capacity(alloc, rows.len())?;
     for row in rows {
-        places.push(row.place)?;
+        places.push(coded_place(row))?;
     }
     Ok(places)
 }
 
-/// The places of the rows of a list in the order of the keys. Rows with equal keys keep their order.
+/// The places of the rows of a list in the order of the keys, with their codes. Rows with equal keys keep their order.
 pub(crate) fn order_places(
     alloc: Global,
     keys: &[SortKey],
     rows: &RowList,
-) -> Result<Vec<usize>, AllocError>
-    ensures { IfOk result (λ places. ArePlacesBy keys.now rows.now places.items) }
+) -> Result<CodedPlaces, AllocError>
+    ensures { IfOk result
+        (λ found. ArePlacesBy keys.now None rows.now found.are_exact found.places.items) }
 {
     let PlacedRows {
         rows: mut placed,
@@ -86,5 +117,5 @@ pub(crate) fn order_places(
     } = place_rows(alloc, keys, rows)?;
     placed.sort_by(|left, right| compare_placed(keys, are_exact, left, right))?;
     let places = places_of(alloc, placed.as_slice())?;
-    Ok(places)
+    Ok(CodedPlaces { places, are_exact })
 }

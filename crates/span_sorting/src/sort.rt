@@ -10,6 +10,7 @@ ghost use Rattle.span_query.specs.Meaning as meaning;
 ghost use Rattle.span_query.specs.declared.query.SortKey.{SortKey};
 ghost use Rattle.span_rows.specs.Answers.{Gives};
 ghost use Rattle.span_rows.specs.LentRows.{lent_rows};
+ghost use Rattle.span_sorting.specs.Codes.{HaveCodes, coded_rows};
 ghost use Rattle.span_sorting.specs.Orders.{IsSorted};
 
 use super::coded::{CodedRows, code_rows, compare_coded, uncode_rows};
@@ -67,10 +68,24 @@ fn sort_rows<'a>(
     if keys.is_empty() {
         return Ok(rows);
     }
+    let coded = code_rows(alloc, keys, rows.as_slice())?;
+    let all = sort_coded(alloc, keys, coded)?;
+    Ok(all)
+}
+
+/// The rows in the order of the keys, by their codes. Rows with equal keys keep their order.
+fn sort_coded<'a>(
+    alloc: Global,
+    keys: &[SortKey],
+    rows: CodedRows<'a>,
+) -> Result<Vec<&'a [Value]>, AllocError>
+    requires { HaveCodes keys.now rows }
+    ensures { IfOk result (λ all. lent_rows all.items ≡ spec.sorted keys.now (coded_rows rows.entry)) }
+{
     let CodedRows {
         rows: mut coded,
         are_exact,
-    } = code_rows(alloc, keys, rows.as_slice())?;
+    } = rows;
     coded.sort_by(|left, right| compare_coded(keys, are_exact, left, right))?;
     let all = uncode_rows(alloc, coded.as_slice())?;
     Ok(all)
@@ -119,6 +134,27 @@ fn rows_in_order<'a>(
     Ok(all)
 }
 
+/// The same of rows with their codes.
+fn coded_in_order<'a>(
+    alloc: Global,
+    keys: &[SortKey],
+    limit: Option<Limit>,
+    rows: CodedRows<'a>,
+) -> Result<Vec<&'a [Value]>, AllocError>
+    requires { HaveCodes keys.now rows }
+    ensures { IfOk result
+        (λ ordered. meaning.limit_rows limit (lent_rows ordered.items)
+        ≡ meaning.limit_rows limit (spec.sorted keys.now (coded_rows rows.entry))) }
+{
+    if let Some(count) = first_count(keys, limit) {
+        let lent = uncode_rows(alloc, rows.rows.as_slice())?;
+        let first = first_rows(alloc, keys, lent.as_slice(), count)?;
+        return Ok(first);
+    }
+    let all = sort_coded(alloc, keys, rows)?;
+    Ok(all)
+}
+
 /// The part that LIMIT leaves of the rows in the order of the keys. The only error is out of memory.
 pub fn order_rows(
     alloc: Global,
@@ -149,7 +185,39 @@ pub fn order_columns(
         ≡ map (columns_at columns.now) (meaning.limit_rows limit (spec.sorted keys.now (lent_rows rows.entry.items)))) }
 {
     let ordered = rows_in_order(alloc, keys, limit, rows)?;
-    let part = copy_columns(alloc, columns, limit_rows(limit, ordered.as_slice()))?;
+    let part = copy_part(alloc, limit, columns, ordered.as_slice())?;
+    Ok(part)
+}
+
+/// The same of rows with their codes, which are not read to be put in order where their codes tell it.
+pub fn order_coded(
+    alloc: Global,
+    keys: &[SortKey],
+    limit: Option<Limit>,
+    columns: &[usize],
+    rows: CodedRows<'_>,
+) -> Result<RowList, AllocError>
+    requires { HaveCodes keys.now rows }
+    ensures { IfOk result
+        (λ part. part
+        ≡ map (columns_at columns.now) (meaning.limit_rows limit (spec.sorted keys.now (coded_rows rows.entry)))) }
+{
+    let ordered = coded_in_order(alloc, keys, limit, rows)?;
+    let part = copy_part(alloc, limit, columns, ordered.as_slice())?;
+    Ok(part)
+}
+
+/// The columns of the part that LIMIT leaves of the rows.
+fn copy_part(
+    alloc: Global,
+    limit: Option<Limit>,
+    columns: &[usize],
+    rows: &[&[Value]],
+) -> Result<RowList, AllocError>
+    ensures { IfOk result
+        (λ part. part ≡ map (columns_at columns.now) (meaning.limit_rows limit (lent_rows rows.now))) }
+{
+    let part = copy_columns(alloc, columns, limit_rows(limit, rows))?;
     Ok(part)
 }
 
