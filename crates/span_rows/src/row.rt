@@ -311,8 +311,8 @@ pub fn is_true(alloc: Global, condition: &Expr, row: &[Value]) -> Result<bool, F
     Ok(evaluate(alloc, condition, row)?.truth() == Truth::True)
 }
 
-/// Whether the condition is TRUE at the row. Comparisons of columns and literals, and tests for NULL, take no walk over the tree. The
-/// error is an arithmetic error, or out of memory where the condition has a `||`.
+/// Whether the condition is TRUE at the row. Comparisons of columns and literals, BETWEEN of numbers, and tests for NULL, take no walk over
+/// the tree. The error is an arithmetic error, or out of memory where the condition has a `||`.
 pub fn is_met(alloc: Global, condition: &Expr, row: &[Value]) -> Result<bool, Failure>
     ensures holds { Gives result (holds condition.now row.now) }
     ensures memory { RunsOutOnlyIf result (has_concatenation condition.now) }
