@@ -33,7 +33,7 @@ pub none_left : (n : ℕ) → nat_lt 0 n ≡ false → n ≡ 0
 none_left n e = grind (arith, nat_tests)
 
 -- a number put in its place, and counted or not
-pub taken : (numbers : List ℕ) (count i : ℕ) (b : Bool) → count < length numbers → take (count + bool_byte b) (set numbers count i) ≡ cond b (take count numbers ++ i ∷ []) (take count numbers)
+taken : (numbers : List ℕ) (count i : ℕ) (b : Bool) → count < length numbers → take (count + bool_byte b) (set numbers count i) ≡ cond b (take count numbers ++ i ∷ []) (take count numbers)
 taken numbers count i true fits = take_more_set numbers count i fits
 taken numbers count i false fits =
     let e : count + 0 ≡ count = omega arith in
@@ -50,6 +50,18 @@ same_short cs ns most stop es xs ys n m o p e f g h =
     subst (λ (zs : List ℕ). AreShortOf cs ns most stop es zs n o) (sym e)
     (subst (λ (k : ℕ). AreShortOf cs ns most stop es ys k o) (sym f)
     (subst (λ (q : Option ℕ). AreShortOf cs ns most stop es ys m q) (sym g) h))
+
+-- what a walk is to come to after a chain has a cell too
+pub below_next : (cs : List Cell) (ns : Nexts) (n i : ℕ) (stop next : Option ℕ) → 0 < n → is_stop i stop ≡ false → next ≡ next_of ns i
+    → AreBelow (length cs) (walked_in cs ns n (Some i) stop) → AreBelow (length cs) (walked_in cs ns (n - 1) next stop)
+below_next cs ns n i stop next some miss on below =
+    let walk : walked_in cs ns n (Some i) stop ≡ entry (cell_at cs i).key i ∷ walked_in cs ns (n - 1) (next_of ns i) stop = walked_more (cell_at cs) (next_of ns) n i stop some miss in
+    let both : AreBelow (length cs) (entry (cell_at cs i).key i ∷ walked_in cs ns (n - 1) (next_of ns i) stop) = subst (AreBelow (length cs)) walk below in
+    subst (λ (o : Option ℕ). AreBelow (length cs) (walked_in cs ns (n - 1) o stop)) (sym on) both.1
+
+pub counted_left : (b : Bool) (count n most : ℕ) → 0 < n → count + n ≤ most → count + bool_byte b + (n - 1) ≤ most
+counted_left true count n most some few = omega arith
+counted_left false count n most some few = omega arith
 
 -- a key on
 module _ (cs : List Cell) (ns : Nexts) (most i : ℕ) where

@@ -40,19 +40,17 @@ pub record AreShortOf (cs : List Cell) (ns : Nexts) (most : ℕ) (stop : Option 
   pub found : AreBelow (length cs) (cell_entries cs numbers)
   pub below : AreBelow (length cs) (walked_in cs ns left at stop)
 
--- k cells from cell i on, of which each but the last leads to the next number, and none is the end
-pub record IsRun (ns : Nexts) (cells : ℕ) (stop : Option ℕ) (i k : ℕ) : Type 0 where
-  pub some : 0 < k
-  pub within : i + k ≤ cells
-  pub next : (j : ℕ) → j + 1 < k → next_of ns (i + j) ≡ Some (i + j + 1)
-  pub goes_on : (j : ℕ) → j < k → is_stop (i + j) stop ≡ false
+-- the links of eight cells, from cell i on, lead each to the next number, and the end is none of the eight
+pub record IsRun (ns : Nexts) (cells : ℕ) (stop : Option ℕ) (i : ℕ) : Type 0 where
+  pub within : i + 8 < cells
+  pub next : (k : ℕ) → k < 8 → next_of ns (i + k) ≡ Some (i + k + 1)
+  pub goes_on : (k : ℕ) → k < 8 → is_stop (i + k) stop ≡ false
 
--- where k cells from cell i on are a run, numbers that are right before it and others that are right after it
-abbrev pub IsPassed : List Cell → ℕ → ℕ → ℕ → List ℕ → List ℕ → Type 0
-IsPassed cs most i k before after =
-    (ns : Nexts) (stop : Option ℕ) (left : ℕ) (es : List KeyEntry) → IsRun ns (length cs) stop i k → k ≤ left
-    → AreShortOf cs ns most stop es before left (Some i)
-    → AreShortOf cs ns most stop es after (left - k) (next_of ns (i + k - 1))
+-- where the eight cells from i on are a run, numbers that are right before it and others that are right after it
+abbrev pub IsPassed : List Cell → ℕ → ℕ → List ℕ → List ℕ → Type 0
+IsPassed cs most i before after =
+    (ns : Nexts) (stop : Option ℕ) (left : ℕ) (es : List KeyEntry) → IsRun ns (length cs) stop i → 8 ≤ left
+    → AreShortOf cs ns most stop es before left (Some i) → AreShortOf cs ns most stop es after (left - 8) (Some (i + 8))
 
 -- the chains from one on, by the links, and at most n of them
 abbrev pub chains_from : (ℕ → Option ℕ) → ℕ → Option ℕ → List Chain

@@ -1,8 +1,9 @@
 //! The next short keys of a walk, found a batch at a time.
-ghost use Rattle.std.specs.Prelude.{◌≡◌, ◌<◌, ◌≤◌, [], ◌∷◌, false, length, take, IsTrue, MatchOption};
-ghost use Rattle.span_keywalk.specs.Walks.{walked_in, AreBelow, AreShortOf};
+ghost use Rattle.std.specs.Prelude.{◌≡◌, ◌+◌, ◌<◌, ◌≤◌, [], ◌∷◌, false, length, take, IsTrue, List, MatchOption, Some};
+ghost use Rattle.span_keytree.specs.Entries.{KeyEntry};
+ghost use Rattle.span_keywalk.specs.Walks.{is_stop, walked_in, AreBelow, AreShortOf};
 
-use crate::run::{RUN_KEYS, end_of, pass_run, run_len};
+use crate::run::{RUN_KEYS, end_of, has_run, is_try_due, pass_run};
 use crate::walk::is_stop;
 use span_arena::arena::Arena;
 use span_arena::token::NO_CHAIN;
@@ -11,6 +12,9 @@ use std::marker::Model;
 
 /// How many keys a batch has at most.
 pub(crate) const BATCH_KEYS: usize = 32;
+
+/// How many keys are passed over by their links at a time.
+const LINK_KEYS: usize = 8;
 
 /// How many links are looked at to know whether keys were put in order.
 pub(crate) const LINKS_TRIED: usize = 4;
@@ -113,8 +117,71 @@ impl Refill {
     }
 }
 
-/// As `find_short`, where many chains lead to the next number: up to eight are passed over together where they do, and else one by its
-/// link.
+/// Where a walk is after some chains.
+#[derive(Clone, Copy, Debug)]
+struct Passed {
+    /// How many numbers of short keys there are then.
+    count: usize,
+    at: Option<u32>,
+    left: usize,
+}
+
+/// Goes on from a chain to at most `keys` by their links, with fewer tests for each than `find_by_links`: there is room for all of them.
+/// Each number is put, and that of a short key stays.
+fn pass_links(
+    arena: &Arena,
+    nexts: &NextLinks,
+    most: usize,
+    number: u32,
+    stop: Option<u32>,
+    mut left: usize,
+    keys: usize,
+    numbers: &mut [u32; BATCH_KEYS],
+    mut count: usize,
+) -> Passed
+    requires below { AreBelow (length arena.now.cells) (walked_in arena.now.cells nexts.now left (Some number) stop) }
+    requires places { length nexts.now.next ≡ length arena.now.cells }
+    requires goes_on { is_stop number stop ≡ false }
+    requires keys { 0 < keys }
+    requires left { keys ≤ left }
+    requires room { count + keys ≤ 32 }
+    ensures room { result.count ≤ 32 }
+    ensures left { result.left < left }
+    ensures short { (es : List KeyEntry) → let cells = arena.now.cells in
+        AreShortOf cells nexts.now most stop es (take count numbers.old) left (Some number)
+        → AreShortOf cells nexts.now most stop es (take result.count numbers.new) result.left result.at }
+{
+    let last = left - keys;
+    let mut here = number;
+    while left > last {
+        if is_stop(here, stop) {
+            return Passed {
+                count,
+                at: Some(here),
+                left,
+            };
+        }
+        numbers[count] = here;
+        count += arena.has_short_key(here, most) as usize;
+        left -= 1;
+        let Some(next) = nexts.after(here) else {
+            return Passed {
+                count,
+                at: None,
+                left,
+            };
+        };
+        here = next;
+    }
+    Passed {
+        count,
+        at: Some(here),
+        left,
+    }
+}
+
+/// As `find_short`, where many chains lead to the next number: eight are passed over together where they do, and else up to eight by their
+/// links. Runs of any length, each passed over in the same steps, take longer than links: most of these steps are for keys after the run.
 fn find_in_order(
     arena: &Arena,
     nexts: &NextLinks,
@@ -138,28 +205,38 @@ fn find_in_order(
     let mut numbers = [NO_CHAIN; BATCH_KEYS];
     let mut count: usize = 0;
     let mut at = number;
+    let mut misses: usize = 0;
     let end = end_of(stop);
     while left > last {
-        if count > BATCH_KEYS - RUN_KEYS {
+        if count > BATCH_KEYS - LINK_KEYS {
             return Refill::of(numbers, count, Some(at), left, false);
         }
-        let run = run_len(arena, nexts, most, at, end, left - last);
-        if run > 0 {
-            count = pass_run(arena, most as u16, at, run, &mut numbers, count);
-            left -= run;
-            let Some(next) = nexts.after(at + run as u32 - 1) else {
-                return Refill::of(numbers, count, None, left, false);
-            };
-            at = next;
+        if is_try_due(misses) && has_run(arena, nexts, most, at, end, left - last) {
+            count = pass_run(arena, most as u16, at, &mut numbers, count);
+            at += RUN_KEYS as u32;
+            left -= RUN_KEYS;
+            misses = 0;
             continue;
         }
         if is_stop(at, stop) {
             return Refill::of(numbers, count, Some(at), left, false);
         }
-        numbers[count] = at;
-        count += arena.has_short_key(at, most) as usize;
-        left -= 1;
-        let Some(next) = nexts.after(at) else {
+        misses = misses.wrapping_add(1);
+        let keys = (left - last).min(LINK_KEYS);
+        let passed = pass_links(
+            arena,
+            nexts,
+            most,
+            at,
+            stop,
+            left,
+            keys,
+            &mut numbers,
+            count,
+        );
+        count = passed.count;
+        left = passed.left;
+        let Some(next) = passed.at else {
             return Refill::of(numbers, count, None, left, false);
         };
         at = next;

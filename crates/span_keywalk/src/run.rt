@@ -1,8 +1,5 @@
-//! Chains whose numbers follow one another, as those have that were put in order: a walk passes over up to eight of them at once.
-//!
-//! Such runs are short where rows of several tables lie interleaved, since each table's rows have numbers of their own, and how long the
-//! next one is can't be guessed. So nothing here branches on it: each length takes the same steps.
-ghost use Rattle.std.specs.Prelude.{◌≡◌, ◌≢◌, ℕ, Option, ◌+◌, ◌^◌, ◌<◌, ◌≤◌, get_or, length, take, IfSome};
+//! Chains whose numbers follow one another, as those have that were put in order: a walk passes over eight of them at once.
+ghost use Rattle.std.specs.Prelude.{◌≡◌, ◌≢◌, ℕ, Option, ◌+◌, ◌^◌, ◌<◌, ◌≤◌, true, get_or, length, take, IfSome};
 ghost use Rattle.span_arena.specs.Limits.{most_chains};
 ghost use Rattle.span_keywalk.specs.Walks.{IsPassed, IsRun};
 
@@ -11,7 +8,7 @@ use span_arena::arena::Arena;
 use span_arena::token::NO_CHAIN;
 use span_keytree::next::NextLinks;
 
-/// How many keys are passed over together at most.
+/// How many keys are passed over together.
 pub(crate) const RUN_KEYS: usize = 8;
 
 /// The number of the chain where a walk ends; that of no chain where it has no such end.
@@ -24,89 +21,86 @@ pub(crate) fn end_of(stop: Option<u32>) -> u32
     }
 }
 
-/// How many of eight numbers, from a number on, come before the end.
-fn numbers_before(end: u32, number: u32) -> usize
-    ensures few { result ≤ 8 }
-    ensures apart { (j : ℕ) → j < result → number + j ≢ end }
+/// Whether a number is none of eight, from a number on.
+fn is_apart(end: u32, number: u32) -> bool
+    requires { number + 8 < 2 ^ 32 }
+    ensures { result ≡ true → (k : ℕ) → k < 8 → number + k ≢ end }
 {
-    if end < number {
-        RUN_KEYS
-    } else {
-        ((end - number) as usize).min(RUN_KEYS)
-    }
+    end < number || end >= number + RUN_KEYS as u32
 }
 
-/// How many of eight chains, from one on, have numbers that follow one another: each of them but the last leads to the next number.
-fn chains_in_order(links: &[u32], number: u32) -> usize
+/// Whether each of eight links, from that of a chain on, leads to the next number.
+fn are_next_numbers(links: &[u32], number: u32) -> bool
     requires within { number + 8 < length links.now }
     requires few { length links.now ≤ most_chains }
-    ensures some { 0 < result }
-    ensures few { result ≤ 8 }
-    ensures next { (j : ℕ) → j + 1 < result → get_or links.now (number + j) 0 ≡ number + j + 1 }
+    ensures { result ≡ true → (k : ℕ) → k < 8 → get_or links.now (number + k) 0 ≡ number + k + 1 }
 {
     let at = number as usize;
     let mut are = true;
-    let mut len: usize = 1;
-    for i in 0..RUN_KEYS - 1 {
+    for i in 0..RUN_KEYS {
         let is_next = links[at + i] == number + i as u32 + 1;
         are = are & is_next;
-        len += are as usize;
     }
-    len
+    are
 }
 
-/// How many chains, from the one that a walk is at, it may pass over at once: at most `keys`, and none from its end on. At 0 it goes on by
-/// the chain's link.
-pub(crate) fn run_len(
+/// Whether a walk that is at a chain comes to the numbers that follow its own, and may pass over eight of them at once.
+pub(crate) fn has_run(
     arena: &Arena,
     nexts: &NextLinks,
     most: usize,
     number: u32,
     end: u32,
     keys: usize,
-) -> usize
+) -> bool
     requires { length nexts.now.next ≡ length arena.now.cells }
-    ensures run { 0 < result → (stop : Option ℕ) → IfSome stop (λ number. end ≡ number)
-        → IsRun nexts.now (length arena.now.cells) stop number result }
-    ensures most { 0 < result → most < 65535 }
-    ensures keys { result ≤ keys }
-    ensures few { result ≤ 8 }
-    ensures within { 0 < result → number + 8 < length arena.now.cells }
-    ensures fits { 0 < result → number + 8 < 2 ^ 32 }
+    ensures run { result ≡ true → (stop : Option ℕ) → IfSome stop (λ number. end ≡ number)
+        → IsRun nexts.now (length arena.now.cells) stop number }
+    ensures most { result ≡ true → most < 65535 }
+    ensures keys { result ≡ true → 8 ≤ keys }
+    ensures fits { result ≡ true → number + 8 < 2 ^ 32 }
 {
+    if keys < RUN_KEYS {
+        return false;
+    }
     if most >= u16::MAX as usize {
-        return 0;
+        return false;
     }
     if number as usize + RUN_KEYS >= arena.numbers() {
-        return 0;
+        return false;
     }
-    let in_order = chains_in_order(nexts.numbers(), number);
-    in_order.min(numbers_before(end, number)).min(keys)
+    if !is_apart(end, number) {
+        return false;
+    }
+    are_next_numbers(nexts.numbers(), number)
 }
 
-/// Passes over a run of `keys` chains. Each of eight numbers is put, and that of a short key of the run stays: which are short can't be
-/// guessed, and a wrong guess takes longer than both. How many numbers there are then.
+/// Passes over a run. Each number is put, and that of a short key stays: which are short can't be guessed, and a wrong guess takes longer
+/// than both. How many numbers there are then.
 pub(crate) fn pass_run(
     arena: &Arena,
     most: u16,
     number: u32,
-    keys: usize,
     numbers: &mut [u32; BATCH_KEYS],
     mut count: usize,
 ) -> usize
     requires within { number + 8 < length arena.now.cells }
     requires fits { number + 8 < 2 ^ 32 }
     requires most { most < 65535 }
-    requires few { keys ≤ 8 }
     requires room { count ≤ 24 }
     ensures room { result ≤ 32 }
-    ensures passed { IsPassed arena.now.cells most number keys (take count numbers.old) (take result numbers.new) }
+    ensures passed { IsPassed arena.now.cells most number (take count numbers.old) (take result numbers.new) }
 {
     let lengths = arena.key_lengths();
     for i in 0..RUN_KEYS {
-        let is_short = lengths[number as usize + i] <= most;
         numbers[count] = number + i as u32;
-        count += (is_short & (i < keys)) as usize;
+        count += (lengths[number as usize + i] <= most) as usize;
     }
     count
+}
+
+/// Whether a walk looks for a run, where it found none some times in a row and went on by links each time: at 0, 1, 2, 4, 8 and so on. Where
+/// runs are short it can't be guessed whether there is one, and a wrong guess takes longer than some links.
+pub(crate) fn is_try_due(misses: usize) -> bool {
+    (misses & misses.wrapping_sub(1)) == 0
 }
