@@ -20,7 +20,7 @@ use Rattle.span_query.specs.declared.query.SortKey.{SortKey}
 use Rattle.span_query.specs.Rows.{Row}
 use Rattle.span_query.specs.Sorting.{reverse_if, or_next, key_order, row_order, comes_before, insert_sorted, insertion_sort, sorted}
 use Rattle.span_sorting.specs.declared.coded.CodedRow.{CodedRow}
-use Rattle.span_sorting.specs.Codes.{code_of, is_exact, IsInRange, value_at, key_code, first_code, next_code, second_code, are_exact, AreInRange, IsCoded, IsCodedAs, code_order, code_before, uncoded}
+use Rattle.span_sorting.specs.Codes.{code_of, is_exact, IsInRange, value_at, key_code, first_code, next_code, second_code, are_exact, AreInRange, IsFirstInRange, IsCoded, IsCodedAs, code_order, code_before, uncoded}
 use Rattle.span_sorting.proofs.Codes.{code_agrees, exact_order, exact_same, code_end}
 use Rattle.span_sorting.proofs.Sorting.{all_in_order, from_sorted, is_the_order}
 use Rattle.span_sorting.proofs.RowOrder.{rows_total, same_next}
@@ -131,6 +131,20 @@ codes_agree (key ∷ next ∷ keys) r s f g =
     next_decides (is_exact (value_at key r)) (is_exact (value_at key s)) same (key_code next r) (key_code next s) (key_order key r s) (key_order next r s) (row_order keys r s)
     (λ exact. sym (key_exact key r s f.0 g.0 exact (sym same ∙ exact)) ∙ e)
     (λ exact. key_agrees next r s (f.1 exact) (g.1 (sym same ∙ exact))))
+
+pub first_in_range : (keys : List SortKey) (r : Row) → AreInRange keys r → IsFirstInRange keys r
+first_in_range [] r f = tt
+first_in_range (key ∷ []) r f = f
+first_in_range (key ∷ next ∷ keys) r f = f.0
+
+-- a row with a lesser code at the first key comes before
+pub first_decides_alone : (keys : List SortKey) (r s : Row) → IsFirstInRange keys r → IsFirstInRange keys s → first_code keys r < first_code keys s → comes_before keys r s ≡ true
+first_decides_alone [] r s f g lt = absurd (omega (arith, lt))
+first_decides_alone (key ∷ keys) r s f g lt =
+    let less : nat_cmp (key_code key r) (key_code key s) ≡ Less = number_less (key_code key r) (key_code key s) lt in
+    let first : key_order key r s ≡ Less =
+    sym (key_agrees key r s f g) ∙ ap (λ (o : Ordering). or_next o (key_order key r s)) less in
+    ap (λ (o : Ordering). is_lt (or_next o (row_order keys r s))) first
 
 -- where they are exact, the codes are in the order of the keys
 exact_codes : (keys : List SortKey) (r s : Row) → AreInRange keys r → AreInRange keys s → are_exact keys r ≡ true → are_exact keys s ≡ true

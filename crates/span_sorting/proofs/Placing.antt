@@ -1,23 +1,26 @@
 -- Rows of a list with their codes and their places, in order.
-use Rattle.std.proofs.Common.{◌≡◌, refl, sym, ap, subst, ◌∙◌, ℕ, zero, suc, ◌<◌, Bool, true, false, ◌&&◌, List, [], ◌∷◌, ◌++◌, Option, Some, None, length, map, get_or, take}
+use Rattle.std.proofs.Common.{◌≡◌, refl, sym, ap, subst, arith, ◌∙◌, ℕ, zero, suc, ◌+◌, ◌-◌, ◌<◌, drop, Bool, true, false, ◌&&◌, List, [], ◌∷◌, ◌++◌, Option, Some, None, length, map, get_or, take}
 use Rattle.std.specs.Cmp.{IsStrictWeakOrder}
 use Rattle.std.specs.List.{All, AllByRecursion}
 use Rattle.std.proofs.lemmas.Bool.{and_parts}
 use Rattle.std.proofs.lemmas.List.{map_push, take-map}
 use Rattle.std.proofs.lemmas.List.Elements.{All-from_recursion}
 use Rattle.std.proofs.lemmas.List.MinMax.{ranks_by}
-use Rattle.span_value.proofs.Lists.{all_take}
+use Rattle.std.specs.Prelude.{slice_get}
+use Rattle.span_value.proofs.Lists.{all_found_at, all_take}
 use Rattle.span_query.specs.declared.query.SortKey.{SortKey}
 use Rattle.span_query.specs.Rows.{Row}
 use Rattle.span_query.specs.Sorting.{comes_before, insert_sorted, insertion_sort, sorted}
 use Rattle.span_sorting.specs.declared.coded.CodedRow.{CodedRow}
 use Rattle.span_sorting.specs.declared.placed.CodedPlace.{CodedPlace}
 use Rattle.span_sorting.specs.declared.placed.PlacedRow.{PlacedRow}
-use Rattle.span_sorting.specs.Codes.{AreInRange, IsCoded, IsCodedAs, are_exact, code_before, first_code, second_code, uncoded}
+use Rattle.span_sorting.specs.Codes.{AreInRange, IsFirstInRange, IsCoded, IsCodedAs, are_exact, code_before, first_code, second_code, uncoded}
 use Rattle.span_rows.specs.RowPlaces.{rows_at}
-use Rattle.span_sorting.specs.Orders.{take_first}
-use Rattle.span_sorting.specs.PlacesInOrder.{ArePlacesBy, IsCodedPlace, IsPlaced, coded_place, placed_before, without_codes, without_places}
-use Rattle.span_sorting.proofs.CodedRows.{code_total, uncoded_more, uncoded_inserted, uncoded_in_order}
+use Rattle.span_sorting.specs.Orders.{IsSorted, take_first}
+use Rattle.span_sorting.specs.PlacesInOrder.{AreFirst, ArePlacesBy, EndsBelow, IsCodedPlace, IsPlaced, coded_place, placed_before, without_codes, without_places}
+use Rattle.span_sorting.proofs.FirstRows.{first_in_order, first_of_inserted, put_beyond}
+use Rattle.span_sorting.proofs.RowOrder.{rows_ranked}
+use Rattle.span_sorting.proofs.CodedRows.{code_total, first_decides_alone, first_in_range, uncoded_more, uncoded_inserted, uncoded_in_order}
 use Rattle.span_sorting.proofs.Sorting.{all_in_order, inserted_map, sorted_map}
 
 abbrev pub coded_places : List PlacedRow → List CodedPlace
@@ -110,6 +113,43 @@ pub unplaced_first : (count : ℕ) (xs : List PlacedRow) → uncoded (without_pl
 unplaced_first zero xs = refl
 unplaced_first (suc count) [] = refl
 unplaced_first (suc count) (x ∷ xs) = ap (λ (l : List Row). x.coded.row.now ∷ l) (unplaced_first count xs)
+
+-- ---- a row beyond the first
+
+unplaced_count : (xs : List PlacedRow) → length (uncoded (without_places xs)) ≡ length xs
+unplaced_count [] = refl
+unplaced_count (x ∷ xs) = ap suc (unplaced_count xs)
+
+unplaced_found : (xs : List PlacedRow) (k : ℕ) (x : PlacedRow) → slice_get xs k ≡ Some x → slice_get (uncoded (without_places xs)) k ≡ Some x.coded.row.now
+unplaced_found [] k x e = cc
+unplaced_found (y ∷ xs) zero x e = let same : y ≡ x = cc in ap (λ (z : PlacedRow). Some z.coded.row.now) same
+unplaced_found (y ∷ xs) (suc k) x e = unplaced_found xs k x e
+
+module _ (keys : List SortKey) (count : ℕ) (rows : List Row) where
+  pub beyond_first : (at : ℕ) (xs : List PlacedRow) (row : Row) (code : ℕ) → drop at rows ≡ row ∷ drop (at + 1) rows → code ≡ first_code keys row → IsFirstInRange keys row
+      → EndsBelow count code xs → AreFirst keys count rows (at + 1) xs → AreFirst keys count rows at xs
+  beyond_first at xs row code rest is range ends are =
+      let before : Row → Row → Bool = comes_before keys in
+      let all : List Row = uncoded (without_places xs) in
+      let last : PlacedRow = ends.1 in
+      let others : List Row = sorted keys (drop (at + 1) rows) in
+      let long : count ≡ length all = ends.0 ∙ sym (unplaced_count xs) in
+      let found : slice_get all (length all - 1) ≡ Some last.coded.row.now =
+      ap (λ (n : ℕ). slice_get all (n - 1)) (unplaced_count xs) ∙ unplaced_found xs (length xs - 1) last ends.2 in
+      let placed : IsPlaced rows keys false last = all_found_at (IsPlaced rows keys false) xs (length xs - 1) last ends.2 are.placed in
+      let less : first_code keys last.coded.row.now < first_code keys row = omega (arith, ends.3, placed.coded.coded.first, is) in
+      let after : before last.coded.row.now row ≡ true =
+      first_decides_alone keys last.coded.row.now row (first_in_range keys last.coded.row.now placed.coded.coded.range) range less in
+      let up : IsSorted before all = subst (IsSorted before) (sym are.first) (first_in_order before (rows_ranked keys) count (drop (at + 1) rows)) in
+      record {
+        few = are.few;
+        order = are.order;
+        placed = are.placed;
+        first = sym (put_beyond before (rows_ranked keys) count all last.coded.row.now row long found up after)
+            ∙ ap (λ (l : List Row). take count (insert_sorted before row l)) are.first
+            ∙ first_of_inserted before count row others
+            ∙ ap (λ (l : List Row). take count (sorted keys l)) (sym rest);
+      }
 
 -- ---- the first of some places
 

@@ -80,6 +80,11 @@ AreInRange (key ∷ []) row = IsInRange (value_at key row)
 AreInRange (key ∷ next ∷ keys) row =
     IsInRange (value_at key row) × (is_exact (value_at key row) ≡ true → IsInRange (value_at next row))
 
+-- the same of the value at the first key alone
+abbrev pub IsFirstInRange : List SortKey → Row → Type 0
+IsFirstInRange [] row = Unit {0}
+IsFirstInRange (key ∷ keys) row = IsInRange (value_at key row)
+
 -- the row with its codes
 pub record IsCoded (keys : List SortKey) (x : CodedRow) : Type 0 where
   pub first : x.first ≡ first_code keys x.row.now

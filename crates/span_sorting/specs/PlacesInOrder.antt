@@ -1,5 +1,5 @@
 -- The places of the rows of a list, in the order of some keys.
-use Rattle.std.specs.Prelude.{◌≡◌, ℕ, ◌<◌, Bool, true, false, List, [], Option, length, map, slice_index_or}
+use Rattle.std.specs.Prelude.{◌≡◌, ℕ, ◌<◌, ◌≤◌, ◌-◌, Bool, true, false, List, [], Option, Some, drop, length, map, slice_get, slice_index_or, take}
 use Rattle.std.specs.List.{AllByRecursion}
 use Rattle.span_query.specs.declared.query.SortKey.{SortKey}
 use Rattle.span_query.specs.Rows.{Row}
@@ -9,8 +9,8 @@ use Rattle.span_sorting.specs.declared.coded.CodedRow.{CodedRow}
 use Rattle.span_sorting.specs.declared.placed.CodedPlace.{CodedPlace}
 use Rattle.span_sorting.specs.declared.placed.PlacedRow.{PlacedRow}
 use Rattle.span_sorting.specs.declared.rows_with_order.RowOrder.{RowOrder}
-use Rattle.span_sorting.specs.Codes.{AreInRange, IsCodedAs, are_exact, code_before, first_code, second_code}
-use Rattle.span_sorting.specs.Orders.{take_first}
+use Rattle.span_sorting.specs.Codes.{AreInRange, IsCodedAs, are_exact, code_before, first_code, second_code, uncoded}
+use Rattle.span_sorting.specs.Orders.{IsSorted, take_first}
 
 -- rows with their codes, without their places
 abbrev pub without_places : List PlacedRow → List CodedRow
@@ -25,6 +25,18 @@ pub record IsPlaced (rows : List Row) (keys : List SortKey) (exact : Bool) (x : 
 -- by the codes, then by the keys
 abbrev pub placed_before : List SortKey → PlacedRow → PlacedRow → Bool
 placed_before keys x y = code_before keys false x.coded y.coded
+
+-- the first `count` of the rows from this place on in the order of the keys
+pub record AreFirst (keys : List SortKey) (count : ℕ) (rows : List Row) (at : ℕ) (xs : List PlacedRow) : Type 0 where
+  pub few : length xs ≤ count
+  pub order : IsSorted (placed_before keys) xs
+  pub placed : AllByRecursion (IsPlaced rows keys false) xs
+  pub first : uncoded (without_places xs) ≡ take count (sorted keys (drop at rows))
+
+-- there are `count` rows, and the code of the last at the first key is below this code
+abbrev pub EndsBelow : ℕ → ℕ → List PlacedRow → Type 0
+EndsBelow count code xs =
+    (count ≡ length xs) × (last : PlacedRow) × (slice_get xs (length xs - 1) ≡ Some last) × (last.coded.first < code)
 
 -- the place of a row with its codes, without the row
 abbrev pub coded_place : PlacedRow → CodedPlace

@@ -1,7 +1,7 @@
 //! Rows beside numbers that are in the order of their first two keys, by which most of them are compared.
 ghost use Rattle.std.specs.Prelude.{◌≡◌, ◌&&◌, ◌++◌, ◌∷◌, [], IfOk, List, OnOk};
 ghost use Rattle.span_query.specs.declared.query.SortKey.{SortKey};
-ghost use Rattle.span_sorting.specs.Codes.{HaveCodes, IsCoded, are_exact, code_order, coded_rows, uncoded};
+ghost use Rattle.span_sorting.specs.Codes.{HaveCodes, IsCoded, are_exact, code_order, coded_rows, first_code, IsFirstInRange, uncoded};
 ghost use Rattle.span_rows.specs.LentRows.{lent_rows};
 
 use super::code::{is_exact_at, key_code, next_code};
@@ -63,6 +63,17 @@ pub(crate) fn code_row<'a>(keys: &[SortKey], row: &'a [Value]) -> CodedRow<'a>
             first: key_code(key, row),
             second: next_code(key, next, row),
         },
+    }
+}
+
+/// The code of a row at the first key.
+pub(crate) fn first_code(keys: &[SortKey], row: &[Value]) -> u128
+    ensures code { result ≡ first_code keys.now row.now }
+    ensures range { IsFirstInRange keys.now row.now }
+{
+    match keys {
+        [] => 0,
+        [key, ..] => key_code(key, row),
     }
 }
 

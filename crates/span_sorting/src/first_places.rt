@@ -1,10 +1,10 @@
 //! The places of the first rows of a list in the order of some keys, without an order of the others.
-ghost use Rattle.std.specs.Prelude.{◌≡◌, ◌<◌, ◌≤◌, IfOk, OnOk, Some, false, length, take, true};
+ghost use Rattle.std.specs.Prelude.{◌≡◌, ◌<◌, ◌≤◌, ◌+◌, IfOk, OnOk, Some, false, length, take, true};
 ghost use Rattle.span_query.specs.Sorting.{insert_sorted};
 ghost use Rattle.span_sorting.specs.Orders.{GoesBefore, IsSorted};
-ghost use Rattle.span_sorting.specs.PlacesInOrder.{ArePlacesBy, IsPlaced, placed_before};
+ghost use Rattle.span_sorting.specs.PlacesInOrder.{AreFirst, ArePlacesBy, EndsBelow, IsPlaced, placed_before};
 
-use super::coded::{code_row, compare_coded};
+use super::coded::{code_row, compare_coded, first_code};
 use super::placed::{CodedPlaces, PlacedRow, places_of};
 use span_query::query::SortKey;
 use span_rows::row_list::RowList;
@@ -40,14 +40,12 @@ fn place_in_order(keys: &[SortKey], rows: &[PlacedRow<'_>], row: &PlacedRow<'_>)
     rows.len()
 }
 
-/// Whether there are `count` rows, and the last comes before the row.
-fn is_beyond(keys: &[SortKey], rows: &[PlacedRow<'_>], row: &PlacedRow<'_>, count: usize) -> bool
-    requires order { IsSorted (placed_before keys.now) rows.now }
-    requires few { length rows.now ≤ count }
-    ensures { result ≡ true → take count (insert_sorted (placed_before keys.now) row.now rows.now) ≡ rows.now }
+/// Whether there are `count` rows, and the code of the last at the first key is below a row's.
+fn is_beyond(rows: &[PlacedRow<'_>], code: u128, count: usize) -> bool
+    ensures { result ≡ true → EndsBelow count code rows.now }
 {
     match rows.last() {
-        Some(last) => rows.len() == count && is_before(keys, last, row),
+        Some(last) => rows.len() == count && last.coded.first < code,
         None => false,
     }
 }
@@ -64,18 +62,37 @@ fn put_in_order<'a>(
     ensures { OnOk result
         (rows.new.items ≡ take count (insert_sorted (placed_before keys.now) row.entry rows.old.items)) }
 {
-    if is_beyond(keys, rows.as_slice(), &row, count) {
-        return Ok(());
-    }
     let at = place_in_order(keys, rows.as_slice(), &row);
     rows.insert(at, row)?;
     rows.truncate(count);
     Ok(())
 }
 
+/// Takes the row before those of which the first `count` in the order of the keys are kept.
+fn take_row<'a>(
+    keys: &[SortKey],
+    rows: &'a RowList,
+    place: usize,
+    count: usize,
+    first: &mut Vec<PlacedRow<'a>>,
+) -> Result<(), AllocError>
+    requires within { place < length rows.now }
+    requires first { AreFirst keys.now count rows.now (place + 1) first.old.items }
+    ensures { OnOk result (AreFirst keys.now count rows.now place first.new.items) }
+{
+    let code = first_code(keys, rows.row(place));
+    if is_beyond(first.as_slice(), code, count) {
+        return Ok(());
+    }
+    let row = place_row(keys, rows, place);
+    put_in_order(keys, first, row, count)?;
+    Ok(())
+}
+
 /// The places of the first `count` rows of a list in the order of the keys; rows with equal keys keep their order.
 ///
-/// Rows are taken from the end. Where `count` rows are kept, a row that the last of them comes before is passed over at once.
+/// Rows are taken from the end. Where `count` rows are kept, a row whose code at the first key is above that of the last is passed over
+/// at once.
 pub(crate) fn first_places(
     alloc: Global,
     keys: &[SortKey],
@@ -89,8 +106,7 @@ pub(crate) fn first_places(
     let mut at = rows.len();
     while at > 0 {
         at -= 1;
-        let row = place_row(keys, rows, at);
-        put_in_order(keys, &mut first, row, count)?;
+        take_row(keys, rows, at, count, &mut first)?;
     }
     let places = places_of(alloc, first.as_slice())?;
     // Whether the codes are exact is not looked at: the rows are few.
