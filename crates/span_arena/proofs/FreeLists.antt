@@ -55,7 +55,7 @@ module _ (base : ℕ) (numbers places : List ℕ) (last count : ℕ) (inverse : 
       rw (number_in i lt, c) (
         number_at base numbers last (i + 1),
         record_new rs at i lt ∙ ap (chain.Free (number_at base numbers last (i + 1))) n,
-        new_spare rs at spare k (i + 1) (omega (arith, e))
+        new_spare rs at spare k (i + 1) (omega (arith, e)),
       )
 
   none_used : (ps : List ℕ) → used_count (map (free_chain base numbers last count) ps) ≡ 0
@@ -95,8 +95,15 @@ module _ (rs : List ChainRecord) (numbers : List ℕ) (last count : ℕ) (ms : L
   spare_more spare =
       rw new.are (record {
         list = new_spare (length rs) numbers new.places last count new.inverse rs refl spare.list (length numbers) 0 (omega arith);
-        counted = omega (arith, spare.counted, used_append rs (map (free_chain (length rs) numbers last count) new.places), none_used (length rs) numbers new.places last count new.inverse new.places,
-            length-append rs (map (free_chain (length rs) numbers last count) new.places), length-map new.places (free_chain (length rs) numbers last count), new.inverse.long);
+        counted = omega (
+          arith,
+          spare.counted,
+          used_append rs (map (free_chain (length rs) numbers last count) new.places),
+          none_used (length rs) numbers new.places last count new.inverse new.places,
+          length-append rs (map (free_chain (length rs) numbers last count) new.places),
+          length-map new.places (free_chain (length rs) numbers last count),
+          new.inverse.long,
+        );
       })
 
   pub sound_more : (nodes : List NodeRecord) (free free_count most : ℕ) (cs : List Cell) → IsSound nodes rs free free_count most → IsSound nodes (rs ++ ms) free free_count most

@@ -15,11 +15,13 @@ use Rattle.span_keyindex.specs.Indexes.{entries_of, IsIndexOf}
 pub own_more : (i j : KeyIndex) (n : ℕ) (a b : Content) → b ≡ with_free_chains n a → j.nexts ≡ with_places n i.nexts → j.tree ≡ i.tree → IsIndexOf i a → IsIndexOf j b
 own_more i j n a b more places tree own = rw more (record {
   index = rw (places, tree) (index_more a.cells n i.tree i.nexts own.index);
-  own = record { each = λ c.
-      ap (λ (t : TreeRoot). holders c (entries_at (with_free_chains n a).cells t)) tree
-      ∙ ap (holders c) (entries_same a.cells n i.tree)
-      ∙ own.own.each c
-      ∙ ap one_if_chain (sym (read_more a.chains n c None)) };
+  own = record {
+    each = λ c.
+        ap (λ (t : TreeRoot). holders c (entries_at (with_free_chains n a).cells t)) tree
+        ∙ ap (holders c) (entries_same a.cells n i.tree)
+        ∙ own.own.each c
+        ∙ ap one_if_chain (sym (read_more a.chains n c None));
+  };
 })
 
 pub entries_more : (i j : KeyIndex) (n : ℕ) (a b : Content) → b ≡ with_free_chains n a → j.tree ≡ i.tree → entries_of j b ≡ entries_of i a

@@ -66,11 +66,14 @@ module _ (a b : Content) (alike : IsReadAlike a b) where
 
   nodes_alike : (ps : List PreparedNode) → AllByRecursion (IsNodeOf a) ps → AllByRecursion (IsNodeOf b) ps
   nodes_alike [] all = tt
-  nodes_alike (p ∷ ps) all = (record {
-    image = all.0.image;
-    prepared = alike.prepared p.node.number ∙ all.0.prepared;
-    is_chain = alike.chains p.chain.number all.0.is_chain;
-  }, nodes_alike ps all.1)
+  nodes_alike (p ∷ ps) all = (
+    record {
+      image = all.0.image;
+      prepared = alike.prepared p.node.number ∙ all.0.prepared;
+      is_chain = alike.chains p.chain.number all.0.is_chain;
+    },
+    nodes_alike ps all.1,
+  )
 
   pub owned_alike : (ps : List PreparedNode) → AreOwned a ps → AreOwned b ps
   owned_alike ps owned = record {

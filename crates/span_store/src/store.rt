@@ -92,9 +92,7 @@ impl Store {
     /// Whether the key of a write is there.
     fn is_there(&self, write: &NearWrite) -> bool {
         let key = write.write.key.as_slice();
-        self.index
-            .chain_at(&self.arena, key, write.near)
-            .is_some()
+        self.index.chain_at(&self.arena, key, write.near).is_some()
     }
 
     /// Whether none of some of the writes, one in a number of them, is of a key that is there.

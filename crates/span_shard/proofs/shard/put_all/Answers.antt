@@ -10,10 +10,10 @@ use Rattle.span_shard.proofs.shard.put_all.Goals as goal
 
 pub loop-write-init : goal.loop-write-init
 loop-write-init c = record {
-    some = record { front = c.args.writes.items; rest = []; whole = append-nil c.args.writes.items; put = c.make_room.ensures };
-    front = refl;
-    order = subst AreInOrder (sym c.make_room.ensures) c.requires.order;
-    used = subst (AllByRecursion IsInUse) (sym c.make_room.ensures) c.requires.used;
+  some = record { front = c.args.writes.items; rest = []; whole = append-nil c.args.writes.items; put = c.make_room.ensures };
+  front = refl;
+  order = subst AreInOrder (sym c.make_room.ensures) c.requires.order;
+  used = subst (AllByRecursion IsInUse) (sym c.make_room.ensures) c.requires.used;
 }
 
 pub loop-write-preserved : goal.loop-write-preserved
