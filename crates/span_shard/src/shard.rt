@@ -212,7 +212,7 @@ fn put_all(store: &mut Store, txn: u64, writes: Vec<NearWrite>) -> Result<(), Re
     ensures refused { IfErr result (ArePutsRefused txn writes.items store.old) }
 {
     let mut left = writes;
-    store.make_room(left.as_slice());
+    store.reserve_numbers(left.as_slice());
     let mut ahead = PutsAhead { left: left.len() };
     while let Some(write) = left.pop() {
         store.put(txn, write)?;

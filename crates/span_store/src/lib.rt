@@ -6,8 +6,8 @@
 
 pub mod chain;
 mod node;
+mod numbers;
 pub mod place;
-mod room;
 mod search;
 pub mod snapshot;
 mod split;

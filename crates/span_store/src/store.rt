@@ -6,7 +6,7 @@ ghost use Rattle.span_store.specs.Versions.{applied_to_key, is_used};
 ghost use Rattle.span_store.specs.KeyLists.{AreInOrder, HaveFallingVersions, IsIdle, IsInUse, IsLaterCommit, IsPutRefused, keys_before, keys_from, with_write, trimmed_key, live};
 
 use super::node::{PreparedNode, end_nodes, prepare_node};
-use super::room::order_by_length;
+use super::numbers::order_by_length;
 use super::search::{slot_near, split_at};
 use super::split::{move_versions, reserve_versions};
 use super::trim::trim_chains;
@@ -117,7 +117,7 @@ impl Store {
 
     /// Before writes are put, from the last on: their rows get numbers by which those of one table mostly lie together in memory. Nothing
     /// is changed that contracts see.
-    pub fn make_room(&mut self, writes: &[NearWrite])
+    pub fn reserve_numbers(&mut self, writes: &[NearWrite])
         ensures { self.new ≡ self.old }
     {
         if !self.are_new(writes) {

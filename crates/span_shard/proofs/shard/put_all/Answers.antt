@@ -10,10 +10,10 @@ use Rattle.span_shard.proofs.shard.put_all.Goals as goal
 
 pub loop-write-init : goal.loop-write-init
 loop-write-init c = record {
-  some = record { front = c.args.writes.items; rest = []; whole = append-nil c.args.writes.items; put = c.make_room.ensures };
+  some = record { front = c.args.writes.items; rest = []; whole = append-nil c.args.writes.items; put = c.reserve_numbers.ensures };
   front = refl;
-  order = subst AreInOrder (sym c.make_room.ensures) c.requires.order;
-  used = subst (AllByRecursion IsInUse) (sym c.make_room.ensures) c.requires.used;
+  order = subst AreInOrder (sym c.reserve_numbers.ensures) c.requires.order;
+  used = subst (AllByRecursion IsInUse) (sym c.reserve_numbers.ensures) c.requires.used;
 }
 
 pub loop-write-preserved : goal.loop-write-preserved
