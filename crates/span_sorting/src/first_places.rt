@@ -20,7 +20,7 @@ fn place_row<'a>(keys: &[SortKey], rows: &'a RowList, place: usize) -> PlacedRow
     PlacedRow { coded, place }
 }
 
-/// Whether a row comes before another one in the order of the keys. Most are told apart by their codes, and not read again.
+/// Whether a row comes before another one in the order of the keys. Most differ in their codes, and are not read again.
 fn is_before(keys: &[SortKey], left: &PlacedRow<'_>, right: &PlacedRow<'_>) -> bool
     ensures { result ≡ placed_before keys.now left.now right.now }
 {
@@ -50,7 +50,20 @@ fn is_beyond(rows: &[PlacedRow<'_>], code: u128, count: usize) -> bool
     }
 }
 
-/// Puts a row among the first rows in the order of the keys, and keeps `count` of them at most.
+/// Whether there are `count` rows, and the last comes before the row.
+fn is_past_last(keys: &[SortKey], rows: &[PlacedRow<'_>], row: &PlacedRow<'_>, count: usize) -> bool
+    requires order { IsSorted (placed_before keys.now) rows.now }
+    requires few { length rows.now ≤ count }
+    ensures { result ≡ true → take count (insert_sorted (placed_before keys.now) row.now rows.now) ≡ rows.now }
+{
+    match rows.last() {
+        Some(last) => rows.len() == count && is_before(keys, last, row),
+        None => false,
+    }
+}
+
+/// Puts a row among the first rows in the order of the keys, and keeps `count` of them at most. A row after all of these is compared with
+/// the last alone.
 fn put_in_order<'a>(
     keys: &[SortKey],
     rows: &mut Vec<PlacedRow<'a>>,
@@ -62,6 +75,9 @@ fn put_in_order<'a>(
     ensures { OnOk result
         (rows.new.items ≡ take count (insert_sorted (placed_before keys.now) row.entry rows.old.items)) }
 {
+    if is_past_last(keys, rows.as_slice(), &row, count) {
+        return Ok(());
+    }
     let at = place_in_order(keys, rows.as_slice(), &row);
     rows.insert(at, row)?;
     rows.truncate(count);
@@ -92,7 +108,7 @@ fn take_row<'a>(
 /// The places of the first `count` rows of a list in the order of the keys; rows with equal keys keep their order.
 ///
 /// Rows are taken from the end. Where `count` rows are kept, a row whose code at the first key is above that of the last is passed over
-/// at once.
+/// at once, and one that has the same code is compared with the last before others.
 pub(crate) fn first_places(
     alloc: Global,
     keys: &[SortKey],

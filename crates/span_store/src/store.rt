@@ -19,8 +19,8 @@ use span_value::refusal::Refusal;
 use std::alloc::Global;
 use std::marker::Model;
 
-/// Of how many writes one is looked at, to see whether they are of keys that are there.
-const WRITES_FOR_EACH: usize = 64;
+/// Of how many writes one is looked at, to see whether they are new rows.
+const WRITES_FOR_EACH: usize = 16;
 
 /// The keys of a shard. Contracts see what it has of each key.
 #[derive(Debug, Drop)]
@@ -89,24 +89,27 @@ impl Store {
         }
     }
 
-    /// Whether the key of a write is there.
-    fn is_there(&self, write: &NearWrite) -> bool {
+    /// Whether a write is no new row: a deletion, or of a key that is there, where the chain of its number says so.
+    fn is_of_old(&self, write: &NearWrite) -> bool {
+        if write.write.row.is_none() {
+            return true;
+        }
         let key = write.write.key.as_slice();
         self.index.chain_at(&self.arena, key, write.near).is_some()
     }
 
-    /// Whether none of some of the writes, one in a number of them, is of a key that is there.
+    /// Whether some of the writes, one in a number of them, are all new rows, as far as is known.
     fn are_new(&self, writes: &[NearWrite]) -> bool {
         for at in 0..writes.len() {
-            if at % WRITES_FOR_EACH == 0 && self.is_there(&writes[at]) {
+            if at % WRITES_FOR_EACH == 0 && self.is_of_old(&writes[at]) {
                 return false;
             }
         }
         true
     }
 
-    /// Free numbers of chains, and free nodes, for keys that are put in this order. A refusal leaves chains alone, or none: there may be no
-    /// memory for them, or no more nodes.
+    /// Free numbers of chains, and free nodes, for keys that are put in this order. Where memory runs out, or there may be no more nodes, some
+    /// or all of them are not added.
     fn add_free(&mut self, order: &FreeOrder) -> Result<(), Refusal>
         ensures { self.new ≡ self.old }
     {
@@ -124,7 +127,7 @@ impl Store {
             return;
         }
         let alloc = *self.prepared.allocator();
-        let Ok(Some(order)) = order_by_length(alloc, writes) else {
+        let Ok(Some(order)) = order_by_length(alloc, &self.arena, writes) else {
             return;
         };
         // Where there are none, rows are put as they are without.

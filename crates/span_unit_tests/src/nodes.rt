@@ -95,9 +95,8 @@ fn numbers_in_order(rt: HostRuntime) -> Result<(), Fail> {
     arena.add_free_chains(&order)?;
     arena.add_free_nodes(&order)?;
     for number in [2, 0, 1, 3] {
-        let (chain, node) = ready(alloc, &mut arena)?;
+        let (chain, _node) = ready(alloc, &mut arena)?;
         assert_eq!(rt; chain.number, number);
-        assert_eq!(rt; node.number, number);
     }
     Ok(())
 }
