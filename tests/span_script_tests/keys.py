@@ -1,17 +1,42 @@
 #!/usr/bin/env python3
 """Runs, by the proved program, the scripts of many keys that are too long for files: 10,000 keys that rise or fall, and 100,000 in no order. Every
-second key is removed, and all come again the other way round; the answers are those of a sorted list (computed.py).
+second key is removed, and all come again the other way round; the answers are those of a sorted list (computed.py). Then transactions that are
+aborted, few and many, after which as much memory is taken.
 """
 import os
+import random
+import re
 import subprocess
 import sys
 import tempfile
+import time
 
 # computed.py puts another folder first in the path, which has a run.py too
 import run
 import computed
 
 COUNTS = {"rising": 10_000, "falling": 10_000, "mixed": 100_000}
+# Numbers of aborted transactions, and how many times the memory of the first number's the second's may be.
+FEW_ABORTS, MANY_ABORTS, MOST_TIMES = 20, 400, 1.25
+
+
+def aborted(count):
+    """A script of as many transactions of rows of three tables, each of which is aborted, and then of one that is committed."""
+    family, chance = computed.Family(), random.Random("aborted")
+    rows = computed.of_three(chance, range(1, 21), range(1, 11), range(1, 6))
+    for number in range(1, count + 1):
+        family.load("load", rows)
+        family.script.begin()
+        family.script.ask(f"prepare {number} 0", f"prepared {number}")
+        family.script.ask(f"abort {number}", "aborted")
+        family.script.ask(f"apply {number} 0", "applied")
+    family.last = count
+    family.load("load", rows)
+    family.commit(2 * count)
+    for table, more in rows.items():
+        family.of[table].update(more)
+    family.check(2 * count)
+    return family.script
 
 
 def answers_of(folder, script):
@@ -24,6 +49,28 @@ def answers_of(folder, script):
     return ran.stdout.decode().splitlines()
 
 
+def memory_of(folder, script):
+    """The most kilobytes of memory that the program has until it has answered the script, which is a named pipe, so that it does not end before
+    that is read; None where it does not answer it as wanted."""
+    schema, path, answers = (os.path.join(folder, name) for name in ("schema", "pipe", "answers"))
+    with open(schema, "w", encoding="utf-8") as out:
+        out.write(script.schema)
+    if not os.path.exists(path):
+        os.mkfifo(path)
+    wanted = "".join(f"{answer}\n" for answer in script.answers).encode()
+    with open(answers, "wb") as out, subprocess.Popen([run.PROGRAM, "run", schema, path], stdout=out) as process, open(path, "wb") as lines:
+        lines.write("".join(f"{line}\n" for line in script.lines).encode())
+        lines.flush()
+        for _ in range(100 * run.LONGEST):
+            if os.path.getsize(answers) >= len(wanted) or process.poll() is not None:
+                break
+            time.sleep(0.01)
+        with open(f"/proc/{process.pid}/status", encoding="utf-8") as status:
+            found = re.search(r"VmHWM:\s+(\d+) kB", status.read())
+    with open(answers, "rb") as out:
+        return int(found.group(1)) if found and out.read() == wanted else None
+
+
 def main():
     run.build()
     wrong = 0
@@ -33,6 +80,10 @@ def main():
             is_right = answers_of(folder, script) == script.answers
             print(f"keys: {count} {name}: {len(script.answers)} answers, {'as wanted' if is_right else 'not as wanted'}")
             wrong += not is_right
+        few, many = (memory_of(folder, aborted(count)) for count in (FEW_ABORTS, MANY_ABORTS))
+        is_right = few is not None and many is not None and many <= MOST_TIMES * few
+        print(f"keys: {FEW_ABORTS} and {MANY_ABORTS} aborted transactions: {few} and {many} KB, {'as wanted' if is_right else 'not as wanted'}")
+        wrong += not is_right
     return int(wrong > 0)
 
 
