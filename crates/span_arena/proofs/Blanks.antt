@@ -1,6 +1,6 @@
 -- Lists that are one value again and again at their end.
-use Rattle.std.proofs.Common.{◌≡◌, ℕ, zero, suc, List, [], ◌∷◌, ◌++◌, refl, sym, ◌∙◌, ap, map, get_or, replicate}
-use Rattle.std.proofs.lemmas.List.{map-append}
+use Rattle.std.proofs.Common.{◌≡◌, ℕ, zero, suc, ◌+◌, ◌-◌, List, [], ◌∷◌, ◌++◌, refl, sym, ◌∙◌, ap, arith, length, map, take, take_all, get_or, replicate}
+use Rattle.std.proofs.lemmas.List.{length-map, map-append}
 use Rattle.span_arena.specs.declared.cell.Cell.{Cell}
 use Rattle.span_arena.specs.Cells.{blank, kept_length}
 
@@ -19,6 +19,11 @@ read_more [] n i x = read_replicate n i x
 read_more (y ∷ xs) n zero x = refl
 read_more (y ∷ xs) n (suc i) x = read_more xs n i x
 
--- the lengths of the keys of further cells, which are blank
-pub lengths_more : (cs ds : List Cell) (ls ms : List ℕ) (n : ℕ) → ls ≡ map kept_length cs → ms ≡ replicate n 0 → ds ≡ replicate n blank → ls ++ ms ≡ map kept_length (cs ++ ds)
-lengths_more cs ds ls ms n are zeros blanks = rw (are, zeros, blanks) (sym (map-append kept_length cs (replicate n blank) ∙ ap (λ l. map kept_length cs ++ l) (map_replicate kept_length n blank)))
+-- the lengths of the keys of further cells, which are blank, after those that are kept
+pub lengths_more : (cs : List Cell) (kept : List ℕ) (n len long : ℕ) → kept ≡ map kept_length cs → len ≡ length cs → long ≡ length kept
+    → take (len + n) kept ++ replicate (len + n - long) 0 ≡ map kept_length (cs ++ replicate n blank)
+lengths_more cs kept n len long are is also =
+    let same : length kept ≡ length cs = ap length are ∙ length-map cs kept_length in
+    let all : take (len + n) kept ≡ kept = take_all (len + n) kept (omega (arith, is, same)) in
+    let more : len + n - long ≡ n = omega (arith, is, also, same) in
+    rw (all, more, are) (sym (map-append kept_length cs (replicate n blank) ∙ ap (λ l. map kept_length cs ++ l) (map_replicate kept_length n blank)))

@@ -1,5 +1,5 @@
 -- The order in which new free numbers are handed out.
-use Rattle.std.specs.Prelude.{◌≡◌, ℕ, ◌+◌, ◌-◌, ◌<◌, List, [], length, map, get_or, slice_index_or, false}
+use Rattle.std.specs.Prelude.{◌≡◌, ℕ, ◌+◌, ◌-◌, ◌<◌, ◌++◌, List, [], length, map, get_or, slice_index_or, false}
 use Rattle.span_arena.specs.declared.record.ChainRecord.{ChainRecord}
 use Rattle.span_arena.specs.declared.record.ChainRecord.TheVariants as chain
 use Rattle.span_arena.specs.declared.record.NodeRecord.{NodeRecord}
@@ -44,3 +44,14 @@ pub record AreFreeNodes (base : ℕ) (numbers : List ℕ) (last count : ℕ) (re
   pub places : List ℕ
   pub inverse : AreInverse numbers places
   pub are : records ≡ map (free_node base numbers last count) places
+
+-- these records are after those of others, whose numbers end where theirs begin
+pub record HasFreeChains (numbers : List ℕ) (last count : ℕ) (old new : List ChainRecord) : Type 0 where
+  pub records : List ChainRecord
+  pub free : AreFreeChains (length old) numbers last count records
+  pub after : new ≡ old ++ records
+
+pub record HasFreeNodes (numbers : List ℕ) (last count : ℕ) (old new : List NodeRecord) : Type 0 where
+  pub records : List NodeRecord
+  pub free : AreFreeNodes (length old) numbers last count records
+  pub after : new ≡ old ++ records

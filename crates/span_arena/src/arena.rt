@@ -11,7 +11,7 @@ ghost use Rattle.span_arena.specs.Content.{Content, versions, prepared_at, IsCha
 use crate::cell::{Cell, Links};
 use crate::cells::Cells;
 use crate::cut::cut;
-use crate::free_order::{FreeOrder, free_chains, free_nodes};
+use crate::free_order::{FreeOrder, put_free_chains, put_free_nodes};
 use crate::record::{ChainRecord, NodeRecord, NodeUse, VersionLinks, join_image, split_image};
 use crate::steps::Steps;
 use crate::token::{Chain, Node};
@@ -237,17 +237,13 @@ impl Arena {
         ensures err { OnErr result (self.new ≡ self.old) }
         ensures memory { IfErr result (λ why. why ≡ Refusal.OutOfMemory) }
     {
-        let alloc = self.cells.allocator();
         let (base, count) = (self.chains.len(), order.len());
         if count > MOST_CHAINS - base {
             return Err(Refusal::OutOfMemory);
         }
-        let mut more = free_chains(alloc, order, base as u32, self.spare, self.spare_count)?;
         self.chains.reserve(count)?;
         self.cells.add_blanks(count)?;
-        let Ok(()) = self.chains.append(&mut more) else {
-            unreachable!()
-        };
+        put_free_chains(&mut self.chains, order, self.spare, self.spare_count);
         self.spare = order.number_at(base as u32, self.spare, 0);
         self.spare_count += count as u32;
         Ok(())
@@ -259,13 +255,12 @@ impl Arena {
         ensures ok { OnOk result (self.new ≡ with_free_nodes (length order.now) self.old) }
         ensures err { OnErr result (self.new ≡ self.old) }
     {
-        let alloc = *self.nodes.allocator();
         let (base, count) = (self.nodes.len(), order.len());
         if count > self.most as usize - base {
             return Err(Refusal::ShardFull);
         }
-        let mut more = free_nodes(alloc, order, base as u32, self.free, self.free_count)?;
-        self.nodes.append(&mut more)?;
+        self.nodes.reserve(count)?;
+        put_free_nodes(&mut self.nodes, order, self.free, self.free_count);
         self.free = order.number_at(base as u32, self.free, 0);
         self.free_count += count as u32;
         Ok(())

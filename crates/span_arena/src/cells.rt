@@ -1,5 +1,5 @@
 //! The keys of all chains, each with its links in the tree of keys and, apart from it, its length.
-ghost use Rattle.std.specs.Prelude.{◌≡◌, ◌<◌, ◌++◌, [], ◌∷◌, length, map, nat_le, replicate, slice_set, IfOk, OnErr, OnOk};
+ghost use Rattle.std.specs.Prelude.{◌≡◌, ◌<◌, ◌≤◌, ◌+◌, ◌++◌, [], ◌∷◌, length, map, nat_le, replicate, slice_set, vec_len, vec_capacity, OnErr, OnOk};
 ghost use Rattle.span_arena.specs.Cells.{blank, cell_at, kept_length, with_links};
 
 use crate::cell::{Cell, Links, StoredLinks};
@@ -169,30 +169,27 @@ impl Cells {
         self.cells.push_reserved(cell);
         Ok(())
     }
+
     /// Cells of no chain after the others. An `AllocError` leaves all as it was.
     pub(crate) fn add_blanks(&mut self, count: usize) -> Result<(), AllocError>
         ensures ok { OnOk result (self.new ≡ self.old ++ replicate count blank) }
         ensures err { OnErr result (self.new ≡ self.old) }
     {
-        let alloc = self.allocator();
-        let mut cells = blanks(alloc, count)?;
-        let mut lengths = Vec::from_elem(alloc, 0, count)?;
+        let len = self.cells.len();
         self.cells.reserve(count)?;
-        self.lengths.append(&mut lengths)?;
-        let Ok(()) = self.cells.append(&mut cells) else {
-            unreachable!()
-        };
+        self.lengths.resize(len + count, 0)?;
+        put_blanks(&mut self.cells, count);
         Ok(())
     }
 }
 
-// Cells of no chain.
-fn blanks(alloc: Global, count: usize) -> Result<Vec<Cell>, AllocError>
-    ensures { IfOk result (λ cells. cells.items ≡ replicate count blank) }
+// Puts cells of no chain after others, for which capacity is reserved.
+fn put_blanks(cells: &mut Vec<Cell>, count: usize)
+    requires { vec_len cells.old + count ≤ vec_capacity cells.old }
+    ensures { cells.new.items ≡ cells.old.items ++ replicate count blank }
 {
-    let mut cells = Vec::with_capacity(alloc, count)?;
-    for _at in 0..count {
-        cells.push(Cell::blank(alloc))?;
+    let alloc = *cells.allocator();
+    for _ in 0..count {
+        cells.push_reserved(Cell::blank(alloc));
     }
-    Ok(cells)
 }

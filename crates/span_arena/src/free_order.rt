@@ -2,12 +2,11 @@
 //!
 //! A free list hands its numbers out in the order of its links. So rows that are written in the order of their keys may still have the
 //! numbers of their tables' other rows beside their own.
-ghost use Rattle.std.specs.Prelude.{◌≡◌, ◌<◌, ◌≤◌, ◌+◌, ◌^◌, IfOk, IfSome, get_or, length, map, true};
-ghost use Rattle.span_arena.specs.FreeOrders.{number_at, AreFreeChains, AreFreeNodes, AreInverse, IsPlaceOf};
+ghost use Rattle.std.specs.Prelude.{◌≡◌, ◌<◌, ◌≤◌, ◌+◌, ◌^◌, IfSome, get_or, length, map, true, vec_len, vec_capacity};
+ghost use Rattle.span_arena.specs.FreeOrders.{number_at, AreInverse, HasFreeChains, HasFreeNodes, IsPlaceOf};
 
 use crate::record::{ChainRecord, NodeRecord, NodeUse};
 use span_value::seq::Seq;
-use std::alloc::{AllocError, Global};
 use std::marker::Model;
 
 /// The order in which new free numbers are handed out. Contracts see them in this order, counted from the first of them.
@@ -102,53 +101,45 @@ impl FreeOrder {
     }
 }
 
-/// The records of new free chains, by their numbers: the first is `base`, and after the last comes the one that is the first of `count` free
-/// ones. The error is out of memory.
-pub(crate) fn free_chains(
-    alloc: Global,
+/// Puts the records of new free chains after those of others, in the order of their numbers: the first has the number of the others. After the
+/// last of the order comes `last`, the first of `count` free ones. Capacity is reserved for them, so that it takes no memory.
+pub(crate) fn put_free_chains(
+    chains: &mut Vec<ChainRecord>,
     order: &FreeOrder,
-    base: u32,
     last: u32,
     count: u32,
-) -> Result<Vec<ChainRecord>, AllocError>
-    requires base { base + length order.now < 2 ^ 32 }
+)
+    requires numbers { length chains.old.items + length order.now < 2 ^ 32 }
     requires count { count + length order.now < 2 ^ 32 }
-    ensures { IfOk result (λ records. AreFreeChains base order.now last count records.items) }
+    requires capacity { vec_len chains.old + length order.now ≤ vec_capacity chains.old }
+    ensures { HasFreeChains order.now last count chains.old.items chains.new.items }
 {
-    let len = order.len();
-    let mut records = Vec::with_capacity(alloc, len)?;
+    let (base, len) = (chains.len() as u32, order.len());
     for place in order.places() {
         let next = order.number_at(base, last, *place as usize + 1);
         let left = (len - *place as usize) as u32;
-        records.push(ChainRecord::Free(next, count + left))?;
+        chains.push_reserved(ChainRecord::Free(next, count + left));
     }
-    Ok(records)
 }
 
 /// The same of new free nodes.
-pub(crate) fn free_nodes(
-    alloc: Global,
-    order: &FreeOrder,
-    base: u32,
-    last: u32,
-    count: u32,
-) -> Result<Vec<NodeRecord>, AllocError>
-    requires base { base + length order.now < 2 ^ 32 }
+pub(crate) fn put_free_nodes(nodes: &mut Vec<NodeRecord>, order: &FreeOrder, last: u32, count: u32)
+    requires numbers { length nodes.old.items + length order.now < 2 ^ 32 }
     requires count { count + length order.now < 2 ^ 32 }
-    ensures { IfOk result (λ records. AreFreeNodes base order.now last count records.items) }
+    requires capacity { vec_len nodes.old + length order.now ≤ vec_capacity nodes.old }
+    ensures { HasFreeNodes order.now last count nodes.old.items nodes.new.items }
 {
-    let len = order.len();
-    let mut records = Vec::with_capacity(alloc, len)?;
+    let alloc = *nodes.allocator();
+    let (base, len) = (nodes.len() as u32, order.len());
     for place in order.places() {
         let next = order.number_at(base, last, *place as usize + 1);
         let left = (len - *place as usize) as u32;
-        records.push(NodeRecord {
+        nodes.push_reserved(NodeRecord {
             used: NodeUse::Free(count + left),
             next,
             has_image: false,
             timestamp: 0,
             image: Seq::new(alloc),
-        })?;
+        });
     }
-    Ok(records)
 }

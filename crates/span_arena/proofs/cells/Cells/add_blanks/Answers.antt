@@ -1,6 +1,8 @@
+use Rattle.std.proofs.Common.{◌∙◌}
 use Rattle.span_arena.proofs.Blanks.{lengths_more}
 use Rattle.span_arena.proofs.cells.Cells.add_blanks.Goals as goal
 
 pub invariant_of-self-2 : goal.invariant_of-self-2
-invariant_of-self-2 c = rw (c.in-Ok.ensures.items, c.in_ok-append.ensures.items, c.reserve.ensures.items)
-    (lengths_more c.self.inside.cells.items c.in_ok-cells.cells.items c.self.inside.lengths.items c.in_ok-lengths.lengths.items c.args.count c.self.invariant (c.in_ok-lengths.ensures.items_if_clones_equal (λ x e. e)) c.in_ok-cells.ensures)
+invariant_of-self-2 c =
+    let i = c.self.inside in
+    rw (c.put_blanks.ensures, c.reserve.ensures.items) (c.in_ok-resize.ensures.items ∙ lengths_more i.cells.items i.lengths.items c.args.count c.len-len.result _ c.self.invariant (c.len-len.ensures ∙ i.cells.ok.0) i.lengths.ok.0)
