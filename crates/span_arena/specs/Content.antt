@@ -180,6 +180,11 @@ abbrev pub IsRefusedRoom : Content → Refusal → Type 0
 IsRefusedRoom c why =
     ((why ≡ ShardFull) × (length c.prepared ≡ c.most)) ⊎ ((why ≡ OutOfMemory) × (length c.prepared < c.most))
 
+-- there would be more nodes than may be in use; or there may be as many, and memory ran out
+abbrev pub AreRefusedNodes : Content → ℕ → Refusal → Type 0
+AreRefusedNodes c n why =
+    ((why ≡ ShardFull) × (c.most < length c.prepared + n)) ⊎ ((why ≡ OutOfMemory) × (length c.prepared + n ≤ c.most))
+
 -- the version was the newest of its chain, which has the others now; its node is free
 pub record IsTakenFrom (old new : Content) (chain : ℕ) (v : ArenaVersion) : Type 0 where
   pub rest : List ArenaVersion

@@ -6,7 +6,7 @@ ghost use Rattle.span_arena.specs.Cells.{cell_at, is_past, kept_length, new_cell
 ghost use Rattle.span_arena.specs.Limits.{most_chains, most_nodes};
 ghost use Rattle.span_arena.specs.declared.arena.TheConstants.{MOST_CHAINS, MOST_NODES};
 ghost use Rattle.span_arena.specs.Order.{IsNewestUpto, IsLaterFor, AreInTimeOrder};
-ghost use Rattle.span_arena.specs.Content.{Content, versions, prepared_at, IsChain, AreAllChains, IsInOrder, is_unused, prepared_for, live, newest_upto, IsPrepared, linked, given_back, trimmed, cleared, kept_by, with_at, with_cells, with_free_chains, with_free_nodes, with_kept, without_chain, IsNewChain, IsReserved, IsRefusedNode, IsRefusedRoom, IsTakenFrom, with_free_node, with_versions};
+ghost use Rattle.span_arena.specs.Content.{Content, versions, prepared_at, IsChain, AreAllChains, IsInOrder, is_unused, prepared_for, live, newest_upto, IsPrepared, linked, given_back, trimmed, cleared, kept_by, with_at, with_cells, with_free_chains, with_free_nodes, with_kept, without_chain, IsNewChain, IsReserved, IsRefusedNode, IsRefusedRoom, AreRefusedNodes, IsTakenFrom, with_free_node, with_versions};
 
 use crate::cell::{Cell, Links};
 use crate::cells::Cells;
@@ -254,6 +254,7 @@ impl Arena {
     pub fn add_free_nodes(&mut self, order: &FreeOrder) -> Result<(), Refusal>
         ensures ok { OnOk result (self.new ≡ with_free_nodes (length order.now) self.old) }
         ensures err { OnErr result (self.new ≡ self.old) }
+        ensures refused { IfErr result (λ why. AreRefusedNodes self.old (length order.now) why) }
     {
         let (base, count) = (self.nodes.len(), order.len());
         if count > self.most as usize - base {

@@ -117,6 +117,8 @@ impl KeyIndex {
         requires { IsIndexOf self.old arena.old }
         ensures arena { OnOk result (arena.new ≡ with_free_chains (length order.now) arena.old) }
         ensures err { OnErr result (arena.new ≡ arena.old) }
+        ensures index { OnErr result (self.new ≡ self.old) }
+        ensures memory { IfErr result (λ why. why ≡ Refusal.OutOfMemory) }
         ensures own { IsIndexOf self.new arena.new }
         ensures entries { entries_of self.new arena.new ≡ entries_of self.old arena.old }
     {
