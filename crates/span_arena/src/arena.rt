@@ -13,6 +13,7 @@ use crate::cells::Cells;
 use crate::cut::cut;
 use crate::free_order::{FreeOrder, put_free_chains, put_free_nodes};
 use crate::record::{ChainRecord, NodeRecord, NodeUse, VersionLinks, join_image, split_image};
+use crate::reserve::reserve_more;
 use crate::steps::Steps;
 use crate::token::{Chain, Node};
 use crate::version::{ArenaVersion, LentVersion};
@@ -241,7 +242,7 @@ impl Arena {
         if count > MOST_CHAINS - base {
             return Err(Refusal::OutOfMemory);
         }
-        self.chains.reserve(count)?;
+        reserve_more(&mut self.chains, count)?;
         self.cells.add_blanks(count)?;
         put_free_chains(&mut self.chains, order, self.spare, self.spare_count);
         self.spare = order.number_at(base as u32, self.spare, 0);
@@ -260,7 +261,7 @@ impl Arena {
         if count > self.most as usize - base {
             return Err(Refusal::ShardFull);
         }
-        self.nodes.reserve(count)?;
+        reserve_more(&mut self.nodes, count)?;
         put_free_nodes(&mut self.nodes, order, self.free, self.free_count);
         self.free = order.number_at(base as u32, self.free, 0);
         self.free_count += count as u32;

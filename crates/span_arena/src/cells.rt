@@ -3,6 +3,7 @@ ghost use Rattle.std.specs.Prelude.{◌≡◌, ◌<◌, ◌≤◌, ◌+◌, ◌+
 ghost use Rattle.span_arena.specs.Cells.{blank, cell_at, kept_length, with_links};
 
 use crate::cell::{Cell, Links, StoredLinks};
+use crate::reserve::reserve_more;
 use crate::token::NO_CHAIN;
 use std::alloc::{AllocError, Global};
 use std::marker::Model;
@@ -176,7 +177,8 @@ impl Cells {
         ensures err { OnErr result (self.new ≡ self.old) }
     {
         let len = self.cells.len();
-        self.cells.reserve(count)?;
+        reserve_more(&mut self.cells, count)?;
+        reserve_more(&mut self.lengths, count)?;
         self.lengths.resize(len + count, 0)?;
         put_blanks(&mut self.cells, count);
         Ok(())

@@ -11,6 +11,7 @@ mod cells;
 mod cut;
 pub mod free_order;
 mod record;
+mod reserve;
 pub mod steps;
 pub mod token;
 pub mod version;

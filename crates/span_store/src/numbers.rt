@@ -28,53 +28,82 @@ const NUMBERS_SEEN: usize = 32;
 /// One in this many, or more, of the numbers that were added last are free where those of a transaction before were not used.
 const UNUSED: usize = 4;
 
-/// How many writes there are with keys of each length. None where a key is too long.
-fn count_lengths(writes: &[NearWrite]) -> Option<[u32; LENGTHS]> {
-    let mut counts: [u32; LENGTHS] = [0; LENGTHS];
-    for write in writes {
-        let len = write.write.key.as_slice().len();
+/// What is seen of keys one after another.
+#[derive(Drop)]
+struct SeenKeys {
+    /// How many there are of each length.
+    counts: [u32; LENGTHS],
+    lengths: usize,
+    /// How many of those that are longer than the key before them begin with it, as keys of rows begin with those of the rows above them.
+    begin: usize,
+    others: usize,
+}
+
+impl SeenKeys {
+    /// No key.
+    fn new() -> SeenKeys {
+        SeenKeys {
+            counts: [0; LENGTHS],
+            lengths: 0,
+            begin: 0,
+            others: 0,
+        }
+    }
+
+    /// Counts a key by its length. FALSE where it is too long, or has one length too many.
+    fn count(&mut self, len: usize) -> bool {
         if len >= LENGTHS {
+            return false;
+        }
+        if self.counts[len] == 0 {
+            self.lengths = self.lengths.wrapping_add(1);
+        }
+        self.counts[len] = self.counts[len].wrapping_add(1);
+        self.lengths <= MOST_LENGTHS
+    }
+
+    /// Compares a key with the one before it.
+    fn compare(&mut self, before: &[u8], key: &[u8]) {
+        if key.len() <= before.len() {
+            return;
+        }
+        let begins = key.starts_with(before);
+        self.begin = self.begin.wrapping_add(begins as usize);
+        self.others = self.others.wrapping_add(!begins as usize);
+    }
+
+    /// The first number for the keys of each length. None where there are fewer than two lengths, or where most keys that are longer than the
+    /// one before them do not begin with it.
+    fn first_numbers(&self) -> Option<[u32; LENGTHS]> {
+        if self.lengths < 2 || self.begin <= self.others {
             return None;
         }
-        counts[len] = counts[len].wrapping_add(1);
-    }
-    Some(counts)
-}
-
-/// The first number for the keys of each length. None where there are fewer than two lengths, or too many.
-fn first_numbers(counts: &[u32; LENGTHS]) -> Option<[u32; LENGTHS]> {
-    let mut firsts: [u32; LENGTHS] = [0; LENGTHS];
-    let mut lengths: usize = 0;
-    let mut next: u32 = 0;
-    for len in 0..LENGTHS {
-        firsts[len] = next;
-        next = next.wrapping_add(counts[len]);
-        if counts[len] > 0 {
-            lengths = lengths.wrapping_add(1);
+        let mut firsts: [u32; LENGTHS] = [0; LENGTHS];
+        let mut next: u32 = 0;
+        for len in 0..LENGTHS {
+            firsts[len] = next;
+            next = next.wrapping_add(self.counts[len]);
         }
+        Some(firsts)
     }
-    if lengths < 2 || lengths > MOST_LENGTHS {
-        return None;
-    }
-    Some(firsts)
 }
 
-/// Whether most keys that are longer than the one before them begin with it, as keys of rows begin with those of the rows above them. The
-/// last write has the first key.
-fn are_of_families(writes: &[NearWrite]) -> bool {
-    let mut begin: usize = 0;
-    let mut others: usize = 0;
-    for at in 1..writes.len() {
-        let (write, earlier) = (&writes[at - 1], &writes[at]);
+/// What is seen of the keys of writes, in one pass over them: the last write has the first key. None where a key is too long, or there are too
+/// many lengths.
+fn see_keys(writes: &[NearWrite]) -> Option<SeenKeys> {
+    let mut seen = SeenKeys::new();
+    for at in 0..writes.len() {
+        let write = &writes[at];
         let key = write.write.key.as_slice();
-        let before = earlier.write.key.as_slice();
-        if key.len() > before.len() {
-            let begins = key.starts_with(before);
-            begin = begin.wrapping_add(begins as usize);
-            others = others.wrapping_add(!begins as usize);
+        if !seen.count(key.len()) {
+            return None;
+        }
+        if at + 1 < writes.len() {
+            let earlier = &writes[at + 1];
+            seen.compare(earlier.write.key.as_slice(), key);
         }
     }
-    begin > others
+    Some(seen)
 }
 
 /// How many of some numbers up to the last, at equal distances, are those of no chain.
@@ -144,14 +173,11 @@ pub(crate) fn order_by_length(
     if writes.len() < LEAST_WRITES || are_enough_free(arena, writes.len()) {
         return Ok(None);
     }
-    let Some(counts) = count_lengths(writes) else {
+    let Some(seen) = see_keys(writes) else {
         return Ok(None);
     };
-    let Some(firsts) = first_numbers(&counts) else {
+    let Some(firsts) = seen.first_numbers() else {
         return Ok(None);
     };
-    if !are_of_families(writes) {
-        return Ok(None);
-    }
     number_writes(alloc, writes, &firsts)
 }

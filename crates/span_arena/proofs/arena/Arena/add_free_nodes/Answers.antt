@@ -12,8 +12,8 @@ invariant_of-self-2 c =
     let put = c.put_free_nodes.ensures in
     let ms = put.records in
     let base : c.len-base.result ≡ length i.nodes.items = omega (arith, c.len-base.ensures, i.nodes.ok) in
-    let new : AreFreeNodes (length i.nodes.items) order i.free i.free_count ms = subst (λ (l : List NodeRecord). AreFreeNodes (length l) order i.free i.free_count ms) c.reserve.ensures.items put.free in
-    let after : c.put_free_nodes.new.nodes.items ≡ i.nodes.items ++ ms = put.after ∙ ap (λ (l : List NodeRecord). l ++ ms) c.reserve.ensures.items in
+    let new : AreFreeNodes (length i.nodes.items) order i.free i.free_count ms = subst (λ (l : List NodeRecord). AreFreeNodes (length l) order i.free i.free_count ms) c.reserve_more.ensures.items put.free in
+    let after : c.put_free_nodes.new.nodes.items ≡ i.nodes.items ++ ms = put.after ∙ ap (λ (l : List NodeRecord). l ++ ms) c.reserve_more.ensures.items in
     let fits : length i.nodes.items + length order ≤ i.most = omega (arith, c.if-count-self.false, base, c.len-count.ensures, c.self.invariant.sound.bounded) in
     rw (after, c.number_at-self-inside.ensures, base, c.len-count.ensures) (record {
       sound = sound_nodes i.nodes.items order i.free i.free_count ms new i.chains.items i.most fits c.self.invariant.sound;
@@ -30,7 +30,7 @@ returns-clause-ok c =
     let put = c.put_free_nodes.ensures in
     let ms = put.records in
     let base : c.len-base.result ≡ length i.nodes.items = omega (arith, c.len-base.ensures, i.nodes.ok) in
-    let new : AreFreeNodes (length i.nodes.items) order i.free i.free_count ms = subst (λ (l : List NodeRecord). AreFreeNodes (length l) order i.free i.free_count ms) c.reserve.ensures.items put.free in
-    let after : c.put_free_nodes.new.nodes.items ≡ i.nodes.items ++ ms = put.after ∙ ap (λ (l : List NodeRecord). l ++ ms) c.reserve.ensures.items in
+    let new : AreFreeNodes (length i.nodes.items) order i.free i.free_count ms = subst (λ (l : List NodeRecord). AreFreeNodes (length l) order i.free i.free_count ms) c.reserve_more.ensures.items put.free in
+    let after : c.put_free_nodes.new.nodes.items ≡ i.nodes.items ++ ms = put.after ∙ ap (λ (l : List NodeRecord). l ++ ms) c.reserve_more.ensures.items in
     rw (← c.self.view_is, after, c.len-count.ensures)
     (content_nodes i.nodes.items order i.free i.free_count ms new i.chains.items i.most i.cells i.free c.self.invariant.sound)
