@@ -3,7 +3,7 @@ ghost use Rattle.std.specs.Prelude.{◌≡◌, ◌-◌, take, drop, IfOk};
 ghost use Rattle.span_grammar.specs.Contexts.{context_word, matching_word};
 ghost use Rattle.span_grammar.specs.Classes as spec;
 
-use super::class::{CONTEXTS, Class, Context, Lexeme};
+use super::class::{Class, Context, Lexeme, words_with};
 use span_lexer::token::{Sign, Token, TokenKind};
 use std::alloc::{AllocError, Global};
 
@@ -78,9 +78,19 @@ fn is_star(kind: TokenKind) -> bool
 fn name_class(bytes: &[u8]) -> Class
     ensures { result ≡ spec.name_class (context_word bytes.now) }
 {
-    match matching_word(&CONTEXTS, bytes) {
+    match context_word(bytes) {
         Some(word) => Class::Context(word),
         None => Class::Name,
+    }
+}
+
+/// The word of the grammar that the bytes spell in any case, if they spell one.
+fn context_word(bytes: &[u8]) -> Option<Context>
+    ensures { result ≡ context_word bytes.now }
+{
+    match bytes.split_first() {
+        Some((first, _)) => matching_word(words_with(first.to_ascii_lowercase()), bytes),
+        None => None,
     }
 }
 
