@@ -11,7 +11,7 @@ use std::alloc::{AllocError, Global};
 pub fn lexemes(alloc: Global, text: &[u8], tokens: &[Token]) -> Result<Vec<Lexeme>, AllocError>
     ensures { IfOk result (λ found. found.items ≡ spec.lexemes_of text.now tokens.now) }
 {
-    let mut found = Vec::new(alloc);
+    let mut found = Vec::with_capacity(alloc, tokens.len())?;
     let mut rest = tokens;
     while let Some((token, tail)) = rest.split_first() {
         let class = class_at(text, token, tail);
