@@ -108,9 +108,9 @@ class Tables:
 # ---- src
 
 def by_letter(words):
-    """The words by their first letters in lower case, in their order."""
+    """The words as Rust by their first letters in lower case, in their order."""
     letters = dict.fromkeys(word[0].lower() for word in words)
-    return [(letter, [word for word in words if word[0].lower() == letter]) for letter in letters]
+    return [(letter, [f"Context::{word}" for word in words if word[0].lower() == letter]) for letter in letters]
 
 
 def class_rt(t):
@@ -146,7 +146,7 @@ pub(crate) fn words_with(letter: u8) -> &'static [Context]
     ensures { result.now ≡ words_with letter contexts.context_words }
 {
     match letter {
-""" + lines(f"        b'{letter}' => &[{', '.join(f'Context::{word}' for word in words)}]," for letter, words in by_letter(contexts)) + """        _ => &[],
+""" + lines(f"        b'{letter}' => &[{', '.join(words)}]," for letter, words in by_letter(contexts)) + """        _ => &[],
     }
 }
 
@@ -378,8 +378,9 @@ use Rattle.span_grammar.specs.Rules.{is_class, first, of_class}
 use Rattle.span_grammar.specs.Grammar.{rule_of}
 """, """unfoldable pub begins_with : Part → Class → Bool
 begins_with (part.Token s) c = is_class s c
-""" + lines(f"begins_with part.{part.name} c = {begun_test(t, part.name)}" for part in t.begun()) + """begins_with p c = first (rule_of p) (of_class c)
-""")
+""" + lines(
+        f"begins_with part.{part.name} c = {begun_test(t, part.name)}" for part in t.begun()
+    ) + "begins_with p c = first (rule_of p) (of_class c)\n")
 
 
 def begun_test(t, name):
@@ -639,17 +640,21 @@ def begun_antt(t):
         words = [f"(first {t.rule(a)} (of_class c))", f"(first {t.rule(b)} (of_class c))"]
         return " ".join(words[:1] + ([f"(is_nullable {t.rule(a)})"] if part.shape == "Then" else []) + words[1:])
 
-    return module("The parts begin with what is written down.", imports_of_trees(t).replace("use Rattle.span_grammar.proofs.Sound.{Has, Ends}", f"""
+    def answer(part):
+        return f"sym ({snake(part.name)}_begun c)" if t.is_begun(part.name) else "refl"
+
+    return module("The parts begin with what is written down.", imports_of_trees(t) + f"""
 use Rattle.span_grammar.specs.Rules.{{first}}
 use Rattle.span_grammar.specs.Beginnings.{{begins_with}}
 use Rattle.std.proofs.Common.{{sym}}
 use Rattle.span_grammar.proofs.Nothings.{{{t.all_called('nothing')}}}
-"""), BEGINNING + lines(f"""{snake(part.name)}_begun : (c : Class) → first {t.rule(part.name)} (of_class c) ≡ ({begun_test(t, part.name)})
+""", BEGINNING + lines(f"""{snake(part.name)}_begun : (c : Class) → first {t.rule(part.name)} (of_class c) ≡ ({begun_test(t, part.name)})
 unfolding {t.rule(part.name)}
-{snake(part.name)}_begun c = {proof(part)}""" for part in t.order if part.name in needed) + """pub begins_as : (p : Part) (c : Class) → begins_with p c ≡ first (rule_of p) (of_class c)
+{snake(part.name)}_begun c = {proof(part)}""" for part in t.order if part.name in needed) + """
+pub begins_as : (p : Part) (c : Class) → begins_with p c ≡ first (rule_of p) (of_class c)
 unfolding begins_with rule_of
 begins_as (part.Token s) c = refl
-""" + lines(f"begins_as part.{part.name} c = " + (f"sym ({snake(part.name)}_begun c)" if t.is_begun(part.name) else "refl") for part in t.order))
+""" + lines(f"begins_as part.{part.name} c = {answer(part)}" for part in t.order))
 
 
 BEGINNING = """either : (x y : Bool) {v w : Bool} → x ≡ v → y ≡ w → (x || y) ≡ (v || w)
@@ -884,7 +889,8 @@ no_word_empty (b ∷ bs) e = absurd (omega (arith, e))
 
 FILES = {
     "src/class.rt": class_rt, "src/grammar.rt": grammar_rt, "src/beginning.rt": beginning_rt,
-    "specs/Grammar.antt": grammar_antt, "specs/Shapes.antt": shapes_antt, "specs/Contexts.antt": contexts_antt, "specs/Beginnings.antt": beginnings_antt,
+    "specs/Grammar.antt": grammar_antt, "specs/Shapes.antt": shapes_antt, "specs/Contexts.antt": contexts_antt,
+    "specs/Beginnings.antt": beginnings_antt,
     "proofs/Shaped.antt": shaped_antt, "proofs/Having.antt": having_antt, "proofs/Ending.antt": ending_antt,
     "proofs/Nothings.antt": nothings_antt, "proofs/Ranks.antt": ranks_antt, "proofs/Tables.antt": tables_antt,
     "proofs/Firsts.antt": firsts_antt, "proofs/Goings.antt": goings_antt, "proofs/Facts.antt": facts_antt,
