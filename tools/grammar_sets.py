@@ -74,6 +74,15 @@ class Sets:
             operands = operands[:1]
         return frozenset().union(*map(self.first, operands))
 
+    def first_sorts(self, name):
+        """The sorts of tokens with which a part begins, as they are come upon."""
+        shape, operands = self.grammar.shape(name)
+        if shape in ("One", "Open"):
+            return operands[:1]
+        if shape == "Then" and not self.may_be_nothing(operands[0]):
+            operands = operands[:1]
+        return tuple(sort for operand in operands for sort in self.first_sorts(operand))
+
     def goes_on(self, name):
         """The classes of tokens with which a tree of a part may go on where it could end."""
         if name not in self.going:

@@ -17,6 +17,10 @@ from grammar import snake, sort_term
 from grammar_sets import Sets
 
 
+# Parts that begin with tokens of several sorts, and that readers ask for again and again.
+ASKED = ("TermMore", "SumMore", "Compared", "MaybeNotTest", "Expression", "List", "Join")
+
+
 # ---- how parts and sorts of tokens are written
 
 def rust_sort(sort):
@@ -88,12 +92,26 @@ class Tables:
         head, *operands = self.shape(part, "Shape::", self.rust_part, rust_sort, "Place::")
         return f"{head}({', '.join(operands)})" if operands else head
 
+    def is_begun(self, name):
+        """Whether what a part begins with is written down: tokens of one sort, or of those that are asked for."""
+        return len(self.sets.first_sorts(name)) < 2 or name in ASKED
+
+    def begun(self):
+        """The parts of which it is written down what they begin with."""
+        return [part for part in self.parts if self.is_begun(part.name)]
+
     def lemma(self, name, ending):
         """What is called as a part, and of a token the same of the sort: of every part there is one such."""
         return f"one_{ending} {self.token(name)}" if self.token(name) else f"{snake(name)}_{ending}"
 
 
 # ---- src
+
+def by_letter(words):
+    """The words as Rust by their first letters in lower case, in their order."""
+    letters = dict.fromkeys(word[0].lower() for word in words)
+    return [(letter, [f"Context::{word}" for word in words if word[0].lower() == letter]) for letter in letters]
+
 
 def class_rt(t):
     """src/class.rt: the classes of tokens."""
@@ -104,6 +122,7 @@ def class_rt(t):
 //! a semicolon at the end of a text. With that, one token decides how reading goes on.
 ghost use Rattle.std.specs.Prelude.{◌≡◌};
 ghost use Rattle.span_grammar.specs.Contexts as contexts;
+ghost use Rattle.span_grammar.specs.Contexts.{words_with};
 ghost use Rattle.span_grammar.specs.declared.class.TheConstants.{CONTEXTS};
 
 use span_lexer::token::{Sign, Token, Word};
@@ -120,6 +139,16 @@ pub const CONTEXTS: [Context; {len(contexts)}] = [
 pub fn contexts_are_stated()
     ensures { CONTEXTS ≡ contexts.context_words }
 {}
+
+/// Those of these words that begin with a letter in lower case.
+#[tactic(auto, unfolding(crate::specs::Contexts::words_with))]
+pub(crate) fn words_with(letter: u8) -> &'static [Context]
+    ensures { result.now ≡ words_with letter contexts.context_words }
+{
+    match letter {
+""" + lines(f"        b'{letter}' => &[{', '.join(words)}]," for letter, words in by_letter(contexts)) + """        _ => &[],
+    }
+}
 
 impl Context {
     /// The word in lower case.
@@ -216,6 +245,47 @@ pub(crate) fn shape_of(part: Part) -> Shape
 """
 
 
+def beginning_rt(t):
+    """src/beginning.rt: what parts begin with."""
+    def test(name):
+        return " || ".join(f"is_class({rust_sort(sort)}, class)" for sort in t.sets.first_sorts(name)) or "false"
+
+    # of parts that begin alike the first has the function
+    sorts = {t.sets.first_sorts(name): name for name in reversed(ASKED)}
+
+    def answer(name):
+        return f"begins_{snake(sorts[t.sets.first_sorts(name)])}(class)" if name in ASKED else test(name)
+
+    return """//! What the parts of the grammar begin with that readers ask for: a token of one sort, or one of few.
+ghost use Rattle.std.specs.Prelude.{◌≡◌};
+ghost use Rattle.span_grammar.specs.declared.grammar.Part.TheVariants as part;
+ghost use Rattle.span_grammar.specs.Beginnings.{begins_with};
+
+use super::class::{Class, Context, Sort};
+use super::grammar::Part;
+use super::reader::{begins_by_parts, is_class};
+use span_lexer::token::{Sign, Word};
+
+""" + lines(f"""#[tactic(auto, unfolding(crate::specs::Beginnings::begins_with))]
+fn begins_{snake(name)}(class: Class) -> bool
+    ensures {{ result ≡ begins_with part.{name} class }}
+{{
+    {test(name)}
+}}
+""" for name in ASKED if name in sorts.values()) + """/// Whether a part may begin with a token of a class.
+#[inline(always)]
+#[tactic(auto, unfolding(crate::specs::Beginnings::begins_with))]
+pub(crate) fn begins(part: Part, class: Class) -> bool
+    ensures { result ≡ begins_with part class }
+{
+    match part {
+        Part::Token(sort) => is_class(sort, class),
+""" + lines(f"        Part::{part.name} => {answer(part.name)}," for part in t.begun()) + """        _ => begins_by_parts(part, class),
+    }
+}
+"""
+
+
 SHAPE_RT = """}
 
 /// How a part is made of others.
@@ -275,8 +345,9 @@ abbrev pub inside : Place → Rule
 def contexts_antt(t):
     """specs/Contexts.antt: the words that are names elsewhere."""
     return module("How the words are spelled that are names and words of the grammar.", """
-use Rattle.std.specs.Prelude.{ℕ, List, ◌∷◌, [], codes, Option, Some, None, if◌then◌else◌}
+use Rattle.std.specs.Prelude.{◌==◌, ℕ, List, ◌∷◌, [], codes, Option, Some, None, if◌then◌else◌}
 use Rattle.std.specs.Str.{bytes_eq, str_to_ascii_lowercase}
+use Rattle.span_lexer.specs.Characters.{begins}
 use Rattle.span_grammar.specs.declared.class.Context.{Context}
 use Rattle.span_grammar.specs.declared.class.Context.TheVariants as context
 """, "abbrev pub word : Context → List ℕ\n" + lines(f'word context.{word} = codes "{word.lower()}"' for word in t.grammar.contexts) + """
@@ -291,7 +362,44 @@ matching_word (v ∷ vs) bytes = if bytes_eq (str_to_ascii_lowercase bytes) (wor
 
 abbrev pub context_word : List ℕ → Option Context
 context_word bytes = matching_word context_words bytes
+
+-- those of some words that begin with a letter in lower case
+unfoldable pub words_with : ℕ → List Context → List Context
+words_with letter [] = []
+words_with letter (v ∷ vs) = if begins (λ c. c == letter) (word v) then v ∷ words_with letter vs else words_with letter vs
 """)
+
+
+def beginnings_antt(t):
+    """specs/Beginnings.antt: what parts begin with."""
+    return module("What the parts begin with that readers ask for: tokens of one sort, or of few.", VARIANTS + CLASSES + """
+use Rattle.std.specs.Prelude.{Bool, false, ◌||◌}
+use Rattle.span_grammar.specs.Rules.{is_class, first, of_class}
+use Rattle.span_grammar.specs.Grammar.{rule_of}
+""", """unfoldable pub begins_with : Part → Class → Bool
+begins_with (part.Token s) c = is_class s c
+""" + lines(
+        f"begins_with part.{part.name} c = {begun_test(t, part.name)}" for part in t.begun()
+    ) + "begins_with p c = first (rule_of p) (of_class c)\n")
+
+
+def begun_test(t, name):
+    """Whether a part begins with a token of the class c, as a term."""
+    if t.token(name):
+        return f"is_class {t.token(name)} c"
+    shape, operands = t.grammar.shape(name)
+    if shape == "Open":
+        return f"is_class {sort_term(operands[0])} c"
+    tests = [begun_test(t, one) for one in first_operands(t, name)]
+    return f"({tests[0]}) || ({tests[1]})" if len(tests) == 2 else "".join(tests) or "false"
+
+
+def first_operands(t, name):
+    """Those parts of a part with which it may begin."""
+    shape, operands = t.grammar.shape(name)
+    if shape == "Then" and not t.sets.may_be_nothing(operands[0]):
+        return operands[:1]
+    return [one for one in operands if t.sets.first_sorts(one)]
 
 
 # ---- proofs: parts and rules
@@ -506,6 +614,79 @@ def boolean(value):
     return "true" if value else "false"
 
 
+def begun_antt(t):
+    """proofs/Begun.antt: the parts begin with what is written down."""
+    needed = set()
+    for part in t.begun():
+        need_beginning(t, part.name, needed)
+
+    def begins(name):
+        return "refl" if t.token(name) else f"{snake(name)}_begun c"
+
+    def proof(part):
+        if part.shape in ("Empty", "Open"):
+            return "refl"
+        a, b = part.operands[0], part.operands[-1]
+        if part.shape == "Many":
+            return begins(a)
+        if part.shape == "Or":
+            return f"{'either' if t.sets.first_sorts(b) else 'alone'} {tests(part)} ({begins(a)}) ({begins(b)})"
+        if t.sets.may_be_nothing(a):
+            return f"through {tests(part)} ({nothing(t, a)}) ({begins(a)}) ({begins(b)})"
+        return f"passed {tests(part)} ({nothing(t, a)}) ({begins(a)})"
+
+    def tests(part):
+        a, b = part.operands
+        words = [f"(first {t.rule(a)} (of_class c))", f"(first {t.rule(b)} (of_class c))"]
+        return " ".join(words[:1] + ([f"(is_nullable {t.rule(a)})"] if part.shape == "Then" else []) + words[1:])
+
+    def answer(part):
+        return f"sym ({snake(part.name)}_begun c)" if t.is_begun(part.name) else "refl"
+
+    return module("The parts begin with what is written down.", imports_of_trees(t) + f"""
+use Rattle.span_grammar.specs.Rules.{{first}}
+use Rattle.span_grammar.specs.Beginnings.{{begins_with}}
+use Rattle.std.proofs.Common.{{sym}}
+use Rattle.span_grammar.proofs.Nothings.{{{t.all_called('nothing')}}}
+""", BEGINNING + lines(f"""{snake(part.name)}_begun : (c : Class) → first {t.rule(part.name)} (of_class c) ≡ ({begun_test(t, part.name)})
+unfolding {t.rule(part.name)}
+{snake(part.name)}_begun c = {proof(part)}""" for part in t.order if part.name in needed) + """
+pub begins_as : (p : Part) (c : Class) → begins_with p c ≡ first (rule_of p) (of_class c)
+unfolding begins_with rule_of
+begins_as (part.Token s) c = refl
+""" + lines(f"begins_as part.{part.name} c = {answer(part)}" for part in t.order))
+
+
+BEGINNING = """either : (x y : Bool) {v w : Bool} → x ≡ v → y ≡ w → (x || y) ≡ (v || w)
+either x y {v} {w} a b = ap (λ i. i || y) a ∙ ap (λ i. v || i) b
+
+none : (x : Bool) → (x || false) ≡ x
+none true = refl
+none false = refl
+
+alone : (x y : Bool) {v : Bool} → x ≡ v → y ≡ false → (x || y) ≡ v
+alone x y {v} a b = either x y a b ∙ none v
+
+-- of a row, whose first part may not be nothing, or may
+passed : (x n y : Bool) {v : Bool} → n ≡ false → x ≡ v → (x || (n && y)) ≡ v
+passed x n y a b = alone x (n && y) b (ap (λ i. i && y) a)
+
+through : (x n y : Bool) {v w : Bool} → n ≡ true → x ≡ v → y ≡ w → (x || (n && y)) ≡ (v || w)
+through x n y a b d = either x (n && y) b (ap (λ i. i && y) a ∙ d)
+
+"""
+
+
+def need_beginning(t, name, needed):
+    """Adds a part, and those that it begins with."""
+    if t.token(name) or name in needed:
+        return
+    needed.add(name)
+    shape, operands = t.grammar.shape(name)
+    for one in () if shape == "Open" else operands if shape == "Or" else first_operands(t, name):
+        need_beginning(t, one, needed)
+
+
 def repeated_antt(t):
     """proofs/Repeated.antt: what is repeated is never nothing."""
     repeated = [part for part in t.order if part.shape == "Many"]
@@ -639,15 +820,18 @@ def fact(t, part):
 def spelled_antt(t):
     """proofs/Spelled.antt: looking up a word that is a name elsewhere."""
     return module("Looking a word up that is a name and a word of the grammar.", """
-use Rattle.std.proofs.Common.{◌≡◌, ◌≢◌, ℕ, ◌+◌, ◌<◌, ◌≤◌, List, [], ◌∷◌, length, drop, get_or, Some, None, refl, sym, ap, ◌∙◌, arith}
+use Rattle.std.proofs.Common.{◌≡◌, ◌≢◌, ◌==◌, ℕ, ◌+◌, ◌<◌, ◌≤◌, List, [], ◌∷◌, length, drop, get_or, Option, Some, None, false, if◌then◌else◌, refl, sym, ap, subst, true≢false, ◌∙◌, arith}
 use Rattle.std.proofs.lemmas.Grind.{common_steps}
+use Rattle.std.specs.Char.{to_ascii_lowercase}
+use Rattle.std.specs.Cmp.{nat_eq_equiv}
 use Rattle.std.specs.Str.{bytes_eq, str_to_ascii_lowercase}
 use Rattle.std.proofs.lemmas.List.{drop_more}
 use Rattle.std.proofs.lemmas.Bool.{cond-true, cond-false}
 use Rattle.span_grammar.specs.declared.class.Context.{Context}
 use Rattle.span_grammar.specs.declared.class.Context.TheVariants as context
-use Rattle.span_lexer.proofs.Words.{equal_texts, not_equal_texts}
-use Rattle.span_grammar.specs.Contexts.{word, matching_word}
+use Rattle.span_lexer.specs.Characters.{begins}
+use Rattle.span_lexer.proofs.Words.{choose, equal_texts, not_equal_texts}
+use Rattle.span_grammar.specs.Contexts.{word, matching_word, context_words, words_with}
 """, "in_lower_case : (v : Context) → str_to_ascii_lowercase (word v) ≡ word v\n" + lines(
         f"in_lower_case context.{word} = refl" for word in t.grammar.contexts) + LOOKING_UP)
 
@@ -676,18 +860,41 @@ word_passed words bytes at d h l n = sym (spelled_later (get_or words at d) (dro
 
 pub words_over : (words : List Context) (bytes : List ℕ) (at : ℕ) → matching_word (drop at words) bytes ≡ matching_word words bytes → length words ≤ at → matching_word words bytes ≡ None
 words_over words bytes at h l = sym h ∙ ap (λ (v : List Context). matching_word v bytes) (let e : drop at words ≡ [] = grind (arith, common_steps) in e) ∙ spelled_nowhere bytes
+
+-- ---- a word by its first letter
+
+not_begun : (v : Context) (b : ℕ) (bs : List ℕ) → begins (λ c. c == to_ascii_lowercase b) (word v) ≡ false → str_to_ascii_lowercase (b ∷ bs) ≢ str_to_ascii_lowercase (word v)
+not_begun v b bs f e =
+    true≢false (sym (nat_eq_equiv.refl (to_ascii_lowercase b)) ∙ ap (λ (w : List ℕ). begins (λ c. c == to_ascii_lowercase b) w) (e ∙ in_lower_case v) ∙ f)
+
+by_letter : (vs : List Context) (b : ℕ) (bs : List ℕ) → matching_word (words_with (to_ascii_lowercase b) vs) (b ∷ bs) ≡ matching_word vs (b ∷ bs)
+unfolding matching_word words_with
+by_letter [] b bs = refl
+by_letter (v ∷ vs) b bs =
+    choose (λ ws. matching_word ws (b ∷ bs) ≡ matching_word (v ∷ vs) (b ∷ bs)) (begins (λ c. c == to_ascii_lowercase b) (word v)) (v ∷ words_with (to_ascii_lowercase b) vs) (words_with (to_ascii_lowercase b) vs)
+    (λ t. ap (λ (r : Option Context). if bytes_eq (str_to_ascii_lowercase (b ∷ bs)) (word v) then Some v else r) (by_letter vs b bs))
+    (λ f. by_letter vs b bs ∙ sym (spelled_later v vs (b ∷ bs) (not_begun v b bs f)))
+
+pub word_by_letter : (bytes bs : List ℕ) (b : ℕ) (ws : List Context) → bytes ≡ b ∷ bs → ws ≡ words_with (to_ascii_lowercase b) context_words → matching_word ws bytes ≡ matching_word context_words bytes
+word_by_letter bytes bs b ws e h = subst (λ (t : List ℕ). matching_word ws t ≡ matching_word context_words t) (sym e) (ap (λ (w : List Context). matching_word w (b ∷ bs)) h ∙ by_letter context_words b bs)
+
+pub no_word_empty : (bytes : List ℕ) → length bytes ≡ 0 → matching_word context_words bytes ≡ None
+unfolding matching_word
+no_word_empty [] e = refl
+no_word_empty (b ∷ bs) e = absurd (omega (arith, e))
 """
 
 
 # ---- the files
 
 FILES = {
-    "src/class.rt": class_rt, "src/grammar.rt": grammar_rt,
+    "src/class.rt": class_rt, "src/grammar.rt": grammar_rt, "src/beginning.rt": beginning_rt,
     "specs/Grammar.antt": grammar_antt, "specs/Shapes.antt": shapes_antt, "specs/Contexts.antt": contexts_antt,
+    "specs/Beginnings.antt": beginnings_antt,
     "proofs/Shaped.antt": shaped_antt, "proofs/Having.antt": having_antt, "proofs/Ending.antt": ending_antt,
     "proofs/Nothings.antt": nothings_antt, "proofs/Ranks.antt": ranks_antt, "proofs/Tables.antt": tables_antt,
     "proofs/Firsts.antt": firsts_antt, "proofs/Goings.antt": goings_antt, "proofs/Facts.antt": facts_antt,
-    "proofs/Repeated.antt": repeated_antt, "proofs/Spelled.antt": spelled_antt,
+    "proofs/Repeated.antt": repeated_antt, "proofs/Spelled.antt": spelled_antt, "proofs/Begun.antt": begun_antt,
 }
 
 

@@ -1,4 +1,5 @@
 pub mod Apart
+pub mod Begun
 pub mod Classing
 pub mod Ending
 pub mod Facts

@@ -1,3 +1,4 @@
+pub mod Beginnings
 pub mod Classes
 pub mod Contexts
 pub mod Goals

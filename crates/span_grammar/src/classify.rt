@@ -3,7 +3,7 @@ ghost use Rattle.std.specs.Prelude.{◌≡◌, ◌-◌, take, drop, IfOk};
 ghost use Rattle.span_grammar.specs.Contexts.{context_word, matching_word};
 ghost use Rattle.span_grammar.specs.Classes as spec;
 
-use super::class::{CONTEXTS, Class, Context, Lexeme};
+use super::class::{Class, Context, Lexeme, words_with};
 use span_lexer::token::{Sign, Token, TokenKind};
 use std::alloc::{AllocError, Global};
 
@@ -11,7 +11,7 @@ use std::alloc::{AllocError, Global};
 pub fn lexemes(alloc: Global, text: &[u8], tokens: &[Token]) -> Result<Vec<Lexeme>, AllocError>
     ensures { IfOk result (λ found. found.items ≡ spec.lexemes_of text.now tokens.now) }
 {
-    let mut found = Vec::new(alloc);
+    let mut found = Vec::with_capacity(alloc, tokens.len())?;
     let mut rest = tokens;
     while let Some((token, tail)) = rest.split_first() {
         let class = class_at(text, token, tail);
@@ -78,9 +78,19 @@ fn is_star(kind: TokenKind) -> bool
 fn name_class(bytes: &[u8]) -> Class
     ensures { result ≡ spec.name_class (context_word bytes.now) }
 {
-    match matching_word(&CONTEXTS, bytes) {
+    match context_word(bytes) {
         Some(word) => Class::Context(word),
         None => Class::Name,
+    }
+}
+
+/// The word of the grammar that the bytes spell in any case, if they spell one.
+fn context_word(bytes: &[u8]) -> Option<Context>
+    ensures { result ≡ context_word bytes.now }
+{
+    match bytes.split_first() {
+        Some((first, _)) => matching_word(words_with(first.to_ascii_lowercase()), bytes),
+        None => None,
     }
 }
 

@@ -8,6 +8,7 @@ ghost use Rattle.span_grammar.specs.declared.reader.TheConstants.{MOST_OPENINGS}
 ghost use Rattle.span_grammar.specs.Grammar.{rule_of};
 ghost use Rattle.span_grammar.specs.Reading.{Follows, part_read, sort_read};
 
+use super::beginning::begins;
 use super::class::{Class, Lexeme, Sort};
 use super::grammar::{Part, Shape, part_inside, shape_of};
 use span_lexer::token::Sign;
@@ -68,23 +69,24 @@ fn is_nullable(part: Part) -> bool
     }
 }
 
-/// Whether a part may begin with a token of a class.
+/// Whether a part may begin with a token of a class, by a walk over the parts that it is made of.
 #[tactic(auto, using(crate::proofs::Steps::begin_steps))]
-fn begins(part: Part, class: Class) -> bool
+pub(crate) fn begins_by_parts(part: Part, class: Class) -> bool
     ensures { result ≡ first (rule_of part) (of_class class) }
 {
     match shape_of(part) {
         Shape::Empty => false,
         Shape::One(sort) => is_class(sort, class),
-        Shape::Then(first, second) => begins(first, class)
-            || (is_nullable(first) && begins(second, class)),
-        Shape::Or(first, second) => begins(first, class) || begins(second, class),
-        Shape::Many(repeated) => begins(repeated, class),
+        Shape::Then(first, second) => begins_by_parts(first, class)
+            || (is_nullable(first) && begins_by_parts(second, class)),
+        Shape::Or(first, second) => begins_by_parts(first, class) || begins_by_parts(second, class),
+        Shape::Many(repeated) => begins_by_parts(repeated, class),
         Shape::Open(sort, _) => is_class(sort, class),
     }
 }
 
 /// Whether a part may begin with the token that comes; no part begins at the end.
+#[inline(always)]
 pub fn goes_on(part: Part, tokens: &[Lexeme]) -> bool
     ensures { result ≡ starts (rule_of part) tokens.now }
 {

@@ -1,13 +1,16 @@
 -- Looking a reserved word up.
-use Rattle.std.proofs.Common.{◌≡◌, ◌≢◌, ℕ, ◌+◌, ◌<◌, ◌≤◌, Bool, true, false, List, [], ◌∷◌, length, drop, get_or, Some, None, if◌then◌else◌, refl, sym, ap, ◌∙◌, arith}
+use Rattle.std.proofs.Common.{◌≡◌, ◌≢◌, ℕ, ◌+◌, ◌<◌, ◌≤◌, Bool, true, false, List, [], ◌∷◌, length, drop, get_or, Some, None, if◌then◌else◌, Option, refl, sym, ap, subst, true≢false, ◌∙◌, ◌==◌, arith}
 use Rattle.std.proofs.lemmas.Grind.{common_steps}
 use Rattle.std.specs.Str.{bytes_eq, str_to_ascii_lowercase}
 use Rattle.std.specs.Cmp.Lexicographic.{same_text, nat_list_eq_equiv}
+use Rattle.std.specs.Cmp.{nat_eq_equiv}
+use Rattle.std.specs.Char.{to_ascii_lowercase}
 use Rattle.std.proofs.lemmas.List.{drop_more}
 use Rattle.std.proofs.lemmas.Bool.{cond-true, cond-false}
 use Rattle.span_lexer.specs.declared.token.Word.{Word}
 use Rattle.span_lexer.specs.declared.token.Word.TheVariants as w
-use Rattle.span_lexer.specs.Spellings.{word, matching_word}
+use Rattle.span_lexer.specs.Spellings.{word, matching_word, reserved_words, words_with}
+use Rattle.span_lexer.specs.Characters.{begins}
 
 pub choose : {A : Type 0} (P : A → Type 0) (b : Bool) (x y : A) → (b ≡ true → P x) → (b ≡ false → P y) → P (if b then x else y)
 choose P true x y f g = f refl
@@ -80,3 +83,25 @@ word_passed words bytes at d h l n = sym (spelled_later (get_or words at d) (dro
 
 pub words_over : (words : List Word) (bytes : List ℕ) (at : ℕ) → matching_word (drop at words) bytes ≡ matching_word words bytes → length words ≤ at → matching_word words bytes ≡ None
 words_over words bytes at h l = sym h ∙ ap (λ (v : List Word). matching_word v bytes) (let e : drop at words ≡ [] = grind (arith, common_steps) in e) ∙ spelled_nowhere bytes
+
+-- ---- a word by its first letter
+
+not_begun : (v : Word) (b : ℕ) (bs : List ℕ) → begins (λ c. c == to_ascii_lowercase b) (word v) ≡ false → str_to_ascii_lowercase (b ∷ bs) ≢ str_to_ascii_lowercase (word v)
+not_begun v b bs f e =
+    true≢false (sym (nat_eq_equiv.refl (to_ascii_lowercase b)) ∙ ap (λ (w : List ℕ). begins (λ c. c == to_ascii_lowercase b) w) (e ∙ in_lower_case v) ∙ f)
+
+by_letter : (vs : List Word) (b : ℕ) (bs : List ℕ) → matching_word (words_with (to_ascii_lowercase b) vs) (b ∷ bs) ≡ matching_word vs (b ∷ bs)
+unfolding matching_word words_with
+by_letter [] b bs = refl
+by_letter (v ∷ vs) b bs =
+    choose (λ ws. matching_word ws (b ∷ bs) ≡ matching_word (v ∷ vs) (b ∷ bs)) (begins (λ c. c == to_ascii_lowercase b) (word v)) (v ∷ words_with (to_ascii_lowercase b) vs) (words_with (to_ascii_lowercase b) vs)
+    (λ t. ap (λ (r : Option Word). if bytes_eq (str_to_ascii_lowercase (b ∷ bs)) (word v) then Some v else r) (by_letter vs b bs))
+    (λ f. by_letter vs b bs ∙ sym (spelled_later v vs (b ∷ bs) (not_begun v b bs f)))
+
+pub word_by_letter : (bytes bs : List ℕ) (b : ℕ) (ws : List Word) → bytes ≡ b ∷ bs → ws ≡ words_with (to_ascii_lowercase b) reserved_words → matching_word ws bytes ≡ matching_word reserved_words bytes
+word_by_letter bytes bs b ws e h = subst (λ (t : List ℕ). matching_word ws t ≡ matching_word reserved_words t) (sym e) (ap (λ (w : List Word). matching_word w (b ∷ bs)) h ∙ by_letter reserved_words b bs)
+
+pub no_word_empty : (bytes : List ℕ) → length bytes ≡ 0 → matching_word reserved_words bytes ≡ None
+unfolding matching_word
+no_word_empty [] e = refl
+no_word_empty (b ∷ bs) e = absurd (omega (arith, e))

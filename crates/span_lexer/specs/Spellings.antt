@@ -1,10 +1,11 @@
 -- How words and signs are spelled.
-use Rattle.std.specs.Prelude.{ℕ, List, ◌∷◌, [], codes, Option, Some, None, if◌then◌else◌}
+use Rattle.std.specs.Prelude.{◌==◌, ℕ, List, ◌∷◌, [], codes, Option, Some, None, if◌then◌else◌}
 use Rattle.std.specs.Str.{bytes_eq, str_to_ascii_lowercase}
 use Rattle.span_lexer.specs.declared.token.Word.{Word}
 use Rattle.span_lexer.specs.declared.token.Word.TheVariants as w
 use Rattle.span_lexer.specs.declared.token.Sign.{Sign}
 use Rattle.span_lexer.specs.declared.token.Sign.TheVariants as s
+use Rattle.span_lexer.specs.Characters.{begins}
 
 abbrev pub word : Word → List ℕ
 word w.All = codes "all"
@@ -79,3 +80,9 @@ reserved_words =
 -- the reserved word that the bytes spell in any case
 abbrev pub reserved_word : List ℕ → Option Word
 reserved_word bytes = matching_word reserved_words bytes
+
+-- those of some words that begin with a letter in lower case
+unfoldable pub words_with : ℕ → List Word → List Word
+words_with letter [] = []
+words_with letter (v ∷ vs) =
+    if begins (λ c. c == letter) (word v) then v ∷ words_with letter vs else words_with letter vs

@@ -39,6 +39,9 @@ pub const GREATEST_INTEGER: u64 = 9223372036854775807;
 /// The greatest length of a name in bytes.
 pub const LONGEST_WORD: usize = 128;
 
+/// The greatest number of tokens that there is memory for before one is read.
+const MOST_RESERVED: usize = 1_024;
+
 /// The limits are the numbers that the definitions name.
 pub fn limits_are_stated()
     ensures text { LONGEST_TEXT ≡ longest_text }
@@ -312,7 +315,8 @@ fn lexemes(alloc: Global, bytes: &[u8]) -> Result<Vec<Token>, ReadError>
         (e.refusal ≡ Refusal.OutOfMemory)
         ⊎ ((e.refusal ≡ Refusal.BadToken) × (spec.lex_from 0 0 bytes.now ≡ None))) }
 {
-    let mut found = Vec::new(alloc);
+    // Most tokens take some four bytes, with the blanks between them.
+    let mut found = Vec::with_capacity(alloc, (bytes.len() / 4).min(MOST_RESERVED))?;
     let mut at = 0;
     while at < bytes.len() {
         match lex_at(bytes, at) {

@@ -2,7 +2,7 @@
 //!
 //! To prove that a tree is dropped safely takes seconds to minutes at each place where one may be dropped. What may
 //! drop one is here, for values of any type, and is proved once.
-ghost use Rattle.std.specs.Prelude.{◌≡◌, ◌≤◌, OnOk, OnErr, length, insert};
+ghost use Rattle.std.specs.Prelude.{◌≡◌, ◌≤◌, ◌<◌, OnOk, OnErr, length, insert, vec_len, vec_capacity};
 
 use span_value::seq::Seq;
 use std::alloc::{AllocError, Global};
@@ -46,9 +46,22 @@ fn insert_in_both_vecs<A: Drop, B: Drop>(
         × (seconds.new.items ≡ insert seconds.old.items at second)) }
     ensures err { OnErr result ((firsts.new.items ≡ firsts.old.items) × (seconds.new.items ≡ seconds.old.items)) }
 {
-    firsts.reserve(1)?;
-    seconds.reserve(1)?;
+    reserve_one(firsts)?;
+    reserve_one(seconds)?;
     firsts.insert(at, first).unwrap();
     seconds.insert(at, second).unwrap();
     Ok(())
+}
+
+/// Makes room for one item more. A list that has none gets room for that one alone, since most get no other, and the
+/// memory for several items is a large block, which takes longer.
+fn reserve_one<A: Drop>(list: &mut Vec<A>) -> Result<(), AllocError>
+    ensures items { list.new.items ≡ list.old.items }
+    ensures ok { OnOk result (vec_len list.new < vec_capacity list.new) }
+{
+    if list.is_empty() {
+        list.reserve_exact(1)
+    } else {
+        list.reserve(1)
+    }
 }

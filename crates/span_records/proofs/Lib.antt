@@ -7,3 +7,4 @@ pub mod Zips
 pub mod Plain
 pub mod Commas
 pub mod Lent
+pub mod Written

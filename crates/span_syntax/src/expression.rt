@@ -68,12 +68,15 @@ where
     }
 
     /// `term`
-    #[tactic(auto, unfolding(span_primary::specs::Expressions::term))]
+    #[tactic(auto, using(span_primary::proofs::Loops::each_end), unfolding(span_primary::specs::Expressions::term))]
     fn term(&self, tokens: &mut &[Lexeme]) -> Result<Expr, SyntaxError>
         requires nests { Nests F.Fn self.now }
         ensures { Reads self.now spec.term tokens.old tokens.new result }
     {
         let first = self.primary.unary(tokens)?;
+        if !goes_on(Part::TermMore, tokens) {
+            return Ok(first);
+        }
         let (first, more) = keep_with(first, self.term_rest(tokens))?;
         Ok(chain_of(self.alloc, first, more)?)
     }
@@ -104,12 +107,15 @@ where
     }
 
     /// `sum`
-    #[tactic(auto, unfolding(span_primary::specs::Expressions::sum))]
+    #[tactic(auto, using(span_primary::proofs::Loops::each_end), unfolding(span_primary::specs::Expressions::sum))]
     fn sum(&self, tokens: &mut &[Lexeme]) -> Result<Expr, SyntaxError>
         requires nests { Nests F.Fn self.now }
         ensures { Reads self.now spec.sum tokens.old tokens.new result }
     {
         let first = self.term(tokens)?;
+        if !goes_on(Part::SumMore, tokens) {
+            return Ok(first);
+        }
         let (first, more) = keep_with(first, self.sum_rest(tokens))?;
         Ok(chain_of(self.alloc, first, more)?)
     }
@@ -239,12 +245,15 @@ where
     }
 
     /// `conj`
-    #[tactic(auto, unfolding(span_primary::specs::Expressions::conjunction))]
+    #[tactic(auto, using(span_primary::proofs::Loops::each_end), unfolding(span_primary::specs::Expressions::conjunction))]
     fn conjunction(&self, tokens: &mut &[Lexeme]) -> Result<Expr, SyntaxError>
         requires nests { Nests F.Fn self.now }
         ensures { Reads self.now spec.conjunction tokens.old tokens.new result }
     {
         let first = self.negated_predicate(tokens)?;
+        if !goes_on(Part::ConjunctionMore, tokens) {
+            return Ok(first);
+        }
         let (first, more) = keep_with(first, self.conjunction_rest(tokens))?;
         Ok(conjunction_of(self.alloc, first, more)?)
     }
@@ -274,12 +283,15 @@ where
     }
 
     /// `expr`
-    #[tactic(auto, unfolding(span_primary::specs::Expressions::expression))]
+    #[tactic(auto, using(span_primary::proofs::Loops::each_end), unfolding(span_primary::specs::Expressions::expression))]
     fn expression(&self, tokens: &mut &[Lexeme]) -> Result<Expr, SyntaxError>
         requires nests { Nests F.Fn self.now }
         ensures { Reads self.now spec.expression tokens.old tokens.new result }
     {
         let first = self.conjunction(tokens)?;
+        if !goes_on(Part::ExpressionMore, tokens) {
+            return Ok(first);
+        }
         let (first, more) = keep_with(first, self.expression_rest(tokens))?;
         Ok(disjunction_of(self.alloc, first, more)?)
     }
