@@ -7,4 +7,3 @@ pub mod Zips
 pub mod Plain
 pub mod Commas
 pub mod Lent
-pub mod Written

@@ -5,7 +5,7 @@ use Rattle.std.specs.Prelude.{◌≡◌, ℕ, ◌<◌, ◌==◌, ◌||◌, Bool,
 use Rattle.std.specs.List.{All, flat_map, slice_split}
 use Rattle.csv.specs.Machine.{Read, next_record}
 use Rattle.csv.specs.Reading.{default_config, strip_bom}
-use Rattle.csv.specs.Writing.{default_writer, with_flexible, needs_byte, row_text}
+use Rattle.csv.specs.Writing.{default_writer, with_flexible, row_text}
 use Rattle.csv.specs.declared.parser.State.{State}
 use Rattle.csv.specs.declared.parser.State.TheVariants as state
 use Rattle.csv.specs.declared.writer.WriterBuilder.{WriterBuilder}
@@ -61,10 +61,6 @@ IsPlain text = All (λ b. is_mark b ≡ false) text × (strip_bom text ≡ text)
 -- the settings of `csv`, by which rows of any length are written
 abbrev pub settings : WriterBuilder
 settings = with_flexible default_writer true
-
--- a text with the byte is not its own cell, or not its own field
-abbrev pub is_changed : ℕ → Bool
-is_changed b = (b == 92) || needs_byte settings b
 
 -- the record of a row's cells
 abbrev pub row_record : List Value → List ℕ
