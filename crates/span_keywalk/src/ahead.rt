@@ -52,6 +52,8 @@ pub(crate) struct Ahead {
     pub most: usize,
     /// The newest rows are looked at too.
     pub has_rows: bool,
+    /// The keys themselves are looked at.
+    pub has_keys: bool,
     /// How many keys are looked at already, or are passed before the next try.
     seen: usize,
     /// These were put in order: where few of them are handed out, these are looked at once they are found.
@@ -64,6 +66,7 @@ impl Ahead {
             root: number_of(tree.root),
             most: usize::MAX,
             has_rows: false,
+            has_keys: true,
             seen: FIRST_KEYS,
             is_in_order: false,
         }
@@ -108,7 +111,7 @@ impl Ahead {
     pub(crate) fn look_after(&mut self, arena: &Arena, batch: &Batch, passed: usize) {
         self.seen = self.seen.saturating_sub(passed);
         if self.is_in_order && batch.len() <= passed / APART {
-            self.is_in_order = look_at_batch(arena, batch, self.has_rows);
+            self.is_in_order = look_at_batch(arena, batch, self);
         }
     }
 }
@@ -295,9 +298,9 @@ fn is_no_key(arena: &Arena, number: u32) -> bool {
     number as usize >= arena.numbers() || arena.key(number).len() > LONGEST_KEY
 }
 
-// Looks at a key, and at its newest row where the caller is to read it; whether one of them is none.
+// Looks at a key, and at its newest row, each where the caller is to read it; whether one of them is none.
 fn is_none(arena: &Arena, number: u32, ahead: &Ahead) -> bool {
-    is_no_key(arena, number) || (ahead.has_rows && is_no_row(arena, number))
+    (ahead.has_keys && is_no_key(arena, number)) || (ahead.has_rows && is_no_row(arena, number))
 }
 
 // A key on. A lane stays at its end, and at what is none.
@@ -312,14 +315,17 @@ fn step(arena: &Arena, nexts: &NextLinks, lane: WalkPart, ahead: &Ahead) -> u32 
     nexts.number_after(lane.at)
 }
 
-// Looks at the keys of a batch, with their newest rows where the caller is to read them: no look waits for another. Whether each may be
-// one: each bit that the first bytes of the rows have is noted, and a row begins with 0 or 1.
-fn look_at_batch(arena: &Arena, batch: &Batch, has_rows: bool) -> bool {
+// Looks at the keys of a batch and at their newest rows, at each where the caller is to read it: no look waits for another. Whether each may
+// be one: each bit that the first bytes of the rows have is noted, and a row begins with 0 or 1.
+fn look_at_batch(arena: &Arena, batch: &Batch, ahead: &Ahead) -> bool {
+    let (has_keys, has_rows) = (ahead.has_keys, ahead.has_rows);
     let numbers = batch.numbers();
     let mut is_none = false;
     let mut begins: u8 = 0;
     for i in 0..batch.len().min(BATCH_KEYS) {
-        is_none = is_none | is_no_key(arena, numbers[i]);
+        if has_keys {
+            is_none = is_none | is_no_key(arena, numbers[i]);
+        }
         if has_rows {
             begins = begins | arena.look_at_newest(numbers[i]);
         }

@@ -2,7 +2,7 @@
 //!
 //! Which keys are short is found a batch at a time, by lengths and links alone; then the batch is handed out.
 ghost use Rattle.std.specs.Iterator.{YieldsFirstBy, item_count};
-ghost use Rattle.std.specs.Prelude.{◌≡◌, ◌<◌, [], length, false, IsTrue};
+ghost use Rattle.std.specs.Prelude.{◌≡◌, ◌<◌, [], ◌∷◌, length, false, IsTrue, MatchOption};
 ghost use Rattle.span_keytree.specs.Entries.{entry_of};
 ghost use Rattle.span_keywalk.specs.Walks.{short_entries, walked_in, AreBelow, AreShortOf};
 
@@ -49,8 +49,22 @@ impl<'a> Iterator for ShortWalk<'a> {
 
     #[inline(always)]
     fn next(&mut self) -> Option<(&'a [u8], Chain)> {
+        let late = self.next_late()?;
+        Some((late.key(), late.chain()))
+    }
+}
+
+impl<'a> ShortWalk<'a> {
+    /// As `next`, with no look at the key.
+    #[inline(always)]
+    pub fn next_late(&mut self) -> Option<LateKey<'a>>
+        ensures { MatchOption result
+            ((self.old ≡ []) × (self.new ≡ []))
+            (λ late. self.old ≡ late ∷ self.new) }
+    {
+        let arena = self.arena;
         if let Some(number) = self.found.batch.next() {
-            return Some((self.arena.key(number), Chain { number }));
+            return Some(LateKey { arena, number });
         }
         find_more(
             self.arena,
@@ -61,7 +75,53 @@ impl<'a> Iterator for ShortWalk<'a> {
             &mut self.found,
         );
         let number = self.found.batch.next()?;
-        Some((self.arena.key(number), Chain { number }))
+        Some(LateKey { arena, number })
+    }
+
+    /// Whether the walk looks at keys ahead from now on: it does at first. Where few of them are read, that takes longer. Nothing else is
+    /// changed.
+    pub fn look_at_keys(&mut self, has_keys: bool)
+        ensures { self.new ≡ self.old }
+    {
+        self.ahead.has_keys = has_keys;
+    }
+}
+
+/// A chain whose key is looked at only where it is asked for. Contracts see the entry.
+#[derive(Drop)]
+pub struct LateKey<'a> {
+    arena: &'a Arena,
+    number: u32,
+}
+
+impl<'a> Model for LateKey<'a> {
+    ghost use Rattle.std.specs.Prelude.{◌<◌, length};
+    ghost use Rattle.span_arena.specs.Cells.{cell_at};
+    ghost use Rattle.span_keytree.specs.Entries.{KeyEntry};
+    ghost use Rattle.span_keytree.specs.Items.{entry};
+
+    ghost Value = { KeyEntry };
+
+    ghost view = { λ k. entry (cell_at k.arena.now.cells k.number).key k.number };
+
+    ghost invariant = { λ k. k.number < length k.arena.now.cells };
+}
+
+impl<'a> LateKey<'a> {
+    /// The key.
+    pub fn key(&self) -> &'a [u8]
+        ensures { result.now ≡ self.now.key }
+    {
+        self.arena.key(self.number)
+    }
+
+    /// The chain.
+    pub fn chain(&self) -> Chain
+        ensures { result ≡ self.now.chain }
+    {
+        Chain {
+            number: self.number,
+        }
     }
 }
 

@@ -10,7 +10,7 @@ use super::search::walk;
 use super::store::Store;
 use span_arena::arena::Arena;
 use span_keycode::range::KeyRange;
-use span_keywalk::short::ShortWalk;
+use span_keywalk::short::{LateKey, ShortWalk};
 use span_keywalk::walk::Walk;
 use std::marker::Model;
 
@@ -101,22 +101,77 @@ impl<'a> Iterator for ShortRows<'a> {
 
     #[inline(always)]
     fn next(&mut self) -> Option<Entry<'a>> {
+        let late = self.next_late()?;
+        Some(late.entry())
+    }
+}
+
+impl<'a> ShortRows<'a> {
+    /// As `next`, with no look at the key.
+    #[inline(always)]
+    pub fn next_late(&mut self) -> Option<LateEntry<'a>>
+        ensures { MatchOption result
+            ((self.old ≡ []) × (self.new ≡ []))
+            (λ late. self.old ≡ late ∷ self.new) }
+    {
         next_row(&mut self.walk, self.arena, self.s)
+    }
+
+    /// Whether keys are looked at ahead from now on: they are at first. Where few of them are read, that takes longer. Nothing else is
+    /// changed.
+    pub fn look_at_keys(&mut self, has_keys: bool)
+        ensures { self.new ≡ self.old }
+    {
+        self.walk.look_at_keys(has_keys);
+    }
+}
+
+/// A row, lent by the shard, whose key is looked at only where it is asked for. Contracts see both.
+#[derive(Drop)]
+pub struct LateEntry<'a> {
+    key: LateKey<'a>,
+    row: &'a [u8],
+}
+
+impl<'a> Model for LateEntry<'a> {
+    ghost use Rattle.span_store.specs.Reads.{KeyRow};
+
+    ghost Value = { KeyRow };
+
+    ghost view = { λ e. record { key = e.key.key; row = e.row.now } };
+}
+
+impl<'a> LateEntry<'a> {
+    /// The packed cells.
+    pub fn row(&self) -> &'a [u8]
+        ensures { result.now ≡ self.now.row }
+    {
+        self.row
+    }
+
+    /// The row with its key.
+    pub fn entry(&self) -> Entry<'a>
+        ensures { entry_row result ≡ self.now }
+    {
+        Entry {
+            key: self.key.key(),
+            row: self.row,
+        }
     }
 }
 
 /// The next row at s of the keys that are left.
 #[inline(always)]
-fn next_row<'a>(walk: &mut ShortWalk<'a>, arena: &'a Arena, s: u64) -> Option<Entry<'a>>
+fn next_row<'a>(walk: &mut ShortWalk<'a>, arena: &'a Arena, s: u64) -> Option<LateEntry<'a>>
     requires { All (λ e. IsChain arena.now e.chain.number) walk.old }
     ensures chains { All (λ e. IsChain arena.now e.chain.number) walk.new }
     ensures row { let rows = filter_map (seen_entry arena.now s) in MatchOption result
         ((rows walk.old ≡ []) × (rows walk.new ≡ []))
-        (λ e. rows walk.old ≡ entry_row e ∷ rows walk.new) }
+        (λ late. rows walk.old ≡ late ∷ rows walk.new) }
 {
-    while let Some((key, chain)) = walk.next() {
-        if let Some(row) = row_in(arena, chain, s) {
-            return Some(Entry {
+    while let Some(key) = walk.next_late() {
+        if let Some(row) = row_in(arena, key.chain(), s) {
+            return Some(LateEntry {
                 key,
                 row: row.as_slice(),
             });
