@@ -53,8 +53,8 @@ fn insert_in_both_vecs<A: Drop, B: Drop>(
     Ok(())
 }
 
-/// Makes room for one item more. A list that has none gets room for that one alone, since most get no other, and the
-/// memory for several items is a large block, which takes longer.
+/// Reserves capacity for one item more. A list without items gets it for that one alone, since most get no other, and the
+/// memory for several items is a large block, which takes longer. The only error is out of memory.
 fn reserve_one<A: Drop>(list: &mut Vec<A>) -> Result<(), AllocError>
     ensures items { list.new.items ≡ list.old.items }
     ensures ok { OnOk result (vec_len list.new < vec_capacity list.new) }
