@@ -3,3 +3,4 @@ pub mod Derived
 pub mod Blocks
 pub mod InOrder
 pub mod AllValues
+pub mod SameMeaning

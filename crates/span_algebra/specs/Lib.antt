@@ -2,3 +2,4 @@ pub mod Selecting
 pub mod BlockMeaning
 pub mod Sources
 pub mod ColumnOrders
+pub mod SameMeaning

@@ -28,7 +28,7 @@ use std::alloc::{AllocError, Global};
 
 /// What the query above the leaves does with all rows of a leaf, where parts of it are done where the rows are read.
 #[derive(Clone, Copy)]
-pub enum LeafUse<'a> {
+enum LeafUse<'a> {
     /// A block groups them.
     Group(&'a Grouping),
     /// A block takes each row of its select list at them once.
@@ -105,17 +105,18 @@ pub fn run_leaf(
     alloc: Global,
     schema: &Schema,
     leaf: &Leaf,
-    leaf_use: Option<LeafUse<'_>>,
+    top: &BoundQuery,
+    place: usize,
     snapshot: Snapshot<'_>,
 ) -> Result<Piece, Refusal>
     requires tables { AllByRecursion (IsTable schema.now) leaf.now.tables }
     requires maskable { IsMaskable schema.now leaf.now }
     ensures { MatchResult result
-        (IsPieceOf schema.now leaf.now snapshot.entry)
+        (IsPieceOf schema.now leaf.now top.now place snapshot.entry)
         (λ why. (why ≡ Refusal.OutOfMemory) ⊎ AreNoRows schema.now snapshot.entry) }
 {
     let found = give_rows(alloc, schema, leaf, snapshot)?;
-    Ok(piece_of(alloc, leaf_use, found)?)
+    Ok(piece_of(alloc, leaf_use(top, place), found)?)
 }
 
 /// How a block groups all rows of the table with this number, if it does; the first table has number 1.
@@ -154,7 +155,7 @@ fn use_by_block(top: &BoundQuery, number: usize) -> Option<LeafUse<'_>> {
 
 /// What the query above the leaves does with all rows of a leaf, whose place among them is counted from 0. None where no block of the query's
 /// own groups them or takes each once, and the query does not put them in order. Only how fast the query is answered rests on it.
-pub fn leaf_use(top: &BoundQuery, place: usize) -> Option<LeafUse<'_>> {
+fn leaf_use(top: &BoundQuery, place: usize) -> Option<LeafUse<'_>> {
     let number = place.saturating_add(1);
     if let Some(found) = use_by_block(top, number) {
         return Some(found);
