@@ -13,12 +13,15 @@ use Rattle.span_schema.specs.declared.table.Table.{Table}
 use Rattle.span_schema.specs.Lineages.{MeetsRules}
 use Rattle.span_schema.specs.Numbers.{IsTable}
 use Rattle.span_mutate.specs.declared.mutation.CheckedMutation.{CheckedMutation}
+use Rattle.span_keycode.specs.declared.range.KeyRange.{KeyRange}
 use Rattle.span_params.specs.declared.params.Parameter.{Parameter}
+use Rattle.span_query.specs.declared.query.BoundQuery.{BoundQuery}
 use Rattle.span_query.specs.declared.query.Statement.{Statement}
 use Rattle.span_query.specs.Rows.{Row}
 use Rattle.span_columns.specs.declared.leaf.Leaf.{Leaf}
 use Rattle.span_columns.specs.declared.leaf.Plan.{Plan}
 use Rattle.span_leaves.specs.Maskable.{IsMaskable}
+use Rattle.span_fragment.specs.declared.piece.Piece.{Piece}
 use Rattle.span_gather.specs.declared.rows.Rows.{Rows as Found}
 use Rattle.span_planner.proofs.MaskableLeaves.{leaves_maskable}
 use Rattle.span_planner.proofs.Tabled.{leaves_tabled}
@@ -37,7 +40,7 @@ use Rattle.span_version_laws.specs.Kept.{IsPieced}
 use Rattle.span_openqueries.specs.declared.taken.Taken.{Taken}
 use Rattle.span_journal.specs.Judged.{leaf_of}
 use Rattle.span_parts.specs.Asked.{AreAsked, IsQuestionOf}
-use Rattle.span_parts.specs.Whole.{Shards, IsWhole, BelongsAt, GoesWith, GoesAt, StaysAt, IsCutAt, IsCommitted, AreMeant, IsFaulty}
+use Rattle.span_parts.specs.Whole.{Shards, IsWhole, BelongsAt, GoesWith, GoesAt, StaysAt, IsCutAt, IsCommitted, IsRead, IsReadFor, AreMeant, IsFaulty}
 use Rattle.span_parts.proofs.Passing.{IsPassed}
 use Rattle.span_parts.proofs.Scanning.{piece_of}
 use Rattle.span_parts.proofs.Wholes.{start_whole}
@@ -183,12 +186,13 @@ module _ (schema other : List Table) (table here : TableId) (views : List (List 
 
   -- ---- queries
 
-  -- where an open query was asked with this query text and these parameters, its leaves are those of the plan of what they are understood as
-  pub own_leaf : (text : List ℕ) (params : List Parameter) (query place : ℕ) (leaf : Leaf)
-      → ((q : OpenQuery) × (find (is_query query) (machine_of j).queries ≡ Some q) × (q.text ≡ text) × (q.params ≡ params)) → IsLeafOf schema text params place leaf
+  -- where an open query was asked with this query text and these parameters, its leaves, and the query above them, are those of the plan of
+  -- what they are understood as
+  own_leaf : (text : List ℕ) (params : List Parameter) (query place : ℕ) (leaf : Leaf) (top : BoundQuery)
+      → (asked : (q : OpenQuery) × (find (is_query query) (machine_of j).queries ≡ Some q) × (q.text ≡ text) × (q.params ≡ params)) → IsLeafOf schema text params place leaf top
       → ((t : List ℕ) (ps : List Parameter) (u v : Result Statement Refusal) → Understands schema t ps u → Understands schema t ps v → u ≡ v)
-      → leaf_of (machine_of j) query place ≡ Some leaf
-  own_leaf text params query place leaf asked own unique =
+      → (leaf_of (machine_of j) query place ≡ Some leaf) × (asked.0.top ≡ top)
+  own_leaf text params query place leaf top asked own unique =
       let q = asked.0 in
       let p = piece_of j.queries query q asked.1 in
       let is : IsPieced schema j.log p.0 = all_found (IsPieced schema j.log) (λ (x : Pieced). is_query query x.query) j.queries p.0 p.1 keeper.whole.pieced in
@@ -198,10 +202,26 @@ module _ (schema other : List Table) (table here : TableId) (views : List (List 
       let planned : map (λ (l : ScanLeaf). l.leaf) q.leaves ≡ (statement_plan schema own.statement).leaves =
       subst (λ (x : OpenQuery). map (λ (l : ScanLeaf). l.leaf) x.leaves ≡ (statement_plan schema x.statement).leaves) p.2 is.of_plan
       ∙ ap (λ (st : Statement). (statement_plan schema st).leaves) statement in
+      let above : q.top ≡ (statement_plan schema own.statement).top =
+      subst (λ (x : OpenQuery). x.top ≡ (statement_plan schema x.statement).top) p.2 is.top
+      ∙ ap (λ (st : Statement). (statement_plan schema st).top) statement in
+      let there : leaf_of (machine_of j) query place ≡ Some leaf =
       ap (λ (o : Option OpenQuery). if_some o None (λ (x : OpenQuery). option_map (λ (l : ScanLeaf). l.leaf) (slice_get x.leaves place))) asked.1
       ∙ sym (slice_get-map (λ (l : ScanLeaf). l.leaf) q.leaves place)
       ∙ ap (λ (ls : List Leaf). slice_get ls place) planned
-      ∙ own.there
+      ∙ own.there in
+      (there, above ∙ sym own.below)
+
+  -- what is read of a leaf of the plan of a query text is read for the open query that was asked with it
+  pub own_read : (text : List ℕ) (params : List Parameter) (query place : ℕ) (leaf : Leaf) (top : BoundQuery)
+      → ((q : OpenQuery) × (find (is_query query) (machine_of j).queries ≡ Some q) × (q.text ≡ text) × (q.params ≡ params)) → IsLeafOf schema text params place leaf top
+      → ((t : List ℕ) (ps : List Parameter) (u v : Result Statement Refusal) → Understands schema t ps u → Understands schema t ps v → u ≡ v)
+      → (cs : List KeyVersions) (range : KeyRange) (s : ℕ) (piece : Piece) → IsRead schema cs range s leaf top place piece → IsReadFor schema (machine_of j) query place cs range s piece
+  own_read text params query place leaf top asked own unique cs range s piece read = λ question found_leaf found there.
+      let is = own_leaf text params query place leaf top asked own unique in
+      subst (λ (x : Leaf). IsRead schema cs range s x question.top place piece) (same_Some leaf found_leaf (sym is.0 ∙ there))
+      (subst (λ (x : OpenQuery). IsRead schema cs range s leaf x.top place piece) (same_Some asked.0 question (sym asked.1 ∙ found))
+      (subst (λ (t : BoundQuery). IsRead schema cs range s leaf t place piece) (sym is.1) read))
 
   -- what was taken of an open query is what its text is understood as
   taken_understood : (query : ℕ) (taken : Taken) → IsQuestionOf (machine_of j) query taken → Understands schema taken.text taken.params (Ok taken.statement)
@@ -257,24 +277,25 @@ keeper_first schema other table here views j same rules at is begun none = subst
     })
 
 -- the tables of a leaf of a plan are tables of the schema
-pub leaf_tables : (schema : List Table) (text : List ℕ) (params : List Parameter) (place : ℕ) (leaf : Leaf) → IsLeafOf schema text params place leaf → AllByRecursion (IsTable schema) leaf.tables
-leaf_tables schema text params place leaf own =
+pub leaf_tables : (schema : List Table) (text : List ℕ) (params : List Parameter) (place : ℕ) (leaf : Leaf) (top : BoundQuery) → IsLeafOf schema text params place leaf top → AllByRecursion (IsTable schema) leaf.tables
+leaf_tables schema text params place leaf top own =
     all_found_at (λ (l : Leaf). AllByRecursion (IsTable schema) l.tables) (statement_plan schema own.statement).leaves place leaf own.there
     (leaves_tabled schema own.statement.leaves own.plannable.tables own.statement.query own.plannable.sized)
 
 -- it is maskable
-pub leaf_maskable : (schema : List Table) (text : List ℕ) (params : List Parameter) (place : ℕ) (leaf : Leaf) → IsLeafOf schema text params place leaf → IsMaskable schema leaf
-leaf_maskable schema text params place leaf own =
+pub leaf_maskable : (schema : List Table) (text : List ℕ) (params : List Parameter) (place : ℕ) (leaf : Leaf) (top : BoundQuery) → IsLeafOf schema text params place leaf top → IsMaskable schema leaf
+leaf_maskable schema text params place leaf top own =
     all_found_at (IsMaskable schema) (statement_plan schema own.statement).leaves place leaf own.there
     (leaves_maskable schema own.statement.leaves (keyed schema) own.statement.query own.plannable.sized)
 
 -- a leaf of the plan of what a query text is understood as
-pub plan_leaf : (schema : List Table) (text : List ℕ) (params : List Parameter) (plan : Plan) (place : ℕ) (leaf : Leaf) → IsPlanOf schema text params plan → slice_get plan.leaves place ≡ Some leaf → IsLeafOf schema text params place leaf
+pub plan_leaf : (schema : List Table) (text : List ℕ) (params : List Parameter) (plan : Plan) (place : ℕ) (leaf : Leaf) → IsPlanOf schema text params plan → slice_get plan.leaves place ≡ Some leaf → IsLeafOf schema text params place leaf plan.top
 plan_leaf schema text params plan place leaf own there = record {
   statement = own.statement;
   understood = own.understood;
   plannable = own.plannable;
   there = ap (λ (p : Plan). slice_get p.leaves place) (sym own.is) ∙ there;
+  below = ap (λ (p : Plan). p.top) own.is;
 }
 
 -- rows that are made of what was taken answer the query text that was asked, where it is the one that was taken

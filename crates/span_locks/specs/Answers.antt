@@ -3,6 +3,7 @@ use Rattle.std.specs.Prelude.{◌≡◌, ℕ, List, Some, Ok, slice_get}
 use Rattle.span_schema.specs.declared.table.Table.{Table}
 use Rattle.span_mutate.specs.declared.row.TableRow.{TableRow}
 use Rattle.span_params.specs.declared.params.Parameter.{Parameter}
+use Rattle.span_query.specs.declared.query.BoundQuery.{BoundQuery}
 use Rattle.span_query.specs.declared.query.Statement.{Statement}
 use Rattle.span_query.specs.Rows.{Row}
 use Rattle.span_columns.specs.declared.leaf.Leaf.{Leaf}
@@ -30,10 +31,11 @@ pub record IsPlanOf (schema : List Table) (text : List ℕ) (params : List Param
   pub plannable : IsPlannable schema statement
   pub is : plan ≡ statement_plan schema statement
 
--- the leaf is at this place in that plan
-pub record IsLeafOf (schema : List Table) (text : List ℕ) (params : List Parameter) (place : ℕ)
-    (leaf : Leaf) : Type 0 where
+-- the leaf is at this place in that plan, below this query
+pub record IsLeafOf (schema : List Table) (text : List ℕ) (params : List Parameter) (place : ℕ) (leaf : Leaf)
+    (top : BoundQuery) : Type 0 where
   pub statement : Statement
   pub understood : Understands schema text params (Ok statement)
   pub plannable : IsPlannable schema statement
   pub there : slice_get (statement_plan schema statement).leaves place ≡ Some leaf
+  pub below : top ≡ (statement_plan schema statement).top

@@ -21,13 +21,13 @@ use span_board::question::is_asked;
 use span_board::seats;
 use span_columns::leaf::Leaf;
 use span_fragment::piece::Piece;
-use span_fragment::run::LeafUse;
 use span_journal::journal::{Gap, Journal};
 use span_keycode::key::Key;
 use span_params::params::Params;
 use span_parts::cut::cut_in;
 use span_parts::read::read_leaf;
 use span_parts::slot;
+use span_query::query::BoundQuery;
 use span_shard::shard::Shard;
 use span_truetime::interval::Interval;
 use span_value::refusal::Refusal;
@@ -235,22 +235,23 @@ impl<J: Naming> LockedSlot<J> {
         }
     }
 
-    /// What a leaf of a query gives on a part of its range, as far as this slot has it, with what is done for the part of what the query
-    /// above does with all rows of the leaf. The only refusal is `OutOfMemory`: a slot has rows of the schema's tables, so no bytes in it are
-    /// other than a key and a row.
+    /// What a leaf of a query gives on a part of its range, as far as this slot has it, or rows that are as good for the query above the
+    /// leaves, whose leaf it is at this place. The only refusal is `OutOfMemory`: a slot has rows of the schema's tables, so no bytes in it
+    /// are other than a key and a row.
     pub fn read(
         &self,
         board: &Board<J>,
         leaf: &Leaf,
-        leaf_use: Option<LeafUse<'_>>,
+        top: &BoundQuery,
+        place: usize,
         gap: &Gap,
     ) -> Result<Piece, Refusal>
-        requires { (text : List ℕ) × (params : List Parameter) × (place : ℕ)
-            × IsLeafOf J.schema text params place leaf.now }
-        ensures read { IfOk result (λ piece. IsRead J.schema self.now.versions gap.now.range gap.now.s piece leaf.now) }
+        requires { (text : List ℕ) × (params : List Parameter) × IsLeafOf J.schema text params place leaf.now top.now }
+        ensures read { IfOk result
+            (IsRead J.schema self.now.versions gap.now.range gap.now.s leaf.now top.now place) }
         ensures memory { IfErr result (λ why. why ≡ Refusal.OutOfMemory) }
     {
-        match read_leaf(board.alloc, &board.schema, &self.shard, leaf, leaf_use, gap) {
+        match read_leaf(board.alloc, &board.schema, &self.shard, leaf, top, place, gap) {
             Ok(piece) => Ok(piece),
             Err(_) => Err(Refusal::OutOfMemory),
         }
@@ -267,12 +268,13 @@ impl<J: Naming> LockedSlot<J> {
         query: u64,
         place: usize,
         leaf: &Leaf,
+        top: &BoundQuery,
         interval: Interval,
         gap: &Gap,
         piece: Piece,
     ) -> Result<bool, Refusal>
-        requires leaf { IsLeafOf J.schema text.now params.now place leaf.now }
-        requires read { IsRead J.schema self.old.versions gap.now.range gap.now.s piece leaf.now }
+        requires leaf { IsLeafOf J.schema text.now params.now place leaf.now top.now }
+        requires read { IsRead J.schema self.old.versions gap.now.range gap.now.s leaf.now top.now place piece }
         ensures same { (self.new ≡ self.old) × (journal.new ≡ journal.old) }
         ensures refused { IfErr result (IsUnscanned J.schema) }
     {
@@ -284,6 +286,7 @@ impl<J: Naming> LockedSlot<J> {
         }
         understanding_is_unique();
         let _ = leaf;
+        let _ = top;
         let keeper = mem::replace(&mut journal.badge, Badge::blank());
         journal.badge = seats::agree(board, &mut self.seat, keeper);
         slot::register(

@@ -1,6 +1,6 @@
 -- A scan that is cut in three, at one slot.
 use Rattle.std.proofs.Common.{◌≡◌, ℕ, Bool, true, not, nat_lt, List, [], ◌∷◌, Option, Some, None, Result, Ok, Err, ap, sym, ◌∙◌, subst, inl, inr}
-use Rattle.std.specs.Prelude.{IfErr, IfSome, OnOk, slice_get}
+use Rattle.std.specs.Prelude.{IfErr, OnOk, slice_get}
 use Rattle.span_value.specs.declared.refusal.Refusal.{Refusal}
 use Rattle.span_value.specs.declared.refusal.Refusal.TheVariants as refusal
 use Rattle.span_value.specs.Results.{first_cause}
@@ -17,12 +17,11 @@ use Rattle.span_machine.specs.declared.query.OpenQuery.{OpenQuery}
 use Rattle.span_machine.specs.Machine.{Machine, Answer, Answers, if_some, is_safe, with_risen_floor, scan}
 use Rattle.span_machine.specs.Pieces.{Journaled, machine_of}
 use Rattle.span_journal.specs.declared.journal.Gap.{Gap}
-use Rattle.span_journal.specs.Judged.{leaf_of, IsUnclaimed, MayScan, IsRegistered, IsUnregistered, IsUnchanged}
+use Rattle.span_journal.specs.Judged.{IsUnclaimed, MayScan, IsRegistered, IsUnregistered, IsUnchanged}
 use Rattle.span_journal.specs.Scans.{piece_refusal, register_refusal}
 use Rattle.span_openqueries.specs.Targets.{is_free}
-use Rattle.span_parts.specs.Whole.{GoesWith, StaysAt, IsRead}
-use Rattle.span_parts.proofs.Changes.{of_some}
-use Rattle.span_parts.proofs.Scanning.{scanned_leaf, scanned_whole}
+use Rattle.span_parts.specs.Whole.{GoesWith, StaysAt, IsReadFor}
+use Rattle.span_parts.proofs.Scanning.{scanned_whole}
 use Rattle.span_parts.proofs.Wholes.{no_text, goes_same, goes_by, pieces_same}
 
 -- why nothing is claimed is the scan's answer, or out of memory
@@ -74,8 +73,7 @@ module _ (schema : List Table) (j : Journaled) (query leaf slot : ℕ) (interval
 
   module _ (other : KeyRange) (at : ℕ) (piece : Piece) (range_same : range ≡ other) (s_same : s ≡ at) (k : Journaled) (g : IsRegistered j query leaf slot interval range piece k) where
     -- the piece was read of the same gap
-    pub registered_whole : (cs : List KeyVersions) → IfSome (leaf_of m query leaf) (IsRead schema cs other at piece) → StaysAt schema slot j k cs
+    pub registered_whole : (cs : List KeyVersions) → IsReadFor schema m query leaf cs other at piece → StaysAt schema slot j k cs
     registered_whole cs read = λ shards w there.
-        let own : IsRead schema cs other at piece d.gap.leaf = of_some (IsRead schema cs other at piece) (leaf_of m query leaf) d.gap.leaf (scanned_leaf schema j shards w query leaf slot interval range s d) read in
         scanned_whole schema j shards w query leaf slot interval range s d piece k g cs there
-        (subst (λ (r : KeyRange). IsRead schema cs r s piece d.gap.leaf) (sym range_same) (subst (λ (i : ℕ). IsRead schema cs other i piece d.gap.leaf) (sym s_same) own))
+        (subst (λ (r : KeyRange). IsReadFor schema m query leaf cs r s piece) (sym range_same) (subst (λ (i : ℕ). IsReadFor schema m query leaf cs other i piece) (sym s_same) read))

@@ -1,6 +1,6 @@
 -- Scan of a leaf in a slot.
 use Rattle.std.proofs.Common.{◌≡◌, ℕ, ◌≤◌, cond, true, List, Option, Some, None, refl, ap, sym, ◌∙◌, subst, inl, inr}
-use Rattle.std.specs.Prelude.{IfSome, MatchOption, Result, Err, find, slice_get, option_map}
+use Rattle.std.specs.Prelude.{IfSome, MatchOption, MatchResult, Result, Ok, Err, find, slice_get, option_map}
 use Rattle.std.specs.List.{AllByRecursion}
 use Rattle.span_schema.specs.Numbers.{IsTable}
 use Rattle.span_columns.specs.declared.leaf.Leaf.{Leaf}
@@ -29,7 +29,7 @@ use Rattle.span_version_laws.proofs.AllKept.{all_kept_by_step}
 use Rattle.span_version_laws.proofs.Snapshots.{snapshot_when_safe}
 use Rattle.span_version_laws.proofs.Covers.{pieced_tables, pieced_maskable, pieced_scanned, covered-queries, find-queries, found_query}
 use Rattle.span_journal.specs.Judged.{leaf_of, MayScan, IsRegistered}
-use Rattle.span_parts.specs.Whole.{Shards, IsWhole, IsRead, IsUnread}
+use Rattle.span_parts.specs.Whole.{Shards, IsWhole, IsRead, IsReadFor, IsUnread}
 use Rattle.span_parts.proofs.Wholes.{no_text}
 
 -- the answer of a scan that covers a part of a leaf
@@ -116,15 +116,17 @@ module _ (schema : List Table) (j : Journaled) (shards : Shards) (w : IsWhole sc
     scanned_answer = (sym (ap (λ (a : Answer). a.0) scan_is), registered_is)
 
     -- the piece has the rows of its range
-    pub scanned_whole : (cs : List KeyVersions) → slice_get shards slot ≡ Some cs → IsRead schema cs range s piece d.gap.leaf → IsWhole schema k shards
-    scanned_whole cs there reading =
+    pub scanned_whole : (cs : List KeyVersions) → slice_get shards slot ≡ Some cs → IsReadFor schema m query leaf cs range s piece → IsWhole schema k shards
+    scanned_whole cs there reading_of =
+        let reading : IsRead schema cs range s d.gap.leaf d.question.top leaf piece = reading_of d.question d.gap.leaf d.found scanned_leaf in
         let read_at : s ≡ g.question.query.s = d.at ∙ ap (λ (q : OpenQuery). q.s) (sym same) in
         let safe : is_safe m slot risen g.question.query.s ≡ true = ap (λ (q : OpenQuery). is_safe m slot risen q.s) same ∙ d.safe in
         let high : d.slot_state.horizon ≤ g.question.query.s = subst (λ (q : OpenQuery). d.slot_state.horizon ≤ q.s) (sym same) (ltb-false d.question.s d.slot_state.horizon d.above) in
         let leaf_there : slice_get g.question.query.leaves leaf ≡ Some d.gap = ap (λ (q : OpenQuery). slice_get q.leaves leaf) same ∙ d.there in
         let part : gap_in d.slot_state d.gap ≡ Some range = d.uncovered ∙ ap (λ (r : KeyRange). Some r) (sym d.of_part) in
-        let reading_there : IsPieceOf schema d.gap.leaf (snapshot range g.question.query.s cs) piece =
-        subst (λ i. IsPieceOf schema d.gap.leaf (snapshot range i cs) piece) read_at reading in
+        let reading_there : IsPieceOf schema d.gap.leaf g.question.query.top leaf (snapshot range g.question.query.s cs) piece =
+        subst (λ i. IsPieceOf schema d.gap.leaf g.question.query.top leaf (snapshot range i cs) piece) read_at
+        (subst (λ (q : OpenQuery). IsRead schema cs range s d.gap.leaf q.top leaf piece) (sym same) reading) in
         let pieced : ArePieced schema m (changed_first (λ (x : Pieced). is_query query x.query) (covered_by leaf range piece) j.queries) =
         pieced_scanned schema w.rules m cs j.queries w.reached (w.kept.each slot cs there) w.pieced query g.question d.slot_state risen g.found d.here safe high leaf d.gap range leaf_there part piece reading_there in
         record {
@@ -139,3 +141,20 @@ module _ (schema : List Table) (j : Journaled) (shards : Shards) (w : IsWhole sc
 
 pub of_leaf : (Q : Leaf → Type 0) (r : Result Piece Refusal) (o : Option Leaf) (l : Leaf) → o ≡ Some l → MatchOption o (r ≡ Err refusal.UnknownQuery) Q → Q l
 of_leaf Q r o l there read = subst (λ (p : Option Leaf). MatchOption p (r ≡ Err refusal.UnknownQuery) Q) there read
+
+-- what is read of the leaf of an open query
+pub read_for : (schema : List Table) (m : Machine) (query place : ℕ) (cs : List KeyVersions) (range : KeyRange) (s : ℕ) (question : OpenQuery) (own : Leaf) → Some question ≡ find (is_query query) m.queries → Some own ≡ leaf_of m query place
+    → (r : Result Piece Refusal) → MatchResult r (IsRead schema cs range s own question.top place) (IsUnread schema cs range s)
+    → MatchOption (leaf_of m query place) (r ≡ Err refusal.UnknownQuery) (λ _. MatchResult r (IsReadFor schema m query place cs range s) (IsUnread schema cs range s))
+read_for schema m query place cs range s question own asked here r read =
+    subst (λ (o : Option Leaf). MatchOption o (r ≡ Err refusal.UnknownQuery) (λ _. MatchResult r (IsReadFor schema m query place cs range s) (IsUnread schema cs range s))) here (for_query r read)
+  where
+    for_query : (x : Result Piece Refusal) → MatchResult x (IsRead schema cs range s own question.top place) (IsUnread schema cs range s) → MatchResult x (IsReadFor schema m query place cs range s) (IsUnread schema cs range s)
+    for_query (Ok piece) is = λ q l found there.
+        subst (λ (x : OpenQuery). IsRead schema cs range s l x.top place piece) (same_Some question q (asked ∙ found))
+        (subst (λ (x : Leaf). IsRead schema cs range s x question.top place piece) (same_Some own l (here ∙ there)) is)
+    for_query (Err why) is = is
+
+-- a query that is not open has no leaf
+pub no_query : (m : Machine) (query place : ℕ) → None ≡ find (is_query query) m.queries → leaf_of m query place ≡ None
+no_query m query place none = sym (ap (λ (o : Option OpenQuery). if_some o None (λ q. option_map (λ (l : ScanLeaf). l.leaf) (slice_get q.leaves place))) none)

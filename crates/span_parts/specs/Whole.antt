@@ -20,15 +20,17 @@ use Rattle.span_columns.specs.declared.leaf.Leaf.{Leaf}
 use Rattle.span_fragment.specs.declared.piece.Piece.{Piece}
 use Rattle.span_rowreader.specs.Entries.{AreNoRows}
 use Rattle.span_fragment.specs.Pieces.{IsPieceOf}
+use Rattle.span_query.specs.declared.query.BoundQuery.{BoundQuery}
 use Rattle.span_query.specs.Rows.{Row}
+use Rattle.span_machine.specs.declared.query.OpenQuery.{OpenQuery}
 use Rattle.span_machine.specs.declared.transaction.Commit.{Commit}
 use Rattle.span_machine.specs.declared.transaction.OpenTransaction.{OpenTransaction}
-use Rattle.span_machine.specs.Machine.{Machine, is_transaction, commit_of}
+use Rattle.span_machine.specs.Machine.{Machine, is_query, is_transaction, commit_of}
 use Rattle.span_machine.specs.Meaning.{means}
 use Rattle.span_machine.specs.Tables.{tables}
 use Rattle.span_machine.specs.Pieces.{Journaled, machine_of}
 use Rattle.span_machine_laws.proofs.Reached.{IsReached}
-use Rattle.span_journal.specs.Judged.{MayPrepare}
+use Rattle.span_journal.specs.Judged.{MayPrepare, leaf_of}
 use Rattle.span_openqueries.specs.declared.taken.Taken.{Taken}
 pub use Rattle.span_version_laws.specs.Kept.{AreKept, AreAllKept, ArePieced}
 
@@ -48,9 +50,15 @@ pub record IsWhole (schema : List Table) (j : Journaled) (shards : Shards) : Typ
 abbrev pub GoesWith : List Table → Journaled → Journaled → Type 0
 GoesWith schema old new = (shards : Shards) → IsWhole schema old shards → IsWhole schema new shards
 
--- the piece has what the leaf gives on a range, at s
-abbrev pub IsRead : List Table → List KeyVersions → KeyRange → ℕ → Piece → Leaf → Type 0
-IsRead schema cs range s piece leaf = IsPieceOf schema leaf (snapshot range s cs) piece
+-- For the query above the leaves, whose leaf it is at this place, the piece has as good rows as those that the leaf gives on a range, at s.
+abbrev pub IsRead : List Table → List KeyVersions → KeyRange → ℕ → Leaf → BoundQuery → ℕ → Piece → Type 0
+IsRead schema cs range s leaf query place piece = IsPieceOf schema leaf query place (snapshot range s cs) piece
+
+-- the piece is read so for an open query, of its leaf at this place
+abbrev pub IsReadFor : List Table → Machine → ℕ → ℕ → List KeyVersions → KeyRange → ℕ → Piece → Type 0
+IsReadFor schema m query place cs range s piece =
+    (question : OpenQuery) (leaf : Leaf) → find (is_query query) m.queries ≡ Some question → leaf_of m query place ≡ Some leaf
+    → IsRead schema cs range s leaf question.top place piece
 
 -- why nothing is read: out of memory, or bytes that are no row
 abbrev pub IsUnread : List Table → List KeyVersions → KeyRange → ℕ → Refusal → Type 0

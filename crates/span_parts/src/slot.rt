@@ -2,7 +2,7 @@
 //! locks: each is the machine's step, and leaves a journal that goes with the shards of all other slots as before.
 //!
 //! A scan is cut in three: `claim` on the journal alone, `read::read_leaf` on the shard alone, `register` on both.
-ghost use Rattle.std.specs.Prelude.{◌≡◌, ◌⊎◌, ◌≤◌, true, false, List, IfErr, IfOk, IfSome, OnOk, OnErr, MatchResult};
+ghost use Rattle.std.specs.Prelude.{◌≡◌, ◌⊎◌, ◌≤◌, true, false, List, IfErr, IfOk, OnOk, OnErr, MatchResult};
 ghost use Rattle.span_arena.specs.Limits.{most_nodes};
 ghost use Rattle.span_mutate.specs.Typed.{AreTypedMutations};
 ghost use Rattle.span_shard.specs.KeyVersions.{KeyVersions};
@@ -12,9 +12,9 @@ ghost use Rattle.span_store.specs.declared.write.Write.{Write};
 ghost use Rattle.span_machine.specs.Machine.{Answers, IsAnswer, prepare, apply_step, trim, scan};
 ghost use Rattle.span_machine.specs.Pieces.{machine_of};
 ghost use Rattle.span_machine.specs.declared.step.Reply.TheVariants as reply_of;
-ghost use Rattle.span_journal.specs.Judged.{IsGap, leaf_of};
+ghost use Rattle.span_journal.specs.Judged.{IsGap};
 ghost use Rattle.span_parts.specs.Replies.{as_reply};
-ghost use Rattle.span_parts.specs.Whole.{BelongsAt, GoesWith, GoesAt, StaysAt, IsWrittenAt, IsRead};
+ghost use Rattle.span_parts.specs.Whole.{BelongsAt, GoesWith, GoesAt, StaysAt, IsWrittenAt, IsReadFor};
 
 use span_fragment::piece::Piece;
 use span_journal::journal::{Gap, Journal};
@@ -219,8 +219,15 @@ pub fn register(
     piece: Piece,
 ) -> Result<bool, Refusal>
     requires belongs { BelongsAt schema.now journal.old slot shard.now }
-    requires read { IfSome (leaf_of (machine_of journal.old) query leaf)
-        (IsRead schema.now shard.now gap.now.range gap.now.s piece) }
+    requires read { IsReadFor
+        schema.now
+        (machine_of journal.old)
+        query
+        leaf
+        shard.now
+        gap.now.range
+        gap.now.s
+        piece }
     ensures scanned { result ≡ Ok true
         → IsAnswer (scan (machine_of journal.old) query leaf slot interval) reply_of.Scanned (machine_of journal.new) }
     ensures same { result ≡ Ok false → machine_of journal.new ≡ machine_of journal.old }

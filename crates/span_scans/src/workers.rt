@@ -8,9 +8,9 @@ use crate::question::leaf_at;
 use crate::scan_queue::ScanQueue;
 use span_board::board::Naming;
 use span_columns::leaf::{Leaf, Plan};
-use span_fragment::run::{LeafUse, leaf_use};
 use span_journal::journal::Gap;
 use span_params::params::Params;
+use span_query::query::BoundQuery;
 use span_transactions::slots::MOST_SLOTS;
 use span_truetime::clock::Clock;
 use span_truetime::interval::Interval;
@@ -51,8 +51,8 @@ struct SlotLeaf<'a> {
     leaf: &'a Leaf,
     /// Its place in the plan.
     place: usize,
-    /// What the query does with all rows of the leaf, where parts of it are done where the rows are read.
-    leaf_use: Option<LeafUse<'a>>,
+    /// The query above the leaves.
+    top: &'a BoundQuery,
     /// The number of the slot.
     slot: usize,
 }
@@ -175,7 +175,7 @@ impl<J: Naming> Locks<J> {
                 let leaf = SlotLeaf {
                     leaf,
                     place,
-                    leaf_use: leaf_use(&query.plan.top, place),
+                    top: &query.plan.top,
                     slot,
                 };
                 self.scan_slot(rt, clock, gate, query, queue, &leaf);
@@ -194,7 +194,7 @@ impl<J: Naming> Locks<J> {
         queue: &Mutex<ScanQueue<J>>,
         leaf: &SlotLeaf<'_>,
     )
-        requires { IsLeafOf J.schema query.now.text.now query.now.params.now leaf.now.place leaf.now.leaf.now }
+        requires { IsLeafOf J.schema query.now.text.now query.now.params.now leaf.now.place leaf.now.leaf.now leaf.now.top.now }
     {
         for _ in rt.forever() {
             if !self.scan(rt, clock, gate, query, queue, leaf) {
@@ -213,7 +213,7 @@ impl<J: Naming> Locks<J> {
         queue: &Mutex<ScanQueue<J>>,
         leaf: &SlotLeaf<'_>,
     ) -> bool
-        requires { IsLeafOf J.schema query.now.text.now query.now.params.now leaf.now.place leaf.now.leaf.now }
+        requires { IsLeafOf J.schema query.now.text.now query.now.params.now leaf.now.place leaf.now.leaf.now leaf.now.top.now }
     {
         let interval = clock.now();
         let Some(gap) = self.claim(rt, query.number, queue, leaf.place, leaf.slot, interval) else {
@@ -267,11 +267,11 @@ impl<J: Naming> Locks<J> {
         interval: Interval,
         gap: &Gap,
     ) -> Result<(), Refusal>
-        requires { IsLeafOf J.schema query.now.text.now query.now.params.now leaf.now.place leaf.now.leaf.now }
+        requires { IsLeafOf J.schema query.now.text.now query.now.params.now leaf.now.place leaf.now.leaf.now leaf.now.top.now }
         ensures { IfErr result (IsUnscanned J.schema) }
     {
         let mut slot = self.slot(leaf.slot)?.lock(rt);
-        let piece = slot.read(&self.board, leaf.leaf, leaf.leaf_use, gap)?;
+        let piece = slot.read(&self.board, leaf.leaf, leaf.top, leaf.place, gap)?;
         gate.in_scan(leaf.place, leaf.slot);
         let mut queue = queue.lock(rt);
         let mut journal = self.journal.lock(rt);
@@ -283,6 +283,7 @@ impl<J: Naming> Locks<J> {
             query.number,
             leaf.place,
             leaf.leaf,
+            leaf.top,
             interval,
             gap,
             piece,

@@ -1,6 +1,6 @@
 -- A shard has of each key the versions that the log's commits made there, trimmed at the horizon, one that is not
 -- applied yet left out, and the write that the transaction prepared there is to leave.
-use Rattle.std.proofs.Common.{◌≡◌, ◌≢◌, ℕ, Bool, true, nat_le, if◌then◌else◌, List, [], ◌∷◌, ◌++◌, length, ◌≤◌, Option, Some, None, Ok}
+use Rattle.std.proofs.Common.{◌≡◌, ◌≢◌, ℕ, suc, Bool, true, nat_le, if◌then◌else◌, List, [], ◌∷◌, ◌++◌, length, ◌≤◌, Option, Some, None, Ok}
 use Rattle.std.specs.Prelude.{filter, map, slice_get}
 use Rattle.std.specs.List.{AllByRecursion}
 use Rattle.span_schema.specs.declared.table.Table.{Table}
@@ -22,6 +22,8 @@ use Rattle.span_shard.specs.Rows.{code_of, row_coded}
 use Rattle.span_shard.specs.Reading.{is_same_row}
 use Rattle.span_shard.specs.Versions.{row_at, kept_upto}
 use Rattle.span_shard.specs.Shard.{KeyRow, versions_at, prepared_at, AreInOrder, IsInUse}
+use Rattle.span_query.specs.Rows.{Rows}
+use Rattle.span_algebra.specs.SameMeaning.{MeanTheSame}
 use Rattle.span_columns.specs.declared.leaf.Leaf.{Leaf}
 use Rattle.span_planner.specs.Plannable.{IsPlannable}
 use Rattle.span_fragment.specs.declared.piece.Piece.{Piece}
@@ -148,34 +150,37 @@ pub record AreAllKept (schema : List Table) (m : Machine) (shards : List (List K
 
 -- ---- the pieces of open queries
 
--- the piece has what the leaf gives on the rows of the range, at s
-pub record HasRowsIn (schema : List Table) (log : List Commit) (s : ℕ) (leaf : Leaf) (range : KeyRange)
-    (piece : Piece) : Type 0 where
+-- the rows of the piece are as good as those that the leaf gives on the rows of the range, at s
+pub record HasRowsIn (IsAsGood : Rows → Rows → Type 0) (schema : List Table) (log : List Commit) (s : ℕ) (leaf : Leaf)
+    (range : KeyRange) (piece : Piece) : Type 0 where
   pub db : List TableRow
   pub made : tables schema log s ≡ Ok db
-  pub whole : piece.rows ≡ leaf_within schema db leaf range
+  pub good : IsAsGood piece.rows (leaf_within schema db leaf range)
 
--- each piece of a leaf has what the leaf gives on its range
-abbrev pub AreRead : List Table → List Commit → ℕ → Leaf → List KeyRange → List Piece → Type 0
-AreRead schema log s leaf [] [] = Unit {0}
-AreRead schema log s leaf [] (piece ∷ ps) = ⊥
-AreRead schema log s leaf (c ∷ cs) [] = ⊥
-AreRead schema log s leaf (c ∷ cs) (piece ∷ ps) = HasRowsIn schema log s leaf c piece × AreRead schema log s leaf cs ps
+-- each piece of a leaf has rows as good as those that the leaf gives on its range
+abbrev pub AreRead : (Rows → Rows → Type 0) → List Table → List Commit → ℕ → Leaf → List KeyRange → List Piece → Type 0
+AreRead IsAsGood schema log s leaf [] [] = Unit {0}
+AreRead IsAsGood schema log s leaf [] (piece ∷ ps) = ⊥
+AreRead IsAsGood schema log s leaf (c ∷ cs) [] = ⊥
+AreRead IsAsGood schema log s leaf (c ∷ cs) (piece ∷ ps) =
+    HasRowsIn IsAsGood schema log s leaf c piece × AreRead IsAsGood schema log s leaf cs ps
 
--- each leaf and its pieces
-abbrev pub AreLeafPieces : List Table → List Commit → ℕ → List ScanLeaf → List (List Piece) → Type 0
-AreLeafPieces schema log s [] [] = Unit {0}
-AreLeafPieces schema log s [] (pieces ∷ ps) = ⊥
-AreLeafPieces schema log s (l ∷ ls) [] = ⊥
-AreLeafPieces schema log s (l ∷ ls) (pieces ∷ ps) =
-    AreRead schema log s l.leaf l.covered pieces × AreLeafPieces schema log s ls ps
+-- each leaf and its pieces, where a leaf's place, counted from 0, says which rows are as good as others
+abbrev pub AreLeafPieces : (ℕ → Rows → Rows → Type 0) → List Table → List Commit → ℕ → List ScanLeaf → List (List Piece)
+    → Type 0
+AreLeafPieces AreAsGood schema log s [] [] = Unit {0}
+AreLeafPieces AreAsGood schema log s [] (pieces ∷ ps) = ⊥
+AreLeafPieces AreAsGood schema log s (l ∷ ls) [] = ⊥
+AreLeafPieces AreAsGood schema log s (l ∷ ls) (pieces ∷ ps) =
+    AreRead (AreAsGood 0) schema log s l.leaf l.covered pieces
+    × AreLeafPieces (λ (place : ℕ). AreAsGood (suc place)) schema log s ls ps
 
--- the leaves are those of the plan of a statement that can be planned, and each has its pieces
+-- The leaves are those of the plan of a statement that can be planned, and each has its pieces, whose rows are as good for the query above.
 pub record IsPieced (schema : List Table) (log : List Commit) (p : Pieced) : Type 0 where
   pub plannable : IsPlannable schema p.query.statement
   pub of_plan : map (λ (l : ScanLeaf). l.leaf) p.query.leaves ≡ (statement_plan schema p.query.statement).leaves
   pub top : p.query.top ≡ (statement_plan schema p.query.statement).top
-  pub leaves : AreLeafPieces schema log p.query.s p.query.leaves p.pieces
+  pub leaves : AreLeafPieces (MeanTheSame p.query.top) schema log p.query.s p.query.leaves p.pieces
 
 abbrev pub ArePieced : List Table → Machine → List Pieced → Type 0
 ArePieced schema m ps = AllByRecursion (IsPieced schema m.log) ps

@@ -1,11 +1,9 @@
 use Rattle.std.proofs.Common.{◌∙◌, sym, ap, subst, inl, inr}
-use Rattle.std.specs.Prelude.{Option, IfSome}
-use Rattle.span_columns.specs.declared.leaf.Leaf.{Leaf}
 use Rattle.span_machine.specs.declared.step.Reply.TheVariants as reply_of
 use Rattle.span_machine.specs.Machine.{Machine, Answers, IsAnswer, scan}
 use Rattle.span_machine.specs.Pieces.{Journaled, machine_of}
-use Rattle.span_journal.specs.Judged.{IsGap, MayScan, leaf_of}
-use Rattle.span_parts.specs.Whole.{IsRead}
+use Rattle.span_journal.specs.Judged.{IsGap, MayScan}
+use Rattle.span_parts.specs.Whole.{IsReadFor}
 use Rattle.span_parts.proofs.AtSlot.{unclaimed_answer, unclaimed_goes, unregistered_is, unregistered_same, registered_whole}
 use Rattle.span_parts.proofs.Scanning.{scanned_answer}
 use Rattle.span_parts.proofs.Wholes.{goes_same}
@@ -34,7 +32,7 @@ returns-in-Ok-clause-whole c = λ shards w there.
     let may_then = subst (λ (m : Machine). MayScan m a.query a.leaf a.slot a.interval gap.range gap.s) (sym same) may in
     let w_then = goes_same a.schema.now a.journal.now k same c.in-Ok-Some.ensures.pieces shards w in
     let one = c.are_same.ensures (c.if-not-are_same.false) in
-    let read = subst (λ (m : Machine). IfSome (leaf_of m a.query a.leaf) (IsRead a.schema.now a.shard.now a.gap.now.range a.gap.now.s a.piece)) (sym same) c.requires.read in
+    let read = subst (λ (m : Machine). IsReadFor a.schema.now m a.query a.leaf a.shard.now a.gap.now.range a.gap.now.s a.piece) (sym same) c.requires.read in
     registered_whole a.schema.now k a.query a.leaf a.slot a.interval gap.range gap.s may_then a.gap.now.range a.gap.now.s a.piece one.0 one.1 c.register.new.self c.in-Ok.ensures.ok a.shard.now read shards w_then there
 
 pub returns-in-Err-clause-refused : goal.returns-in-Err-clause-refused

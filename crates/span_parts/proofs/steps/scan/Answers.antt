@@ -6,7 +6,7 @@ use Rattle.span_machine.specs.declared.step.Reply.TheVariants as reply_of
 use Rattle.span_machine.specs.Machine.{Machine, Answer, Answers, scan}
 use Rattle.span_machine.specs.Pieces.{machine_of}
 use Rattle.span_journal.specs.Judged.{IsGap, MayScan}
-use Rattle.span_parts.specs.Whole.{IsRead, IsUnread}
+use Rattle.span_parts.specs.Whole.{IsReadFor, IsUnread}
 use Rattle.span_parts.proofs.Changes.{shard_there}
 use Rattle.span_parts.proofs.Scanning.{of_leaf, scanned_leaf, scanned_tables, scanned_maskable, reads, scanned_answer, scanned_whole}
 use Rattle.span_parts.proofs.Wholes.{no_text, goes_same, goes_by, pieces_same}
@@ -57,7 +57,7 @@ returns-in-Ok-register-clause-whole c =
     let w = goes_same a.schema.now a.journal.now k same c.in-Ok-Some.ensures.pieces a.shards.now c.requires in
     let found = shard_there a.schema.now a.journal.now a.shards.now c.requires a.slot may.slot_state may.here in
     let there = found.1 ∙ ap (λ x. Some x) (sym (c.index-shards-slot.is ∙ get_or_from_slice_get a.shards.now a.slot found.0 c.index-shards-slot.result found.1)) in
-    let read = of_leaf (IsRead a.schema.now c.index-shards-slot.result gap.range gap.s c.in-Ok.piece) (Ok c.in-Ok.piece) _ _ (scanned_leaf a.schema.now k a.shards.now w a.query a.leaf a.slot a.interval gap.range gap.s may_then) c.in-Ok.ensures in
+    let read = of_leaf (λ _. IsReadFor a.schema.now (machine_of k) a.query a.leaf c.index-shards-slot.result gap.range gap.s c.in-Ok.piece) (Ok c.in-Ok.piece) _ _ (scanned_leaf a.schema.now k a.shards.now w a.query a.leaf a.slot a.interval gap.range gap.s may_then) c.in-Ok.ensures in
     scanned_whole a.schema.now k a.shards.now w a.query a.leaf a.slot a.interval gap.range gap.s may_then _ c.register.new.self c.in-Ok-register.ensures.ok c.index-shards-slot.result there read
 
 pub returns-in-Err-read_gap-clause-step : goal.returns-in-Err-read_gap-clause-step

@@ -10,10 +10,10 @@ pub read_leaf-requires-clause-tables : goal.read_leaf-requires-clause-tables
 read_leaf-requires-clause-tables g c =
     let own = c.requires in
     subst (λ (s : List Table). AllByRecursion (IsTable s) c.args.leaf.now.tables) (sym c.args.board.now.schema_is)
-    (leaf_tables g.J.Naming.schema own.0 own.1 own.2 c.args.leaf.now own.3)
+    (leaf_tables g.J.Naming.schema own.0 own.1 c.args.place c.args.leaf.now c.args.top.now own.2)
 
 pub read_leaf-requires-clause-maskable : goal.read_leaf-requires-clause-maskable
 read_leaf-requires-clause-maskable g c =
     let own = c.requires in
     subst (λ (s : List Table). IsMaskable s c.args.leaf.now) (sym c.args.board.now.schema_is)
-    (leaf_maskable g.J.Naming.schema own.0 own.1 own.2 c.args.leaf.now own.3)
+    (leaf_maskable g.J.Naming.schema own.0 own.1 c.args.place c.args.leaf.now c.args.top.now own.2)

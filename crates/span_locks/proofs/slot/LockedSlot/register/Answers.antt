@@ -1,8 +1,6 @@
-use Rattle.std.proofs.Common.{List, Option, sym, ap, ◌∙◌, subst}
-use Rattle.std.specs.Prelude.{IfSome}
+use Rattle.std.proofs.Common.{List, sym, ap, ◌∙◌, subst}
 use Rattle.span_schema.specs.declared.table.Table.{Table}
-use Rattle.span_columns.specs.declared.leaf.Leaf.{Leaf}
-use Rattle.span_parts.specs.Whole.{IsRead}
+use Rattle.span_parts.specs.Whole.{IsRead, IsReadFor}
 use Rattle.span_machine.specs.declared.step.Step.TheVariants as step
 use Rattle.span_machine.specs.Pieces.{machine_of}
 use Rattle.span_machine.specs.declared.step.Reply.TheVariants as reply
@@ -10,7 +8,7 @@ use Rattle.span_parts.proofs.Passing.{passed_register}
 use Rattle.span_parts.proofs.Wholes.{no_text}
 use Rattle.span_locks.specs.Held.{IsUnderstoodAs}
 use Rattle.span_board.specs.Rule.{SlotVersions}
-use Rattle.span_locks.proofs.Held.{slot_belongs, own_leaf, keeper_stays}
+use Rattle.span_locks.proofs.Held.{slot_belongs, own_read, keeper_stays}
 use Rattle.span_locks.proofs.Restating.{slot_known}
 use Rattle.span_board.proofs.Meets.{holder_shape, keeper_shape}
 use Rattle.span_locks.proofs.Refusing.{scan_unscanned}
@@ -43,10 +41,11 @@ register-requires-clause-read g c =
     let board = c.args.board.now in
     let me = c.self.inside in
     let asked = c.is_asked.ensures c.if-not-is_asked.false in
-    let leaf = own_leaf schema board.schema g.J.Naming.table j.badge.table_id j.badge.views j.journal board.schema_is c.journal.invariant c.args.text.now c.args.params.now c.args.query c.args.place c.args.leaf.now asked c.requires.leaf (c.understanding_is_unique.ensures schema) in
-    subst (λ (o : Option Leaf). IfSome o (IsRead board.schema me.shard c.args.gap.now.range c.args.gap.now.s c.args.piece)) (sym leaf)
-    (subst (λ (s : List Table). IsRead s me.shard c.args.gap.now.range c.args.gap.now.s c.args.piece c.args.leaf.now) (sym board.schema_is)
-    (subst (λ (k : SlotVersions). IsRead schema k.versions c.args.gap.now.range c.args.gap.now.s c.args.piece c.args.leaf.now) (sym c.self.view_is) c.requires.read))
+    let gap = c.args.gap.now in
+    let read = subst (λ (k : SlotVersions). IsRead schema k.versions gap.range gap.s c.args.leaf.now c.args.top.now c.args.place c.args.piece) (sym c.self.view_is) c.requires.read in
+    subst (λ (s : List Table). IsReadFor s (machine_of j.journal) c.args.query c.args.place me.shard gap.range gap.s c.args.piece) (sym board.schema_is)
+    (own_read schema board.schema g.J.Naming.table j.badge.table_id j.badge.views j.journal board.schema_is c.journal.invariant c.args.text.now c.args.params.now c.args.query c.args.place c.args.leaf.now c.args.top.now asked c.requires.leaf (c.understanding_is_unique.ensures schema)
+    me.shard gap.range gap.s c.args.piece read)
 
 pub invariant_of-journal : goal.invariant_of-journal
 invariant_of-journal g c =
