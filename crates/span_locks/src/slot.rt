@@ -251,7 +251,8 @@ impl<J: Naming> LockedSlot<J> {
             (IsRead J.schema self.now.versions gap.now.range gap.now.s leaf.now top.now place) }
         ensures memory { IfErr result (λ why. why ≡ Refusal.OutOfMemory) }
     {
-        match read_leaf(board.alloc, &board.schema, &self.shard, leaf, top, place, gap) {
+        let alloc = board.alloc;
+        match read_leaf(alloc, &board.schema, &self.shard, leaf, top, place, gap) {
             Ok(piece) => Ok(piece),
             Err(_) => Err(Refusal::OutOfMemory),
         }

@@ -197,9 +197,10 @@ module _ (schema : List Table) (rules : MeetsRules schema) (log : List Commit) (
   all_read R holds (l ∷ ls) [] covered are planned all = absurd all
   all_read R holds (l ∷ ls) (p ∷ ps) covered are planned all =
       let both = and_parts (is_covered l) (list_all is_covered ls) covered in
-      let tiled = leaf_tiled schema rules db is_db typed l.leaf planned.0 l.leaf.range l.covered both.0 are.0.ends are.0.range in
-      (subst (R 0 (joined_pieces p)) (sym tiled) (pieces_joined (R 0) (holds 0) l.leaf l.covered p all.0),
-      all_read (λ (i : ℕ). R (suc i)) (λ (i : ℕ). holds (suc i)) ls ps both.1 are.1 planned.1 all.1)
+      let tiled = leaf_tiled schema rules db is_db typed l.leaf planned.0 l.leaf.range l.covered both.0 are.0.ends are.0.range in (
+        subst (R 0 (joined_pieces p)) (sym tiled) (pieces_joined (R 0) (holds 0) l.leaf l.covered p all.0),
+        all_read (λ (i : ℕ). R (suc i)) (λ (i : ℕ). holds (suc i)) ls ps both.1 are.1 planned.1 all.1,
+      )
 
 -- ---- the pieces of an empty journal, and those that come, are changed and go
 
