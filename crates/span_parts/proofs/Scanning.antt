@@ -1,6 +1,6 @@
 -- Scan of a leaf in a slot.
 use Rattle.std.proofs.Common.{◌≡◌, ℕ, ◌≤◌, cond, true, List, Option, Some, None, refl, ap, sym, ◌∙◌, subst, inl, inr}
-use Rattle.std.specs.Prelude.{IfSome, MatchOption, MatchResult, Result, Ok, Err, find, slice_get, option_map}
+use Rattle.std.specs.Prelude.{IfSome, MatchOption, Result, Err, find, slice_get, option_map}
 use Rattle.std.specs.List.{AllByRecursion}
 use Rattle.span_schema.specs.Numbers.{IsTable}
 use Rattle.span_columns.specs.declared.leaf.Leaf.{Leaf}
@@ -141,20 +141,3 @@ module _ (schema : List Table) (j : Journaled) (shards : Shards) (w : IsWhole sc
 
 pub of_leaf : (Q : Leaf → Type 0) (r : Result Piece Refusal) (o : Option Leaf) (l : Leaf) → o ≡ Some l → MatchOption o (r ≡ Err refusal.UnknownQuery) Q → Q l
 of_leaf Q r o l there read = subst (λ (p : Option Leaf). MatchOption p (r ≡ Err refusal.UnknownQuery) Q) there read
-
--- what is read of the leaf of an open query
-pub read_for : (schema : List Table) (m : Machine) (query place : ℕ) (cs : List KeyVersions) (range : KeyRange) (s : ℕ) (question : OpenQuery) (own : Leaf) → Some question ≡ find (is_query query) m.queries → Some own ≡ leaf_of m query place
-    → (r : Result Piece Refusal) → MatchResult r (IsRead schema cs range s own question.top place) (IsUnread schema cs range s)
-    → MatchOption (leaf_of m query place) (r ≡ Err refusal.UnknownQuery) (λ _. MatchResult r (IsReadFor schema m query place cs range s) (IsUnread schema cs range s))
-read_for schema m query place cs range s question own asked here r read =
-    subst (λ (o : Option Leaf). MatchOption o (r ≡ Err refusal.UnknownQuery) (λ _. MatchResult r (IsReadFor schema m query place cs range s) (IsUnread schema cs range s))) here (for_query r read)
-  where
-    for_query : (x : Result Piece Refusal) → MatchResult x (IsRead schema cs range s own question.top place) (IsUnread schema cs range s) → MatchResult x (IsReadFor schema m query place cs range s) (IsUnread schema cs range s)
-    for_query (Ok piece) is = λ q l found there.
-        subst (λ (x : OpenQuery). IsRead schema cs range s l x.top place piece) (same_Some question q (asked ∙ found))
-        (subst (λ (x : Leaf). IsRead schema cs range s x question.top place piece) (same_Some own l (here ∙ there)) is)
-    for_query (Err why) is = is
-
--- a query that is not open has no leaf
-pub no_query : (m : Machine) (query place : ℕ) → None ≡ find (is_query query) m.queries → leaf_of m query place ≡ None
-no_query m query place none = sym (ap (λ (o : Option OpenQuery). if_some o None (λ q. option_map (λ (l : ScanLeaf). l.leaf) (slice_get q.leaves place))) none)

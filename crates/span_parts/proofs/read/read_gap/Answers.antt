@@ -7,7 +7,7 @@ use Rattle.span_leaves.specs.Maskable.{IsMaskable}
 use Rattle.span_parts.proofs.read.read_gap.Goals as goal
 
 pub read_leaf-requires-clause-tables : goal.read_leaf-requires-clause-tables
-read_leaf-requires-clause-tables c = subst (λ (o : Option Leaf). IfSome o (λ l. AllByRecursion (IsTable c.args.schema.now) l.tables)) (sym c.in-Some.ensures) c.requires.tables
+read_leaf-requires-clause-tables c = subst (λ (o : Option Leaf). IfSome o (λ l. AllByRecursion (IsTable c.args.schema.now) l.tables)) (sym c.in-Some-leaf.ensures) c.requires.tables
 
 pub read_leaf-requires-clause-maskable : goal.read_leaf-requires-clause-maskable
-read_leaf-requires-clause-maskable c = subst (λ (o : Option Leaf). IfSome o (IsMaskable c.args.schema.now)) (sym c.in-Some.ensures) c.requires.maskable
+read_leaf-requires-clause-maskable c = subst (λ (o : Option Leaf). IfSome o (IsMaskable c.args.schema.now)) (sym c.in-Some-leaf.ensures) c.requires.maskable
