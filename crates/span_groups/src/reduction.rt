@@ -26,7 +26,10 @@ impl Reduction {
     {
         match self {
             Reduction::Everything => Ok(()),
-            Reduction::First(keys, count) => keep_first(alloc, keys.as_slice(), *count, rows),
+            Reduction::First(keys, count) => {
+                keep_first(alloc, keys.as_slice(), *count, rows)?;
+                Ok(())
+            }
             Reduction::Distinct(columns) => keep_firsts(alloc, columns.as_slice(), rows),
         }
     }
