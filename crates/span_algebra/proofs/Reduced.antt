@@ -75,10 +75,10 @@ distinct_enough query place columns none takes are rows all same =
     let after : (o : Rows) → (append_results (o >>= (λ some. Some (distinct_at columns some))) (Some []) >>= last) ≡ (o >>= made) = made_of last in
     let reads : (tables : ℕ → Rows) → meaning_over tables query ≡ (tables (suc place) >>= made) =
     λ tables.
-        meaning_is tables query
-        ∙ ap (λ (bs : List (Block BoundQuery)). append_results (block_rows tables (map_block (meaning_over tables) q.first)) (concat_map (block_rows tables) (map (map_block (meaning_over tables)) bs)) >>= last) none
-        ∙ ap (λ (o : Rows). append_results o (Some []) >>= last) (table_distinct (meaning_over tables) tables q.first (suc place) columns takes are)
-        ∙ after (tables (suc place)) in
+    meaning_is tables query
+    ∙ ap (λ (bs : List (Block BoundQuery)). append_results (block_rows tables (map_block (meaning_over tables) q.first)) (concat_map (block_rows tables) (map (map_block (meaning_over tables)) bs)) >>= last) none
+    ∙ ap (λ (o : Rows). append_results o (Some []) >>= last) (table_distinct (meaning_over tables) tables q.first (suc place) columns takes are)
+    ∙ after (tables (suc place)) in
     let parts : (b a : List Row) → distinct_at columns (b ++ (rows ++ a)) ≡ distinct_at columns (b ++ (all ++ a)) =
     λ b a. distinct_at-both columns b b (rows ++ a) (all ++ a) refl (distinct_at-both columns rows all a a same refl) in
     by_table query place made reads rows all (λ b a. ap (λ (l : List Row). last (l ++ [])) (parts b a))
