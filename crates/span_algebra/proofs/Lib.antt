@@ -4,3 +4,4 @@ pub mod Blocks
 pub mod InOrder
 pub mod AllValues
 pub mod SameMeaning
+pub mod Reduced

@@ -5,5 +5,6 @@ mod block;
 pub mod distinct;
 pub mod ordered;
 pub mod plain;
+pub mod reduction;
 mod select;
 pub mod source;

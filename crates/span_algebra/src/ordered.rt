@@ -1,13 +1,15 @@
 //! Queries whose rows are put in order where they are lent, before the columns of their select list are copied.
-ghost use Rattle.std.specs.Prelude.{◌≡◌, IfOk, IfSome, map, true};
+ghost use Rattle.std.specs.Prelude.{◌≡◌, IfOk, IfSome, map, suc, true};
 ghost use Rattle.span_query.specs.declared.query.BoundQuery.TheViews.{out-BoundQuery};
 ghost use Rattle.span_query.specs.Groups.{columns_at};
 ghost use Rattle.span_query.specs.Meaning.{limit_rows};
 ghost use Rattle.span_query.specs.Sorting.{sorted};
 ghost use Rattle.span_sorting.specs.Codes.{HaveCodes, coded_rows};
 ghost use Rattle.span_algebra.specs.ColumnOrders.{IsColumnOrder, IsTable, TakesAllRows};
+ghost use Rattle.span_algebra.specs.SameMeaning.{IsReductionFor};
 
 use span_groups::part_rows::PartRows;
+use span_groups::reduction::Reduction;
 use span_query::query::{Block, BoundQuery, Item, Limit, SortKey};
 use span_rows::row_list::{RowList, lent_rows};
 use span_sorting::coded::CodedRows;
@@ -128,4 +130,35 @@ pub fn order_part(alloc: Global, query: &BoundQuery, rows: RowList) -> Result<Pa
         Some(order) => PartRows::with_order(alloc, order.keys(), few_rows(query.limit), rows),
         None => Ok(PartRows::new(rows)),
     }
+}
+
+/// Whether a FROM is one table, the one at a place, counted from 0.
+pub(crate) fn is_table_at(block: &Block<BoundQuery>, place: usize) -> bool
+    ensures { result ≡ true → IsTable block.now (suc place) }
+{
+    match only_table(block) {
+        Some(number) => number > 0 && number - 1 == place,
+        None => false,
+    }
+}
+
+/// The first rows of the table at a place, counted from 0, where a query puts all its rows in order and LIMIT needs few.
+pub(crate) fn first_of_table(
+    alloc: Global,
+    query: &BoundQuery,
+    place: usize,
+) -> Result<Option<Reduction>, AllocError>
+    ensures { IfOk result (λ found. IfSome found (IsReductionFor query.now place)) }
+{
+    let Some(count) = few_rows(query.limit) else {
+        return Ok(None);
+    };
+    if !is_table_at(&query.first, place) {
+        return Ok(None);
+    }
+    let Some(order) = column_order(alloc, query)? else {
+        return Ok(None);
+    };
+    let ColumnOrder { columns: _, keys } = order;
+    Ok(Some(Reduction::First(keys, count)))
 }

@@ -3,11 +3,11 @@ ghost use Rattle.std.specs.Prelude.{◌≡◌, ◌⊎◌, ◌∷◌, [], IfOk, I
 ghost use Rattle.std.specs.List.{AllByRecursion};
 ghost use Rattle.span_schema.specs.Numbers.{IsTable};
 ghost use Rattle.span_query.specs.Rows.{Rows};
-ghost use Rattle.span_rows.specs.Answers.{Gives};
+ghost use Rattle.span_groups.specs.Reductions.{AreEnough, GivesEnough, HasEnough};
 ghost use Rattle.span_algebra.specs.BlockMeaning.{GroupsTable};
 ghost use Rattle.span_leaves.specs.Maskable.{IsMaskable};
 ghost use Rattle.span_rowreader.specs.Entries.{AreNoRows};
-ghost use Rattle.span_tablescan.specs.Given.{IsKeptOn};
+ghost use Rattle.span_tablescan.specs.Given.{IsEnoughOn};
 ghost use Rattle.span_fragment.specs.Pieces.{IsPieceOf};
 
 use super::directory::rows_of_leaf;
@@ -15,9 +15,11 @@ use super::piece::Piece;
 use span_algebra::distinct::{distinct_part, distinct_table};
 use span_algebra::ordered::{order_part, ordered_table};
 use span_algebra::plain::grouped_table;
+use span_algebra::reduction::reduction_for;
 use span_columns::leaf::Leaf;
 use span_expr::cell::Failure;
 use span_groups::part_rows::PartRows;
+use span_groups::reduction::Reduction;
 use span_query::query::{Block, BoundQuery, Grouping};
 use span_rows::row_list::RowList;
 use span_schema::schema::Schema;
@@ -53,17 +55,33 @@ fn rows_for(
     }
 }
 
+/// Of the rows of a part those that are enough, with what is done here of what the query above does with them.
+fn part_of(
+    alloc: Global,
+    leaf_use: Option<LeafUse<'_>>,
+    reduction: &Reduction,
+    rows: RowList,
+) -> Result<PartRows, AllocError>
+    ensures { IfOk result (λ made. AreEnough reduction.now made rows) }
+{
+    let mut kept = rows;
+    reduction.keep(alloc, &mut kept)?;
+    rows_for(alloc, leaf_use, kept)
+}
+
 /// The piece of a leaf that gives these rows, or the fault. The only refusal is out of memory.
 fn piece_of(
     alloc: Global,
     leaf_use: Option<LeafUse<'_>>,
+    reduction: &Reduction,
     found: Result<RowList, Failure>,
 ) -> Result<Piece, Refusal>
-    ensures { MatchResult result (λ piece. (o : Rows) → Gives found o → piece.rows ≡ o)
+    ensures { MatchResult result
+        (λ piece. (meant : Rows) → GivesEnough reduction.now found meant → HasEnough reduction.now piece.rows meant)
         (λ why. why ≡ Refusal.OutOfMemory) }
 {
     match found {
-        Ok(rows) => Ok(Piece::new(Some(rows_for(alloc, leaf_use, rows)?))),
+        Ok(rows) => Ok(Piece::new(Some(part_of(alloc, leaf_use, reduction, rows)?))),
         Err(Failure::Fault) => Ok(Piece::new(None)),
         Err(Failure::OutOfMemory) => Err(Refusal::OutOfMemory),
     }
@@ -79,28 +97,30 @@ fn only_table(leaf: &Leaf) -> Option<usize>
     }
 }
 
-/// The rows of a leaf on the rows that a snapshot lends, of the columns alone that leave it, or the fault. `OutOfMemory`, where
-/// these are rows of the schema's tables.
+/// The rows of a leaf on the rows that a snapshot lends, of the columns alone that leave it, or as many of them as are enough; or the fault.
+/// `OutOfMemory`, where these are rows of the schema's tables.
 fn give_rows(
     alloc: Global,
     schema: &Schema,
     leaf: &Leaf,
+    reduction: &Reduction,
     snapshot: Snapshot<'_>,
 ) -> Result<Result<RowList, Failure>, Refusal>
     requires tables { AllByRecursion (IsTable schema.now) leaf.now.tables }
     requires maskable { IsMaskable schema.now leaf.now }
-    ensures ok { IfOk result (λ found. IsKeptOn schema.now leaf.now snapshot.entry found) }
+    ensures ok { IfOk result (λ found. IsEnoughOn schema.now leaf.now reduction.now snapshot.entry found) }
     ensures refused { IfErr result (λ why. (why ≡ Refusal.OutOfMemory) ⊎ AreNoRows schema.now snapshot.entry) }
 {
     if let Some(table) = only_table(leaf) {
-        return rows_of_table(alloc, schema, leaf, table, snapshot);
+        return rows_of_table(alloc, schema, leaf, table, reduction, snapshot);
     }
     rows_of_leaf(alloc, schema, leaf, snapshot)
 }
 
-/// What a leaf gives on the rows of a part of its range, which a snapshot lends. Where the query above groups all rows of the leaf, or puts
-/// them in order, this is done for the part. An arithmetic error is a piece without rows, and no refusal. `OutOfMemory`, where these are rows
-/// of the schema's tables.
+/// What a leaf gives on the rows of a part of its range, which a snapshot lends, for the query above the leaves: the leaf is the table at this
+/// place there, counted from 0. Where that query puts the rows of the leaf in order and LIMIT needs few, or takes the values of columns each
+/// once, the rows that are enough for this are kept alone; where it groups all rows of the leaf, or puts them in order, this is done for the
+/// part. An arithmetic error is a piece without rows, and no refusal. `OutOfMemory`, where these are rows of the schema's tables.
 pub fn run_leaf(
     alloc: Global,
     schema: &Schema,
@@ -115,8 +135,9 @@ pub fn run_leaf(
         (IsPieceOf schema.now leaf.now top.now place snapshot.entry)
         (λ why. (why ≡ Refusal.OutOfMemory) ⊎ AreNoRows schema.now snapshot.entry) }
 {
-    let found = give_rows(alloc, schema, leaf, snapshot)?;
-    Ok(piece_of(alloc, leaf_use(top, place), found)?)
+    let reduction = reduction_for(alloc, top, place)?;
+    let found = give_rows(alloc, schema, leaf, &reduction, snapshot)?;
+    Ok(piece_of(alloc, leaf_use(top, place), &reduction, found)?)
 }
 
 /// How a block groups all rows of the table with this number, if it does; the first table has number 1.

@@ -13,3 +13,4 @@ pub mod AddedStates
 pub mod GroupSteps
 mod GroupPlaces
 pub mod OneGroup
+pub mod Reductions

@@ -4,3 +4,4 @@ pub mod GroupStates
 pub mod MergedGroups
 pub mod FirstRows
 pub mod Parts
+pub mod Reductions

@@ -8,6 +8,7 @@ ghost use Rattle.span_groups.specs.FirstRows.{AreFirstsAt, AreFirstsOf};
 use indexmap::IndexSet;
 use span_rows::key::LentKey;
 use span_rows::row_list::{RowList, lend_places};
+use span_sorting::kept::keep_places;
 use span_value::value::Value;
 use std::alloc::{AllocError, Global};
 
@@ -79,4 +80,16 @@ pub(crate) fn lend_firsts<'a>(
 {
     lend_places(rows, places, all)?;
     Ok(())
+}
+
+/// Keeps of some rows those at which the values of the columns appear first. The only error is out of memory, which may leave no rows.
+pub(crate) fn keep_firsts(
+    alloc: Global,
+    columns: &[usize],
+    rows: &mut RowList,
+) -> Result<(), AllocError>
+    ensures { OnOk result (distinct_at columns.now rows.new ≡ distinct_at columns.now rows.old) }
+{
+    let places = places_of_firsts(alloc, columns, rows)?;
+    keep_places(alloc, rows, places.as_slice())
 }

@@ -10,5 +10,6 @@ mod merge;
 mod one_group;
 pub mod part_rows;
 pub mod parts;
+pub mod reduction;
 mod states;
 mod sum;

@@ -243,7 +243,7 @@ fn limit_rows<'a, 'b>(limit: Option<Limit>, rows: &'a [&'b [Value]]) -> &'a [&'b
 }
 
 /// Copies of the rows.
-fn copy_rows(alloc: Global, rows: &[&[Value]]) -> Result<RowList, AllocError>
+pub(crate) fn copy_rows(alloc: Global, rows: &[&[Value]]) -> Result<RowList, AllocError>
     ensures { IfOk result (λ copies. copies ≡ lent_rows rows.now) }
 {
     // All rows have as many values as the first where they are those of one query.

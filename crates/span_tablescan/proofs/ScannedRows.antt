@@ -24,6 +24,9 @@ use Rattle.span_query.specs.Rows.{Row, OrFault, Rows, ◌>>=◌, value_of, is_tr
 use Rattle.span_query.proofs.Results.{append_results-nil, nil-append_results}
 use Rattle.span_rows.specs.Answers.{Gives, Adds}
 use Rattle.span_rows.proofs.Gathering.{one_adds, one_fails, adding-fails}
+use Rattle.span_groups.specs.declared.reduction.Reduction.{Reduction}
+use Rattle.span_groups.specs.Reductions.{AreEnough, HasEnough, GivesEnough}
+use Rattle.span_groups.proofs.Reductions.{enough_same, enough_more, enough_again, gives_fault}
 use Rattle.span_columns.specs.declared.leaf.Leaf.{Leaf}
 use Rattle.span_columns.specs.declared.leaf.LeafJoin.{LeafJoin}
 use Rattle.span_leaves.specs.Leaves.{width_of}
@@ -36,7 +39,7 @@ use Rattle.span_leaves.proofs.Picked.{Agrees, agrees, val-picked, pick_rows-appe
 use Rattle.span_leaves.proofs.Reading.{has_place-range}
 use Rattle.span_rowreader.specs.Meaning.{declared_row, whole_table}
 use Rattle.span_rowreader.specs.Entries.{key_row, AreNoRows, IsWhetherOf}
-use Rattle.span_tablescan.specs.Given.{kept_given, IsKeptOn}
+use Rattle.span_tablescan.specs.Given.{kept_given, IsKeptOn, IsEnoughOn}
 use Rattle.span_rowreader.specs.Longest.{IsLongest, AreLongest, HaveShortKeys}
 use Rattle.span_tablescan.specs.declared.number_test.NumberTest.{NumberTest}
 use Rattle.span_tablescan.specs.NumberTests.{meets, IsWhetherPass}
@@ -44,7 +47,7 @@ use Rattle.span_rowreader.specs.Readers.{ArePickedOf}
 use Rattle.span_tablescan.specs.Scans.{passes, kept_row, AreTestsWhere, IsMaskOf, IsConditionAt, IsAdded, IsAddedWhere, IsTaken}
 use Rattle.span_rowreader.proofs.DeclaredRows.{row_width}
 use Rattle.span_rowreader.proofs.TargetRows.{none_picked}
-use Rattle.span_tablescan.proofs.ShortKeys.{given_on_all, refused_of_all}
+use Rattle.span_tablescan.proofs.ShortKeys.{given_on_all, holds_on_all, refused_of_all}
 
 -- ---- the mask of a condition
 
@@ -218,37 +221,87 @@ module _ (schema : List Table) (n : ℕ) (ms : List Bool) (w : Option Expr) wher
       both : (x y : KeyRow) (xs ys : List KeyRow) → x ∷ xs ≡ y ∷ ys → (x ≡ y) × (xs ≡ ys)
       both x y xs ys e = (cc, cc)
 
-  module _ (entries rest later : List KeyRow) (x : KeyRow) (old new : List Row) (is : rest ≡ x ∷ later) (so : KeptBefore entries rest old) where
-    pub kept_more : IsTaken schema n ms w x.key x.row (Ok tt) old new → KeptBefore entries later new
-    kept_more taken rows typed whole =
+  -- one entry more, where the rows that are left are known
+  module _ (rest later : List KeyRow) (x : KeyRow) (is : rest ≡ x ∷ later) (rows : List TableRow) (all : List Row) (before : LeftRows rows rest all) where
+    abbrev pub first : FirstLeft x later before.left
+    first = first_left x later before.left before.typed (sym is ∙ before.are)
+
+    next : kept_rows before.left ≡ append_results (kept_row schema n ms w first.row) (kept_rows first.later)
+    next = ap kept_rows first.is ∙ kept_cons first.row first.later
+
+    pub left_more : (new : List Row) → Adds (Ok tt) (kept_row schema n ms w first.row) all new → LeftRows rows later new
+    left_more new adds = record {
+      left = first.later;
+      typed = first.typed.1;
+      are = first.rest_is;
+      kept = one_adds (kept_rows rows) (kept_rows before.left) (kept_row schema n ms w first.row) (kept_rows first.later) all new before.kept next adds;
+    }
+
+    pub left_fails : (why : Failure) (old new : List Row) → Adds (Err why) (kept_row schema n ms w first.row) old new → Gives (Err why) (kept_rows rows)
+    left_fails why old new adds =
+        one_fails why (kept_rows rows) (kept_rows before.left) (kept_row schema n ms w first.row) (kept_rows first.later) all before.kept next
+        (adding-fails why (kept_row schema n ms w first.row) old new adds)
+
+  pub kept_more : (entries rest later : List KeyRow) (x : KeyRow) (old new : List Row) → rest ≡ x ∷ later → KeptBefore entries rest old
+      → IsTaken schema n ms w x.key x.row (Ok tt) old new → KeptBefore entries later new
+  kept_more entries rest later x old new is so taken rows typed whole =
+      let before = so rows typed whole in
+      let t = first rest later x is rows old before in
+      left_more rest later x is rows old before new (taken.of t.row t.typed.0 t.key t.cells)
+
+  -- the rows that are left, where these values are enough in the place of those that are kept of the others
+  pub record EnoughLeft (r : Reduction) (rows : List TableRow) (rest : List KeyRow) (values : List Row) : Type 0 where
+    pub all : List Row
+    pub left : LeftRows rows rest all
+    pub enough : AreEnough r values all
+
+  -- of whatever rows the entries are, these values are enough in the place of those that are kept before the rest
+  abbrev pub EnoughBefore : Reduction → List KeyRow → List KeyRow → List Row → Type 0
+  EnoughBefore r entries rest values = (rows : List TableRow) → AreTyped schema rows → entries ≡ map (key_row schema) rows → EnoughLeft r rows rest values
+
+  pub enough_first : (r : Reduction) (entries : List KeyRow) → EnoughBefore r entries entries []
+  enough_first r entries rows typed is = record { all = []; left = kept_first entries rows typed is; enough = enough_same r [] }
+
+  -- what was added
+  added : (o : Rows) (old new : List Row) → append_results (Some old) o ≡ Some new → (more : List Row) × (o ≡ Some more) × (new ≡ old ++ more)
+  added None old new e = absurd (let f : None ≡ Some new = e in cc)
+  added (Some more) old new e = (more, refl, (let f : Some (old ++ more) ≡ Some new = e in cc))
+
+  module _ (r : Reduction) (entries rest later : List KeyRow) (x : KeyRow) (old new : List Row) (is : rest ≡ x ∷ later) (so : EnoughBefore r entries rest old) where
+    pub enough_after : IsTaken schema n ms w x.key x.row (Ok tt) old new → EnoughBefore r entries later new
+    enough_after taken rows typed whole =
         let before = so rows typed whole in
-        let first = first_left x later before.left before.typed (sym is ∙ before.are) in
-        let next : kept_rows before.left ≡ append_results (kept_row schema n ms w first.row) (kept_rows first.later) = ap kept_rows first.is ∙ kept_cons first.row first.later in
+        let t = first rest later x is rows before.all before.left in
+        let put = added (kept_row schema n ms w t.row) old new (taken.of t.row t.typed.0 t.key t.cells) in
+        let adds : Adds (Ok tt) (kept_row schema n ms w t.row) before.all (before.all ++ put.0) = ap (append_results (Some before.all)) put.1 in
         record {
-          left = first.later;
-          typed = first.typed.1;
-          are = first.rest_is;
-          kept = one_adds (kept_rows rows) (kept_rows before.left) (kept_row schema n ms w first.row) (kept_rows first.later) old new before.kept next (taken.of first.row first.typed.0 first.key first.cells);
+          all = before.all ++ put.0;
+          left = left_more rest later x is rows before.all before.left (before.all ++ put.0) adds;
+          enough = subst (λ (l : List Row). AreEnough r l (before.all ++ put.0)) (sym put.2) (enough_more r old before.all put.0 before.enough);
         }
 
-    pub kept_fails : (why : Failure) → IsTaken schema n ms w x.key x.row (Err why) old new → (rows : List TableRow) → AreTyped schema rows → entries ≡ map (key_row schema) rows → Gives (Err why) (kept_rows rows)
-    kept_fails why taken rows typed whole =
+    pub enough_fails : (why : Failure) → IsTaken schema n ms w x.key x.row (Err why) old new → (rows : List TableRow) → AreTyped schema rows → entries ≡ map (key_row schema) rows → Gives (Err why) (kept_rows rows)
+    enough_fails why taken rows typed whole =
         let before = so rows typed whole in
-        let first = first_left x later before.left before.typed (sym is ∙ before.are) in
-        let next : kept_rows before.left ≡ append_results (kept_row schema n ms w first.row) (kept_rows first.later) = ap kept_rows first.is ∙ kept_cons first.row first.later in
-        one_fails why (kept_rows rows) (kept_rows before.left) (kept_row schema n ms w first.row) (kept_rows first.later) old before.kept next
-        (adding-fails why (kept_row schema n ms w first.row) old new (taken.of first.row first.typed.0 first.key first.cells))
+        let t = first rest later x is rows before.all before.left in
+        left_fails rest later x is rows before.all before.left why old new (taken.of t.row t.typed.0 t.key t.cells)
 
     pub not_rows_left : IsNoTableRow schema x.key x.row → AreNoRows schema entries
     not_rows_left none rows typed whole =
         let before = so rows typed whole in
-        let first = first_left x later before.left before.typed (sym is ∙ before.are) in
-        none.none first.row first.typed.0 first.key first.cells
+        let t = first rest later x is rows before.all before.left in
+        none.none t.row t.typed.0 t.key t.cells
 
-  pub kept_end : (entries rest : List KeyRow) (values : List Row) → rest ≡ [] → KeptBefore entries rest values → (rows : List TableRow) → AreTyped schema rows → entries ≡ map (key_row schema) rows → kept_rows rows ≡ Some values
-  kept_end entries rest values end so rows typed whole =
+  -- those that are enough in their place
+  pub enough_kept : (r : Reduction) (entries rest : List KeyRow) (old new : List Row) → EnoughBefore r entries rest old → AreEnough r new old → EnoughBefore r entries rest new
+  enough_kept r entries rest old new so enough rows typed whole =
       let before = so rows typed whole in
-      before.kept ∙ ap (λ (l : List TableRow). append_results (Some values) (kept_rows l)) (none_left before.left (sym end ∙ before.are)) ∙ ap (append_results (Some values)) (of_no_rows w) ∙ append_results-nil (Some values)
+      record { all = before.all; left = before.left; enough = enough_again r new old before.all enough before.enough }
+
+  -- at the end
+  left_end : (rest : List KeyRow) (all : List Row) (rows : List TableRow) → rest ≡ [] → LeftRows rows rest all → kept_rows rows ≡ Some all
+  left_end rest all rows end before =
+      before.kept ∙ ap (λ (l : List TableRow). append_results (Some all) (kept_rows l)) (none_left before.left (sym end ∙ before.are)) ∙ ap (append_results (Some all)) (of_no_rows w) ∙ append_results-nil (Some all)
     where
       of_no_rows : (v : Option Expr) → pick_rows ms (filter_where v []) ≡ Some []
       of_no_rows None = refl
@@ -257,6 +310,15 @@ module _ (schema : List Table) (n : ℕ) (ms : List Bool) (w : Option Expr) wher
       none_left : (left : List TableRow) → [] ≡ map (key_row schema) left → left ≡ []
       none_left [] e = refl
       none_left (t ∷ ts) e = absurd cc
+
+  pub kept_end : (entries rest : List KeyRow) (values : List Row) → rest ≡ [] → KeptBefore entries rest values → (rows : List TableRow) → AreTyped schema rows → entries ≡ map (key_row schema) rows → kept_rows rows ≡ Some values
+  kept_end entries rest values end so rows typed whole = left_end rest values rows end (so rows typed whole)
+
+  pub enough_end : (r : Reduction) (entries rest : List KeyRow) (values : List Row) → rest ≡ [] → EnoughBefore r entries rest values
+      → (rows : List TableRow) → AreTyped schema rows → entries ≡ map (key_row schema) rows → HasEnough r (Some values) (kept_rows rows)
+  enough_end r entries rest values end so rows typed whole =
+      let before = so rows typed whole in
+      (before.all, left_end rest before.all rows end before.left, before.enough)
 
 -- ---- the leaf
 
@@ -303,14 +365,23 @@ module _ (schema : List Table) (leaf : Leaf) (n most : ℕ) (tables : leaf.table
     of = λ rows typed is. leaf_kept schema leaf n tables joins rows ∙ kept_end schema n leaf.kept leaf.filter short rest values end so rows typed is;
   })
 
-  pub scan_fails : (rest later : List KeyRow) (x : KeyRow) (old new : List Row) (why : Failure) → rest ≡ x ∷ later → KeptBefore schema n leaf.kept leaf.filter (filter (has_short_key most) entries) rest old
-      → IsTaken schema n leaf.kept leaf.filter x.key x.row (Err why) old new → IsKeptOn schema leaf entries (Err why)
-  scan_fails rest later x old new why is so taken = given_on_all schema leaf entries short (Err why) have_short (record {
-    of = λ rows typed whole.
-        subst (λ (o : Rows). Gives (Err why) o) (sym (leaf_kept schema leaf n tables joins rows)) (kept_fails schema n leaf.kept leaf.filter short rest later x old new is so why taken rows typed whole);
+  abbrev SoFar : Reduction → List KeyRow → List Row → Type 0
+  SoFar r rest values = EnoughBefore schema n leaf.kept leaf.filter r (filter (has_short_key most) entries) rest values
+
+  pub scan_enough : (r : Reduction) (rest : List KeyRow) (values : List Row) → rest ≡ [] → SoFar r rest values → IsEnoughOn schema leaf r entries (Ok values)
+  scan_enough r rest values end so = holds_on_all schema leaf entries short (GivesEnough r (Ok values)) have_short (record {
+    of = λ rows typed is. subst (HasEnough r (Some values)) (sym (leaf_kept schema leaf n tables joins rows)) (enough_end schema n leaf.kept leaf.filter r short rest values end so rows typed is);
   })
 
-  pub scan_refused : {A : Type 0} (rest later : List KeyRow) (x : KeyRow) (old : List Row) → rest ≡ x ∷ later → KeptBefore schema n leaf.kept leaf.filter (filter (has_short_key most) entries) rest old
+  pub scan_fails : (r : Reduction) (rest later : List KeyRow) (x : KeyRow) (old new : List Row) (why : Failure) → rest ≡ x ∷ later → SoFar r rest old
+      → IsTaken schema n leaf.kept leaf.filter x.key x.row (Err why) old new → IsEnoughOn schema leaf r entries (Err why)
+  scan_fails r rest later x old new why is so taken = holds_on_all schema leaf entries short (GivesEnough r (Err why)) have_short (record {
+    of = λ rows typed whole.
+        subst (GivesEnough r (Err why)) (sym (leaf_kept schema leaf n tables joins rows))
+        (gives_fault r why (kept_rows schema n leaf.kept leaf.filter rows) (enough_fails schema n leaf.kept leaf.filter r short rest later x old new is so why taken rows typed whole));
+  })
+
+  pub scan_refused : {A : Type 0} (r : Reduction) (rest later : List KeyRow) (x : KeyRow) (old : List Row) → rest ≡ x ∷ later → SoFar r rest old
       → A ⊎ IsNoTableRow schema x.key x.row → A ⊎ AreNoRows schema entries
-  scan_refused rest later x old is so (inl why) = inl why
-  scan_refused rest later x old is so (inr none) = refused_of_all schema leaf.tables entries short have_short (inr (not_rows_left schema n leaf.kept leaf.filter short rest later x old old is so none))
+  scan_refused r rest later x old is so (inl why) = inl why
+  scan_refused r rest later x old is so (inr none) = refused_of_all schema leaf.tables entries short have_short (inr (not_rows_left schema n leaf.kept leaf.filter r short rest later x old old is so none))

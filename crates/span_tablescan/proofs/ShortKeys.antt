@@ -19,7 +19,7 @@ use Rattle.span_columns.specs.declared.leaf.Leaf.{Leaf}
 use Rattle.span_columns.specs.Picks.{pick_rows}
 use Rattle.span_leaves.specs.Results.{leaf_rows}
 use Rattle.span_rowreader.specs.Meaning.{declared_row, whole_table}
-use Rattle.span_rowreader.specs.Entries.{key_row, AreNoRows}
+use Rattle.span_rowreader.specs.Entries.{key_row, AreNoRows, OfRows}
 use Rattle.span_tablescan.specs.Given.{kept_given, IsKeptOn}
 use Rattle.span_rowreader.specs.Longest.{IsLongest, AreLongest, HaveShortKeys}
 
@@ -68,15 +68,20 @@ short_tables schema most (t ∷ ts) rows typed longest =
     ap (λ (l : List TableRow). map (declared_row schema) l ∷ map (whole_table schema (short_of schema most rows)) ts) (short_table schema most t rows typed longest.0)
     ∙ ap (λ (l : List (List Row)). whole_table schema rows t ∷ l) (short_tables schema most ts rows typed longest.1)
 
--- what the leaf gives on the entries with short keys it gives on all
-pub given_on_all : (schema : List Table) (leaf : Leaf) (entries short : List KeyRow) (found : Result (List Row) Failure) → HaveShortKeys schema leaf.tables entries short → IsKeptOn schema leaf short found → IsKeptOn schema leaf entries found
-given_on_all schema leaf entries short found have given = record {
+-- what holds of what leaves the leaf on the entries with short keys holds on all
+pub holds_on_all : (schema : List Table) (leaf : Leaf) (entries short : List KeyRow) (P : Rows → Type 0) → HaveShortKeys schema leaf.tables entries short
+    → OfRows schema short (λ rows. P (kept_given schema leaf rows)) → OfRows schema entries (λ rows. P (kept_given schema leaf rows))
+holds_on_all schema leaf entries short P have given = record {
   of = λ rows typed is.
       let most = have.most in
       let here : short ≡ map (key_row schema) (short_of schema most rows) = have.are ∙ ap (filter (has_short_key most)) is ∙ short_entries schema most rows in
       let same : kept_given schema leaf (short_of schema most rows) ≡ kept_given schema leaf rows = ap (λ (l : List (List Row)). pick_rows leaf.kept (leaf_rows leaf l)) (short_tables schema most leaf.tables rows typed have.longest) in
-      subst (λ (o : Rows). Gives found o) same (given.of (short_of schema most rows) (short_typed schema most rows typed) here);
+      subst P same (given.of (short_of schema most rows) (short_typed schema most rows typed) here);
 }
+
+-- what the leaf gives on the entries with short keys it gives on all
+pub given_on_all : (schema : List Table) (leaf : Leaf) (entries short : List KeyRow) (found : Result (List Row) Failure) → HaveShortKeys schema leaf.tables entries short → IsKeptOn schema leaf short found → IsKeptOn schema leaf entries found
+given_on_all schema leaf entries short found have given = holds_on_all schema leaf entries short (Gives found) have given
 
 -- where those with short keys are no rows, none are
 no_rows_of_all : (schema : List Table) (ts : List ℕ) (entries short : List KeyRow) → HaveShortKeys schema ts entries short → AreNoRows schema short → AreNoRows schema entries
