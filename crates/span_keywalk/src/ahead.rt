@@ -2,7 +2,8 @@
 //!
 //! Where keys were put in no order a walk waits for memory at each: it learns the next key's number only when the last link has come.
 //! So it looks ahead, in several lanes at once: from keys of the tree's upper levels, which lie about evenly among all, the links are
-//! followed together, and each key is looked at, with its newest row where the caller is to read it.
+//! followed together, and each key is looked at, with its newest row where the caller is to read it. A cell mostly lies in two lines of
+//! memory: where its key begins, and where the key's length and the links are. Both are looked at.
 //!
 //! Keys that were put in order lie one after another, and memory is waited for at few of them; but where a walk passes over most of them,
 //! those of a batch lie apart. They are then looked at together, before the first of them is handed out.
@@ -16,17 +17,20 @@ use span_keycode::key::LONGEST_KEY;
 use span_keytree::next::{NextLinks, number_of};
 use span_keytree::tree::TreeRoot;
 
-/// More lanes do not go faster: what is waited for is then the walks over page tables, and few of them run at a time.
-const LANES: usize = 8;
+/// More lanes do not go faster: the lines of memory that are waited for at a time are fewer.
+const LANES: usize = 16;
 
-/// About how many keys lie from the begin of a lane to that of the next.
-const LANE_KEYS: usize = 64;
+/// About how many keys lie from the begin of a lane to that of the next, at most.
+const LANE_KEYS: usize = 32;
 
 /// The same where the rows are looked at too: each takes three lines of memory more, so fewer are looked at before they are read.
-const LANE_ROWS: usize = 16;
+const LANE_ROWS: usize = 8;
 
-/// How many keys a lane looks at.
-const MOST_STEPS: usize = 128;
+/// How many keys a lane looks at, at most.
+const MOST_STEPS: usize = 64;
+
+/// Looks at so many keys and rows find no more.
+const MOST_FOUND: usize = LANES * MOST_STEPS * (LONGEST_KEY + 1);
 
 /// How many keys a walk hands out before it first looks ahead, and before it tries again.
 const FIRST_KEYS: usize = 64;
@@ -193,7 +197,7 @@ impl Path {
         self.turns.get(self.len).copied()
     }
 
-    // From a cell down to the left.
+    // From a cell down to the left. The links of the last are not looked at.
     fn go_left(&mut self, arena: &Arena, number: u32, levels: usize) {
         let mut at = number;
         for done in 0..levels {
@@ -204,6 +208,9 @@ impl Path {
                 number: at,
                 levels: levels - done,
             });
+            if done + 1 == levels {
+                return;
+            }
             at = number_of(arena.links(at).left);
         }
     }
@@ -233,9 +240,9 @@ impl Path {
         let Some(turn) = self.pop() else {
             return NO_CHAIN;
         };
-        if (turn.number as usize) < arena.numbers() {
+        if turn.levels > 1 && (turn.number as usize) < arena.numbers() {
             let right = number_of(arena.links(turn.number).right);
-            self.go_left(arena, right, turn.levels.saturating_sub(1));
+            self.go_left(arena, right, turn.levels - 1);
         }
         turn.number
     }
@@ -288,67 +295,120 @@ fn lanes_from(
     lanes
 }
 
-// Looks at the newest row of a chain; whether it begins as no row does, with neither of the bytes that a cell begins with.
-fn is_no_row(arena: &Arena, number: u32) -> bool {
-    arena.look_at_newest(number) > 1
+// Looks at a key: its length, or 0 where there is no chain of this number.
+fn look_at_key(arena: &Arena, number: u32) -> usize {
+    let is_chain = (number as usize) < arena.numbers();
+    if is_chain { arena.key(number).len() } else { 0 }
 }
 
-// Looks at a key; whether it is too long to be one, or there is no chain of this number.
-fn is_no_key(arena: &Arena, number: u32) -> bool {
-    number as usize >= arena.numbers() || arena.key(number).len() > LONGEST_KEY
+// Looks at the newest row of a chain: its first byte, or 0.
+fn look_at_row(arena: &Arena, number: u32) -> usize {
+    arena.look_at_newest(number) as usize
 }
 
-// Looks at a key, and at its newest row, each where the caller is to read it; whether one of them is none.
-fn is_none(arena: &Arena, number: u32, ahead: &Ahead) -> bool {
-    (ahead.has_keys && is_no_key(arena, number)) || (ahead.has_rows && is_no_row(arena, number))
-}
-
-// A key on. A lane stays at its end, and at what is none.
-fn step(arena: &Arena, nexts: &NextLinks, lane: WalkPart, ahead: &Ahead) -> u32 {
-    if lane.at == lane.end || lane.at as usize >= arena.numbers() {
-        return lane.at;
+// Looks at a key of not too many bytes, and at its newest row, each where the caller is to read it.
+fn look_at(arena: &Arena, number: u32, ahead: &Ahead) -> usize {
+    if number as usize >= arena.numbers() {
+        return 0;
     }
-    let is_looked_at = ahead.most == usize::MAX || arena.has_short_key(lane.at, ahead.most);
-    if is_looked_at && is_none(arena, lane.at, ahead) {
-        return lane.at;
+    if ahead.most < usize::MAX && !arena.has_short_key(number, ahead.most) {
+        return 0;
     }
-    nexts.number_after(lane.at)
+    let mut found: usize = 0;
+    if ahead.has_keys {
+        found = look_at_key(arena, number);
+    }
+    if ahead.has_rows {
+        found = found.wrapping_add(look_at_row(arena, number));
+    }
+    found
 }
 
-// Looks at the keys of a batch and at their newest rows, at each where the caller is to read it: no look waits for another. Whether each may
-// be one: each bit that the first bytes of the rows have is noted, and a row begins with 0 or 1.
+// Looks at the keys of a batch and at their newest rows, at each where the caller is to read it: no look waits for another. Whether they
+// are as keys and rows may be.
 fn look_at_batch(arena: &Arena, batch: &Batch, ahead: &Ahead) -> bool {
     let (has_keys, has_rows) = (ahead.has_keys, ahead.has_rows);
     let numbers = batch.numbers();
-    let mut is_none = false;
-    let mut begins: u8 = 0;
+    let mut found: usize = 0;
     for i in 0..batch.len().min(BATCH_KEYS) {
         if has_keys {
-            is_none = is_none | is_no_key(arena, numbers[i]);
+            found = found.wrapping_add(look_at_key(arena, numbers[i]));
         }
         if has_rows {
-            begins = begins | arena.look_at_newest(numbers[i]);
+            found = found.wrapping_add(look_at_row(arena, numbers[i]));
         }
     }
-    !is_none && begins <= 1
+    found <= MOST_FOUND
 }
 
-// How many lanes have gone on.
-fn step_all(
+/// What was looked at.
+#[derive(Clone, Copy, Debug)]
+struct Looked {
+    /// How many keys.
+    keys: usize,
+    /// The lengths of keys and the first bytes of rows, added up. The lanes stop where these are more than keys and rows have, which is
+    /// never: so each look counts, and none is left out as one that nothing needs.
+    found: usize,
+}
+
+// Each lane a key on, and where it was is looked at. A lane stays at its end. Whether a row is looked at is not asked at each key, as below:
+// the fewer instructions a step has, the more steps wait for memory at once.
+fn step_keys(
+    arena: &Arena,
+    nexts: &NextLinks,
+    lanes: &mut [WalkPart; LANES],
+    before: Looked,
+) -> Looked {
+    let Looked {
+        mut keys,
+        mut found,
+    } = before;
+    for i in 0..LANES {
+        let at = lanes[i].at;
+        if at != lanes[i].end {
+            found = found.wrapping_add(look_at_key(arena, at));
+            lanes[i].at = nexts.number_after(at);
+            keys = keys.wrapping_add(1);
+        }
+    }
+    Looked { keys, found }
+}
+
+// As `step_keys`, where long keys are passed over, or rows are looked at too.
+fn step_some(
     arena: &Arena,
     nexts: &NextLinks,
     lanes: &mut [WalkPart; LANES],
     ahead: &Ahead,
-) -> usize {
-    let mut moved: usize = 0;
+    before: Looked,
+) -> Looked {
+    let Looked {
+        mut keys,
+        mut found,
+    } = before;
     for i in 0..LANES {
-        let at = step(arena, nexts, lanes[i], ahead);
-        if at != lanes[i].at {
-            lanes[i].at = at;
-            moved = moved.wrapping_add(1);
+        let at = lanes[i].at;
+        if at != lanes[i].end {
+            found = found.wrapping_add(look_at(arena, at, ahead));
+            lanes[i].at = nexts.number_after(at);
+            keys = keys.wrapping_add(1);
         }
     }
-    moved
+    Looked { keys, found }
+}
+
+fn step(
+    arena: &Arena,
+    nexts: &NextLinks,
+    lanes: &mut [WalkPart; LANES],
+    ahead: &Ahead,
+    before: Looked,
+) -> Looked {
+    if ahead.has_keys && !ahead.has_rows && ahead.most == usize::MAX {
+        step_keys(arena, nexts, lanes, before)
+    } else {
+        step_some(arena, nexts, lanes, ahead, before)
+    }
 }
 
 // Looks at the keys from a chain on; how many.
@@ -357,13 +417,13 @@ fn look(arena: &Arena, nexts: &NextLinks, ahead: &Ahead, number: u32, stop: u32)
         return FIRST_KEYS;
     }
     let mut lanes = lanes_from(arena, ahead, number, arena.key(number), stop);
-    let mut seen: usize = 0;
+    let mut looked = Looked { keys: 0, found: 0 };
     for _ in 0..MOST_STEPS {
-        let moved = step_all(arena, nexts, &mut lanes, ahead);
-        if moved == 0 {
-            return seen;
+        let keys = looked.keys;
+        looked = step(arena, nexts, &mut lanes, ahead, looked);
+        if looked.keys == keys || looked.found > MOST_FOUND {
+            return looked.keys;
         }
-        seen = seen.saturating_add(moved);
     }
-    seen
+    looked.keys
 }
