@@ -21,7 +21,7 @@ use span_keycode::compare::order_of_bytes;
 use span_keycode::key::Key;
 use span_value::refusal::Refusal;
 use span_value::seq::Seq;
-use std::alloc::Global;
+use std::alloc::{AllocError, Global};
 use std::cmp::Ordering;
 use std::marker::Model;
 use std::mem;
@@ -229,6 +229,24 @@ impl Arena {
         Ok(Chain {
             number: number as u32,
         })
+    }
+
+    /// Reserves capacity for a number of chains more, beside those that are free: where they are many, nothing is moved while they are made.
+    /// An `AllocError` leaves all as it was.
+    pub fn reserve_chains(&mut self, count: usize) -> Result<(), AllocError>
+        ensures { self.new ≡ self.old }
+    {
+        let more = count.saturating_sub(self.spare_count as usize);
+        self.cells.reserve(more)?;
+        self.chains.reserve(more)
+    }
+
+    /// Reserves capacity for a number of nodes more, beside those that are free. An `AllocError` leaves all as it was.
+    pub fn reserve_nodes(&mut self, count: usize) -> Result<(), AllocError>
+        ensures { self.new ≡ self.old }
+    {
+        let more = count.saturating_sub(self.free_count as usize);
+        self.nodes.reserve(more)
     }
 
     /// Adds free numbers of chains, which `new_chain` hands out in this order before the others. `Refusal::OutOfMemory` leaves all as it

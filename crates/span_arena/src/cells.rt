@@ -171,6 +171,14 @@ impl Cells {
         Ok(())
     }
 
+    /// Reserves capacity for a number of cells more. An `AllocError` leaves all as it was.
+    pub(crate) fn reserve(&mut self, count: usize) -> Result<(), AllocError>
+        ensures { self.new ≡ self.old }
+    {
+        self.cells.reserve(count)?;
+        self.lengths.reserve(count)
+    }
+
     /// Cells of no chain after the others. An `AllocError` leaves all as it was.
     pub(crate) fn add_blanks(&mut self, count: usize) -> Result<(), AllocError>
         ensures ok { OnOk result (self.new ≡ self.old ++ replicate count blank) }

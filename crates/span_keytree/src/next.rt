@@ -4,7 +4,7 @@ ghost use Rattle.span_keytree.specs.Nexts.{link_to, next_of, with_cell, with_emp
 
 use span_arena::token::NO_CHAIN;
 use span_value::refusal::Refusal;
-use std::alloc::Global;
+use std::alloc::{AllocError, Global};
 use std::marker::Model;
 
 /// The first chain, and after each chain the next, by their numbers: `NO_CHAIN` where there is none. So a link takes 4 bytes, where an
@@ -114,6 +114,13 @@ impl NextLinks {
         ensures { self.new ≡ without_last self.old }
     {
         self.next.truncate(self.next.len() - 1);
+    }
+
+    /// Reserves capacity for places of further chains. An `AllocError` leaves all as it was.
+    pub fn reserve(&mut self, count: usize) -> Result<(), AllocError>
+        ensures { self.new ≡ self.old }
+    {
+        self.next.reserve(count)
     }
 
     /// Places for further chains, to which no link leads. `Refusal::OutOfMemory` leaves all as it was.

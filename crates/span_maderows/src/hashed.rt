@@ -75,12 +75,12 @@ impl HashedRows {
     }
 }
 
-// The rows of a list, by a hash of their keys.
+// The rows of a list, by a hash of their keys, with memory for as many as the list has memory for.
 fn index_of(list: Vec<(Key, MadeRow)>) -> Result<IndexMap<Key, MadeRow>, AllocError>
     requires { AreInKeyOrder list.items }
     ensures { IfOk result (λ rows. rows.entries ≡ list.items) }
 {
-    let mut rows = IndexMap::new(*list.allocator());
+    let mut rows = IndexMap::with_capacity(*list.allocator(), list.capacity())?;
     for (key, row) in list {
         let _before = rows.insert(key, row)?;
     }

@@ -39,14 +39,14 @@ impl Model for MadeRows {
 }
 
 impl MadeRows {
-    /// No row. It takes no memory.
-    pub fn new(alloc: Global) -> MadeRows
-        ensures { result ≡ [] }
+    /// No row, with memory for a number of them, so that they are not moved as they become more. `AllocError`: memory ran out.
+    pub fn with_capacity(alloc: Global, count: usize) -> Result<MadeRows, AllocError>
+        ensures { IfOk result (λ rows. rows ≡ []) }
     {
-        MadeRows {
+        Ok(MadeRows {
             by_hash: None,
-            ordered: OrderedRows::new(alloc),
-        }
+            ordered: OrderedRows::with_capacity(alloc, count)?,
+        })
     }
 
     /// The row at a key, or None where there is none.

@@ -38,14 +38,14 @@ impl Model for OrderedRows {
 }
 
 impl OrderedRows {
-    /// No row. It takes no memory.
-    pub(crate) fn new(alloc: Global) -> OrderedRows
-        ensures { result ≡ [] }
+    /// No row, with memory for a number of them in the order of their keys.
+    pub(crate) fn with_capacity(alloc: Global, count: usize) -> Result<OrderedRows, AllocError>
+        ensures { IfOk result (λ rows. rows ≡ []) }
     {
-        OrderedRows {
+        Ok(OrderedRows {
             map: BTreeMap::new(alloc),
-            tail: Vec::new(alloc),
-        }
+            tail: Vec::with_capacity(alloc, count)?,
+        })
     }
 
     /// These rows. It takes no memory.

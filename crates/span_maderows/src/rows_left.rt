@@ -1,5 +1,5 @@
 //! The rows that mutations made, as they are taken out to be written.
-ghost use Rattle.std.specs.Prelude.{◌≡◌, ◌++◌, ◌∷◌, [], MatchOption};
+ghost use Rattle.std.specs.Prelude.{◌≡◌, ◌++◌, ◌∷◌, [], length, MatchOption};
 ghost use Rattle.span_maderows.specs.Made.{HaveDistinctKeys};
 
 use super::made_row::MadeRow;
@@ -34,6 +34,13 @@ impl RowsLeft {
         ensures { result ≡ map.entries ++ list.items }
     {
         RowsLeft { map, list }
+    }
+
+    /// How many rows are left.
+    pub fn len(&self) -> usize
+        ensures { result ≡ length self.now }
+    {
+        self.map.len() + self.list.len()
     }
 
     /// Takes out the last row, with its key before it and the caller's number after it (`MadeRows::insert`). None where no row is left.
