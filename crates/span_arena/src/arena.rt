@@ -238,7 +238,7 @@ impl Arena {
     {
         let more = count.saturating_sub(self.spare_count as usize);
         self.cells.reserve(more)?;
-        self.chains.reserve(more)
+        reserve_more(&mut self.chains, more)
     }
 
     /// Reserves capacity for a number of nodes more, beside those that are free. An `AllocError` leaves all as it was.
@@ -246,7 +246,7 @@ impl Arena {
         ensures { self.new ≡ self.old }
     {
         let more = count.saturating_sub(self.free_count as usize);
-        self.nodes.reserve(more)
+        reserve_more(&mut self.nodes, more)
     }
 
     /// Adds free numbers of chains, which `new_chain` hands out in this order before the others. `Refusal::OutOfMemory` leaves all as it

@@ -175,8 +175,8 @@ impl Cells {
     pub(crate) fn reserve(&mut self, count: usize) -> Result<(), AllocError>
         ensures { self.new ≡ self.old }
     {
-        self.cells.reserve(count)?;
-        self.lengths.reserve(count)
+        reserve_more(&mut self.cells, count)?;
+        reserve_more(&mut self.lengths, count)
     }
 
     /// Cells of no chain after the others. An `AllocError` leaves all as it was.
