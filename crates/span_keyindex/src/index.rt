@@ -25,7 +25,7 @@ use span_keywalk::chains::{Chains, chains_from, chains_of};
 use span_keywalk::find::find;
 use span_keywalk::walk::{Walk, all, walk_from, walk_range, walk_under};
 use span_value::refusal::Refusal;
-use std::alloc::Global;
+use std::alloc::{AllocError, Global};
 use std::cmp::Ordering;
 use std::sync::ledger::Ledger;
 
@@ -110,6 +110,15 @@ impl KeyIndex {
             Ordering::Equal => Some(Chain { number: near }),
             _ => None,
         }
+    }
+
+    /// Reserves capacity for a number of keys more. An `AllocError` leaves all as it was.
+    pub fn reserve(&mut self, arena: &mut Arena, count: usize) -> Result<(), AllocError>
+        ensures index { self.new ≡ self.old }
+        ensures arena { arena.new ≡ arena.old }
+    {
+        arena.reserve_chains(count)?;
+        self.nexts.reserve(count)
     }
 
     /// Adds free numbers of chains to the arena: new keys get them in this order. `Refusal::OutOfMemory` leaves all as it was.

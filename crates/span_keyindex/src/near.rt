@@ -183,7 +183,33 @@ fn search_all<C: Ledger, W: Ledger>(
     }
 }
 
-// The lanes of the keys, from a cell on.
+// The search for one key alone.
+fn search_one<C: Ledger, W: Ledger>(
+    arena: &Arena,
+    key: &[u8],
+    first: Search,
+    levels: usize,
+    steps: &mut Steps<C, W>,
+) -> Search
+    ensures { IsLookCost levels steps.old steps.new }
+{
+    let mut lane = first;
+    for _level in 0..levels {
+        lane = step(arena, key, lane, read(arena, lane.at), steps);
+    }
+    lane
+}
+
+// A search for a key, from a cell on.
+fn first_lane(key: &[u8], root: u32) -> Search {
+    Search {
+        at: root,
+        before: NO_CHAIN,
+        head: head_of(key),
+    }
+}
+
+// The searches for the keys, from a cell on.
 fn first_lanes(keys: &[Key], root: u32) -> [Search; SEARCH_LANES] {
     let none = Search {
         at: NO_CHAIN,
@@ -192,11 +218,7 @@ fn first_lanes(keys: &[Key], root: u32) -> [Search; SEARCH_LANES] {
     };
     let mut lanes = [none; SEARCH_LANES];
     for i in 0..keys.len().min(SEARCH_LANES) {
-        lanes[i] = Search {
-            at: root,
-            before: NO_CHAIN,
-            head: head_of(keys[i].as_slice()),
-        };
+        lanes[i] = first_lane(keys[i].as_slice(), root);
     }
     lanes
 }
@@ -224,6 +246,22 @@ fn lane_chains(
     near
 }
 
+// The chain near a key alone, before none for others: a transaction of one row has one key, and the other searches would cost as much.
+fn near_one<C: Ledger, W: Ledger>(
+    index: &KeyIndex,
+    arena: &Arena,
+    key: &[u8],
+    root: u32,
+    steps: &mut Steps<C, W>,
+) -> [u32; SEARCH_LANES]
+    ensures { IsLookCost index.now.tree.levels steps.old steps.new }
+{
+    let mut near = [NO_CHAIN; SEARCH_LANES];
+    let lane = search_one(arena, key, first_lane(key, root), index.tree.levels, steps);
+    near[0] = lane_chain(arena, &index.nexts, lane);
+    near
+}
+
 /// The chains near some keys, up to `SEARCH_LANES`: where all is well, those of the last keys that are not after them.
 pub(crate) fn near_keys<C: Ledger, W: Ledger>(
     index: &KeyIndex,
@@ -235,7 +273,11 @@ pub(crate) fn near_keys<C: Ledger, W: Ledger>(
     ensures { (d : ℕ) → length (entries_of index.now arena.now) < 2 ^ d
         → IsSearchCost (search_lanes * d) steps.old steps.new }
 {
-    let mut lanes = first_lanes(keys, number_of(index.tree.root));
+    let root = number_of(index.tree.root);
+    if keys.len() == 1 {
+        return near_one(index, arena, keys[0].as_slice(), root, steps);
+    }
+    let mut lanes = first_lanes(keys, root);
     search_all(arena, keys, &mut lanes, index.tree.levels, steps);
     lane_chains(arena, &index.nexts, &lanes)
 }
