@@ -16,7 +16,7 @@ use span_arena::free_order::FreeOrder;
 use span_keyindex::index::KeyIndex;
 use span_keyindex::near::SEARCH_LANES;
 use span_value::refusal::Refusal;
-use std::alloc::Global;
+use std::alloc::{AllocError, Global};
 use std::marker::Model;
 
 /// Of how many writes one is looked at, to see whether they are new rows.
@@ -118,14 +118,25 @@ impl Store {
         Ok(())
     }
 
-    /// Before writes are put, from the last on: their rows get numbers by which those of one table mostly lie together in memory. Nothing
-    /// is changed that contracts see.
+    /// Reserves capacity for a number of new keys, each with a version. An `AllocError` leaves all as it was.
+    fn reserve_keys(&mut self, count: usize) -> Result<(), AllocError>
+        ensures { self.new ≡ self.old }
+    {
+        self.index.reserve(&mut self.arena, count)?;
+        self.arena.reserve_nodes(count)?;
+        self.prepared.reserve(count)
+    }
+
+    /// Before writes are put, from the last on: where they are new rows, memory for them is reserved, and they get numbers by which those of
+    /// one table mostly lie together. Nothing is changed that contracts see.
     pub fn reserve_numbers(&mut self, writes: &[NearWrite])
         ensures { self.new ≡ self.old }
     {
         if !self.are_new(writes) {
             return;
         }
+        // Where there is none, it is taken as the rows are put.
+        let _reserved = self.reserve_keys(writes.len());
         let alloc = *self.prepared.allocator();
         let Ok(Some(order)) = order_by_length(alloc, &self.arena, writes) else {
             return;
