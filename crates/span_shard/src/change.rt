@@ -91,6 +91,7 @@ fn writes_of_changes(
     let Changes { made, removed, .. } = changes;
     let mut writes = removals(alloc, store, &made, removed)?;
     let mut left = made.into_left(alloc)?;
+    writes.reserve(left.len())?;
     while let Some((key, row, near)) = left.pop() {
         let write = Write {
             key,

@@ -35,15 +35,15 @@ impl Model for Changes {
 }
 
 impl Changes {
-    /// No change. It takes no memory.
-    pub(crate) fn new(alloc: Global) -> Changes
-        ensures { result ≡ no_change }
+    /// No change, with memory for the rows that as many mutations make. `AllocError`: memory ran out.
+    pub(crate) fn with_capacity(alloc: Global, count: usize) -> Result<Changes, AllocError>
+        ensures { IfOk result (λ changes. changes ≡ no_change) }
     {
-        Changes {
-            made: MadeRows::new(alloc),
+        Ok(Changes {
+            made: MadeRows::with_capacity(alloc, count)?,
             removed: BTreeSet::new(alloc),
             cleared: BTreeSet::new(alloc),
-        }
+        })
     }
 
     // Whether mutations changed the row at a key.

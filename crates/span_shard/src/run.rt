@@ -361,7 +361,7 @@ pub(crate) fn run(
     ensures number { IfErr result (λ why. IsPrepareRefusal schema.now mutations.now store.now why) }
 {
     schema.meets_rules();
-    let mut changes = Changes::new(alloc);
+    let mut changes = Changes::with_capacity(alloc, mutations.len())?;
     let mut known = None;
     let mut ahead = NearChains::new();
     for mutation in mutations {

@@ -7,9 +7,10 @@ use Rattle.span_shard.proofs.change.writes_of_changes.Goals as goal
 pub loop-key-init : goal.loop-key-init
 loop-key-init c =
     let made = c.changes.inside.made in
-    written_left c.args.store.now c.args.changes made c.in_ok-left.left c.in_ok-writes.writes.items c.in_ok-left.ensures
+    subst (AreWrittenFrom c.args.store.now c.args.changes (changes_of c.in_ok-left.left [])) (sym c.reserve.ensures.items)
+    (written_left c.args.store.now c.args.changes made c.in_ok-left.left c.in_ok-writes.writes.items c.in_ok-left.ensures
     (subst (λ (es : Changes). AreWrittenFrom c.args.store.now es (changes_of made []) c.in_ok-writes.writes.items) c.changes.view_is
-    (written_of c.args.store.now (record { made = made; removed = c.changes.inside.removed.keys; cleared = c.changes.inside.cleared.keys }) (changes_of made []) c.in_ok-writes.writes.items c.in_ok-writes.ensures))
+    (written_of c.args.store.now (record { made = made; removed = c.changes.inside.removed.keys; cleared = c.changes.inside.cleared.keys }) (changes_of made []) c.in_ok-writes.writes.items c.in_ok-writes.ensures)))
 
 pub loop-key-preserved-in-Continue-branch-3 : goal.loop-key-preserved-in-Continue-branch-3
 loop-key-preserved-in-Continue-branch-3 c =
