@@ -1,10 +1,11 @@
 -- A leaf of one table gives the rows that pass its condition, one after another.
 use Rattle.std.proofs.Common.{◌≡◌, ◌⊎◌, inl, inr, ◌∙◌, ℕ, ◌+◌, ◌==◌, Bool, true, false, cond, List, [], ◌∷◌, ◌++◌, length, take, map, Option, Some, None, Result, Ok, Err, refl, sym, ap, subst, arith, if◌then◌else◌}
-use Rattle.std.specs.Prelude.{filter}
+use Rattle.std.specs.Prelude.{filter, IfOk}
 use Rattle.std.specs.List.{range_with_len, list_all}
 use Rattle.std.proofs.lemmas.Bool.{and_parts, eqb-true, eq-eqb}
 use Rattle.std.proofs.lemmas.List.{append-nil, take_all}
 use Rattle.std.proofs.lemmas.List.FromFn.{length-map-range_with_len}
+use Rattle.span_value.specs.declared.refusal.Refusal.{Refusal}
 use Rattle.span_value.specs.declared.truth.Outcome.{Outcome}
 use Rattle.span_schema.specs.declared.table.Table.{Table}
 use Rattle.span_schema.specs.Numbers.{other_kinds}
@@ -26,7 +27,7 @@ use Rattle.span_rows.specs.Answers.{Gives, Adds}
 use Rattle.span_rows.proofs.Gathering.{one_adds, one_fails, adding-fails}
 use Rattle.span_groups.specs.declared.reduction.Reduction.{Reduction}
 use Rattle.span_groups.specs.Reductions.{AreEnough, HasEnough, GivesEnough}
-use Rattle.span_groups.proofs.Reductions.{enough_same, enough_more, enough_again, gives_fault}
+use Rattle.span_groups.proofs.Reductions.{enough_same, enough_more, enough_again, gives_all, gives_fault}
 use Rattle.span_columns.specs.declared.leaf.Leaf.{Leaf}
 use Rattle.span_columns.specs.declared.leaf.LeafJoin.{LeafJoin}
 use Rattle.span_leaves.specs.Leaves.{width_of}
@@ -385,3 +386,14 @@ module _ (schema : List Table) (leaf : Leaf) (n most : ℕ) (tables : leaf.table
       → A ⊎ IsNoTableRow schema x.key x.row → A ⊎ AreNoRows schema entries
   scan_refused r rest later x old is so (inl why) = inl why
   scan_refused r rest later x old is so (inr none) = refused_of_all schema leaf.tables entries short have_short (inr (not_rows_left schema n leaf.kept leaf.filter r short rest later x old old is so none))
+
+-- ---- where all rows are there
+
+-- they are enough
+pub given_enough : (schema : List Table) (leaf : Leaf) (r : Reduction) (entries : List KeyRow) (found : Result (List Row) Failure) → IsKeptOn schema leaf entries found → IsEnoughOn schema leaf r entries found
+given_enough schema leaf r entries found kept = record { of = λ rows typed is. gives_all r found (kept_given schema leaf rows) (kept.of rows typed is) }
+
+pub found_enough : (schema : List Table) (leaf : Leaf) (r : Reduction) (entries : List KeyRow) (found : Result (Result (List Row) Failure) Refusal)
+    → IfOk found (λ rows. IsKeptOn schema leaf entries rows) → IfOk found (λ rows. IsEnoughOn schema leaf r entries rows)
+found_enough schema leaf r entries (Ok rows) kept = given_enough schema leaf r entries rows kept
+found_enough schema leaf r entries (Err why) kept = tt
