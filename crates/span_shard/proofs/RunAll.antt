@@ -1,8 +1,9 @@
 -- Mutations one after another, and what is written after them.
-use Rattle.std.proofs.Common.{◌≡◌, ◌≢◌, inl, inr, ℕ, ◌+◌, ◌<◌, zero, suc, Bool, true, false, not, ◌||◌, ◌&&◌, cond, List, [], ◌∷◌, ◌++◌, Option, Some, None, is_some, Result, Ok, Err, length, take, drop, get_or, refl, sym, ap, subst, ◌∙◌, arith}
+use Rattle.std.proofs.Common.{◌≡◌, ◌≢◌, inl, inr, ℕ, ◌+◌, ◌<◌, ◌≤◌, zero, suc, Bool, true, false, not, ◌||◌, ◌&&◌, cond, List, [], ◌∷◌, ◌++◌, Option, Some, None, is_some, Result, Ok, Err, length, take, drop, get_or, refl, sym, ap, subst, ◌∙◌, arith}
 use Rattle.std.specs.List.{find, list_any}
 use Rattle.std.specs.Option.{unwrap_or}
 use Rattle.std.specs.Str.{bytes_eq}
+use Rattle.std.proofs.lemmas.List.{drop_all}
 use Rattle.std.proofs.lemmas.Slice.Eq.{bytes_eq-Decides}
 use Rattle.std.proofs.lemmas.Bool.{not-false, and_parts, or_left, or_right, not-true}
 use Rattle.span_value.specs.declared.value.Value.{Value}
@@ -194,6 +195,14 @@ one_more tables ms typed cs i m es fs h e so_far run cleared = record { rows = r
           (step_database tables m keyed at.0 at.2.0 next.0 next.1, step_typed tables at.0 m next.0 at.2.1 typed_m next.1),
           next.2,
         )
+
+-- after the last mutation
+pub all_run : (tables : List Table) (ms : List CheckedMutation) (cs : List KeyVersions) (i : ℕ) (es : Changes) → length ms ≤ i → HaveRun tables ms cs i es → AreRunsOf tables ms cs es
+all_run tables ms cs i es h run = record {
+  touched = run.touched;
+  applied = λ db is tdb now.
+      let at = run.applied db is tdb now in (at.0, sym at.1 ∙ ap (apply tables at.0) (drop_all i ms h), at.3);
+}
 
 pub run_fault : (tables : List Table) (ms : List CheckedMutation) (cs : List KeyVersions) (i : ℕ) (m : CheckedMutation) (es : Changes) (why : Refusal) → i < length ms → m ≡ get_or ms i m → HaveRun tables ms cs i es → IsRunFault tables cs m es why
     → IsFault tables ms cs why

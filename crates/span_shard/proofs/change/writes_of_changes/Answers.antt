@@ -12,8 +12,8 @@ loop-key-init c =
     (subst (λ (es : Changes). AreWrittenFrom c.args.store.now es (changes_of made []) c.in_ok-writes.writes.items) c.changes.view_is
     (written_of c.args.store.now (record { made = made; removed = c.changes.inside.removed.keys; cleared = c.changes.inside.cleared.keys }) (changes_of made []) c.in_ok-writes.writes.items c.in_ok-writes.ensures)))
 
-pub loop-key-preserved-in-Continue-branch-3 : goal.loop-key-preserved-in-Continue-branch-3
-loop-key-preserved-in-Continue-branch-3 c =
+pub loop-key-preserved-in-Continue-branch-4 : goal.loop-key-preserved-in-Continue-branch-4
+loop-key-preserved-in-Continue-branch-4 c =
     let left = c.loop-key.left in
     let rest = c.pop.new.self in
     subst (AreWrittenFrom c.args.store.now c.args.changes (changes_of rest [])) (sym c.in_ok-push.ensures.items)
