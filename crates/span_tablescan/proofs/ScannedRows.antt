@@ -196,7 +196,7 @@ module _ (schema : List Table) (n : ℕ) (ms : List Bool) (w : Option Expr) wher
   kept_first entries rows typed is = record { left = rows; typed = typed; are = is; kept = sym (nil-append_results (kept_rows rows)) }
 
   -- the first of the rows that are left
-  record FirstLeft (x : KeyRow) (rest : List KeyRow) (left : List TableRow) : Type 0 where
+  pub record FirstLeft (x : KeyRow) (rest : List KeyRow) (left : List TableRow) : Type 0 where
     pub row : TableRow
     pub later : List TableRow
     pub is : left ≡ row ∷ later
@@ -205,7 +205,7 @@ module _ (schema : List Table) (n : ℕ) (ms : List Bool) (w : Option Expr) wher
     pub rest_is : rest ≡ map (key_row schema) later
     pub typed : IsTyped schema row × AreTyped schema later
 
-  first_left : (x : KeyRow) (rest : List KeyRow) (left : List TableRow) → AreTyped schema left → x ∷ rest ≡ map (key_row schema) left → FirstLeft x rest left
+  pub first_left : (x : KeyRow) (rest : List KeyRow) (left : List TableRow) → AreTyped schema left → x ∷ rest ≡ map (key_row schema) left → FirstLeft x rest left
   first_left x rest [] typed is = absurd cc
   first_left x rest (t ∷ ts) typed is =
       let heads : (x ≡ key_row schema t) × (rest ≡ map (key_row schema) ts) = both x (key_row schema t) rest (map (key_row schema) ts) is in
