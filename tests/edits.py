@@ -66,6 +66,8 @@ PLACE = re.compile(r"(note: )?\S+:\d+:\d+:")
 TOGETHER = 12
 # Said of an edit whose check did not begin.
 TOO_LATE = "not tried, for --minutes"
+# What is said of an edit of which nothing was found: `rt` says the second, where a check could not run.
+UNTRIED = (TOO_LATE, "NOT TRIED")
 # What is found of an edit: it is refused, or not, or its check gave no verdict.
 REFUSED, NOT_REFUSED, NO_VERDICT = "refused", "not refused", "without a verdict"
 
@@ -455,7 +457,7 @@ def verdict_of(found, text):
 
 def write_verdicts(edits, tried, commit):
     """Records what was found of some edits, where they were tried."""
-    verdicts.record([(edit, verdict_of(*one)) for edit, one in zip(edits, tried) if TOO_LATE not in one[1]], commit)
+    verdicts.record([(edit, verdict_of(*one)) for edit, one in zip(edits, tried) if not any(words in one[1] for words in UNTRIED)], commit)
     verdicts.write_table({crate: edits_of(crate) for crate in crates_with_edits()})
 
 
