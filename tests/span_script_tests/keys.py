@@ -1,7 +1,8 @@
 #!/usr/bin/env python3
-"""Runs, by the proved program, the scripts of many keys that are too long for files: 10,000 keys that rise or fall, and 100,000 in no order. Every
-second key is removed, and all come again the other way round; the answers are those of a sorted list (computed.py). Then transactions that are
-aborted, few and many, after which as much memory is taken.
+"""Runs, by the proved program, the scripts that are too long for files: 10,000 keys that rise or fall, and 100,000 in no order. Every second key
+is removed, and all come again the other way round; the answers are those of a sorted list (computed.py). Groups of 21,500 rows, with all queries of
+grouped.py three times. Then transactions that are aborted, few and many, after which as much memory is taken; and many rows, of which a query
+that groups them takes little memory beside that which they have.
 """
 import os
 import random
@@ -14,10 +15,16 @@ import time
 # computed.py puts another folder first in the path, which has a run.py too
 import run
 import computed
+import grouped
 
 COUNTS = {"rising": 10_000, "falling": 10_000, "mixed": 100_000}
 # Numbers of aborted transactions, and how many times the memory of the first number's the second's may be.
 FEW_ABORTS, MANY_ABORTS, MOST_TIMES = 20, 400, 1.25
+# Numbers of rows that are grouped, and of those of a transaction; and how many kilobytes the groups of all may take. Their columns would take 48 bytes
+# for each value.
+GROUPED_ROWS, ROWS_OF_A_TRANSACTION, MOST_KILOBYTES = 200_000, 1_000, 5_000
+SUMS = "SELECT COUNT(n), SUM(n), MIN(n), MAX(n) FROM T"
+GROUPS = "SELECT n, COUNT(*), SUM(k) FROM T GROUP BY n"
 
 
 def aborted(count):
@@ -37,6 +44,31 @@ def aborted(count):
         family.of[table].update(more)
     family.check(2 * count)
     return family.script
+
+
+def many_rows(queries):
+    """A script of many rows in small transactions, and of queries with their answers."""
+    script = computed.Script("CREATE TABLE T (k INT64 NOT NULL, n INT64) PRIMARY KEY (k)\n")
+    rows, last = [(key, key * 7919 % 1000) for key in range(GROUPED_ROWS)], 0
+    for start in range(0, GROUPED_ROWS, ROWS_OF_A_TRANSACTION):
+        part = rows[start : start + ROWS_OF_A_TRANSACTION]
+        script.ask("\n".join(["load T *", *(f"{key},{n}" for key, n in part), "end"]), f"loaded {len(part)}")
+        script.commit(last + 100, last + 1)
+        last += 100
+    for query in queries:
+        script.rows(last, query, query_rows(query, rows))
+    return script
+
+
+def query_rows(query, rows):
+    """What a query of these gives."""
+    if query == SUMS:
+        numbers = [n for _, n in rows]
+        return [(len(numbers), sum(numbers), min(numbers), max(numbers))]
+    groups = {}
+    for key, n in rows:
+        groups.setdefault(n, []).append(key)
+    return [(n, len(keys), sum(keys)) for n, keys in groups.items()]
 
 
 def answers_of(folder, script):
@@ -71,18 +103,28 @@ def memory_of(folder, script):
         return int(found.group(1)) if found and out.read() == wanted else None
 
 
+def scripts():
+    """Each script with its title."""
+    for name, count in COUNTS.items():
+        yield f"{count} {name}", computed.many_keys(name, count)
+    yield f"groups of {grouped.MANY_ROWS.count} rows", computed.grouped_rows(grouped.MANY_ROWS, *[grouped.queries(grouped.MANY_ROWS)] * 3)
+
+
 def main():
     run.build()
     wrong = 0
     with tempfile.TemporaryDirectory() as folder:
-        for name, count in COUNTS.items():
-            script = computed.many_keys(name, count)
+        for title, script in scripts():
             is_right = answers_of(folder, script) == script.answers
-            print(f"keys: {count} {name}: {len(script.answers)} answers, {'as wanted' if is_right else 'not as wanted'}")
+            print(f"keys: {title}: {len(script.answers)} answers, {'as wanted' if is_right else 'not as wanted'}")
             wrong += not is_right
         few, many = (memory_of(folder, aborted(count)) for count in (FEW_ABORTS, MANY_ABORTS))
         is_right = few is not None and many is not None and many <= MOST_TIMES * few
         print(f"keys: {FEW_ABORTS} and {MANY_ABORTS} aborted transactions: {few} and {many} KB, {'as wanted' if is_right else 'not as wanted'}")
+        wrong += not is_right
+        without, both = (memory_of(folder, many_rows(queries)) for queries in ((), (SUMS, GROUPS)))
+        is_right = without is not None and both is not None and both <= without + MOST_KILOBYTES
+        print(f"keys: {GROUPED_ROWS} rows without and with their groups: {without} and {both} KB, {'as wanted' if is_right else 'not as wanted'}")
         wrong += not is_right
     return int(wrong > 0)
 

@@ -5,6 +5,7 @@ ghost use Rattle.span_algebra.specs.BlockMeaning.{TakesDistinct};
 ghost use Rattle.span_algebra.specs.SameMeaning.{IsReductionFor};
 
 use super::ordered::only_table;
+use span_groups::collected::CollectedRows;
 use span_groups::part_rows::PartRows;
 use span_groups::reduction::Reduction;
 use span_query::query::{Block, BoundQuery};
@@ -27,7 +28,7 @@ pub fn distinct_table(block: &Block<BoundQuery>) -> Option<usize>
 pub fn distinct_part(
     alloc: Global,
     block: &Block<BoundQuery>,
-    rows: RowList,
+    rows: CollectedRows,
 ) -> Result<PartRows, AllocError>
     ensures { IfOk result (λ made. made ≡ rows) }
 {

@@ -8,6 +8,7 @@ ghost use Rattle.span_sorting.specs.Codes.{HaveCodes, coded_rows};
 ghost use Rattle.span_algebra.specs.ColumnOrders.{IsColumnOrder, IsTable, TakesAllRows};
 ghost use Rattle.span_algebra.specs.SameMeaning.{IsReductionFor};
 
+use span_groups::collected::CollectedRows;
 use span_groups::part_rows::PartRows;
 use span_groups::reduction::Reduction;
 use span_query::query::{Block, BoundQuery, Item, Limit, SortKey};
@@ -123,7 +124,11 @@ pub fn ordered_table(query: &BoundQuery) -> Option<usize>
 
 /// Rows of the table that a query puts in order, with this order where its select list is columns alone. Where LIMIT needs few rows,
 /// these alone are put in order. The only error is out of memory.
-pub fn order_part(alloc: Global, query: &BoundQuery, rows: RowList) -> Result<PartRows, AllocError>
+pub fn order_part(
+    alloc: Global,
+    query: &BoundQuery,
+    rows: CollectedRows,
+) -> Result<PartRows, AllocError>
     ensures { IfOk result (λ ordered. ordered ≡ rows) }
 {
     match column_order(alloc, query)? {

@@ -195,9 +195,16 @@ fn join_parts(alloc: Global, parts: &[&PartRows]) -> Result<RowList, AllocError>
 {
     let mut rows = RowList::new(alloc);
     for part in parts {
-        add_copies(alloc, &mut rows, part.rows())?;
+        add_copies(alloc, &mut rows, rows_of_part(part)?)?;
     }
     Ok(rows)
+}
+
+/// The rows of a part. The error is that some are there as groups alone, which a query has of no table but one that it groups.
+fn rows_of_part<'a>(part: &'a PartRows) -> Result<&'a RowList, AllocError>
+    ensures { IfOk result (λ rows. rows.now ≡ part.now) }
+{
+    part.rows().ok_or(AllocError)
 }
 
 fn add_copies(alloc: Global, rows: &mut RowList, more: &RowList) -> Result<(), AllocError>
@@ -250,7 +257,7 @@ fn source_of<'a>(alloc: Global, parts: &[&'a PartRows]) -> Result<SourceRows<'a>
     ensures { IfOk result (λ source. source_rows source ≡ all_rows parts.now) }
 {
     match parts {
-        [part] => Ok(SourceRows::Lent(part.rows())),
+        [part] => Ok(SourceRows::Lent(rows_of_part(*part)?)),
         _ => Ok(SourceRows::Made(join_parts(alloc, parts)?)),
     }
 }

@@ -4,8 +4,8 @@ ghost use Rattle.std.specs.Option.{option_copied};
 
 use span_groups::part_rows::PartRows;
 
-/// The rows of a leaf in a part of its range, with their groups where the query above groups them, or none where joining or filtering them was an
-/// arithmetic error. Only `run_leaf` makes it.
+/// The rows of a leaf in a part of its range, or none where joining or filtering them was an arithmetic error. Where the query above groups them
+/// they may be there as groups alone. Only `run_leaf` makes it.
 #[derive(Debug, Drop)]
 pub struct Piece {
     rows: Option<PartRows>,

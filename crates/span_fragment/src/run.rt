@@ -18,10 +18,10 @@ use span_algebra::plain::grouped_table;
 use span_algebra::reduction::reduction_for;
 use span_columns::leaf::Leaf;
 use span_expr::cell::Failure;
+use span_groups::collected::CollectedRows;
 use span_groups::part_rows::PartRows;
 use span_groups::reduction::Reduction;
 use span_query::query::{Block, BoundQuery, Grouping};
-use span_rows::row_list::RowList;
 use span_schema::schema::Schema;
 use span_shard::snapshot::Snapshot;
 use span_tablescan::scan::rows_of_table;
@@ -39,19 +39,26 @@ enum LeafUse<'a> {
     Order(&'a BoundQuery),
 }
 
+/// The grouping by which a block groups them, where one does.
+fn grouping_of(leaf_use: Option<LeafUse<'_>>) -> Option<&Grouping> {
+    match leaf_use {
+        Some(LeafUse::Group(grouping)) => Some(grouping),
+        _ => None,
+    }
+}
+
 /// Rows, with what is done here of what the query above does with them.
 fn rows_for(
     alloc: Global,
     leaf_use: Option<LeafUse<'_>>,
-    rows: RowList,
+    rows: CollectedRows,
 ) -> Result<PartRows, AllocError>
     ensures { IfOk result (λ made. made ≡ rows) }
 {
     match leaf_use {
-        Some(LeafUse::Group(grouping)) => PartRows::with_groups(alloc, grouping, rows),
         Some(LeafUse::Distinct(block)) => distinct_part(alloc, block, rows),
         Some(LeafUse::Order(query)) => order_part(alloc, query, rows),
-        None => Ok(PartRows::new(rows)),
+        _ => Ok(PartRows::new(rows)),
     }
 }
 
@@ -60,13 +67,11 @@ fn part_of(
     alloc: Global,
     leaf_use: Option<LeafUse<'_>>,
     reduction: &Reduction,
-    rows: RowList,
+    rows: CollectedRows,
 ) -> Result<PartRows, AllocError>
     ensures { IfOk result (λ made. AreEnough reduction.now made rows) }
 {
-    let mut kept = rows;
-    reduction.keep(alloc, &mut kept)?;
-    rows_for(alloc, leaf_use, kept)
+    rows_for(alloc, leaf_use, rows.keep_enough(alloc, reduction)?)
 }
 
 /// The piece of a leaf that gives these rows, or the fault. The only refusal is out of memory.
@@ -74,7 +79,7 @@ fn piece_of(
     alloc: Global,
     leaf_use: Option<LeafUse<'_>>,
     reduction: &Reduction,
-    found: Result<RowList, Failure>,
+    found: Result<CollectedRows, Failure>,
 ) -> Result<Piece, Refusal>
     ensures { MatchResult result
         (λ piece. (meant : Rows) → GivesEnough reduction.now found meant → HasEnough reduction.now piece.rows meant)
@@ -104,17 +109,18 @@ fn give_rows(
     schema: &Schema,
     leaf: &Leaf,
     reduction: &Reduction,
+    grouping: Option<&Grouping>,
     snapshot: Snapshot<'_>,
-) -> Result<Result<RowList, Failure>, Refusal>
+) -> Result<Result<CollectedRows, Failure>, Refusal>
     requires tables { AllByRecursion (IsTable schema.now) leaf.now.tables }
     requires maskable { IsMaskable schema.now leaf.now }
     ensures ok { IfOk result (λ found. IsEnoughOn schema.now leaf.now reduction.now snapshot.entry found) }
     ensures refused { IfErr result (λ why. (why ≡ Refusal.OutOfMemory) ⊎ AreNoRows schema.now snapshot.entry) }
 {
     if let Some(table) = only_table(leaf) {
-        return rows_of_table(alloc, schema, leaf, table, reduction, snapshot);
+        return rows_of_table(alloc, schema, leaf, table, reduction, grouping, snapshot);
     }
-    rows_of_leaf(alloc, schema, leaf, snapshot)
+    rows_of_leaf(alloc, schema, leaf, grouping, snapshot)
 }
 
 /// What a leaf gives on the rows of a part of its range, which a snapshot lends, for the query above the leaves: the leaf is the table at this
@@ -136,8 +142,10 @@ pub fn run_leaf(
         (λ why. (why ≡ Refusal.OutOfMemory) ⊎ AreNoRows schema.now snapshot.entry) }
 {
     let reduction = reduction_for(alloc, top, place)?;
-    let found = give_rows(alloc, schema, leaf, &reduction, snapshot)?;
-    Ok(piece_of(alloc, leaf_use(top, place), &reduction, found)?)
+    let leaf_use = leaf_use(top, place);
+    let grouping = grouping_of(leaf_use);
+    let found = give_rows(alloc, schema, leaf, &reduction, grouping, snapshot)?;
+    Ok(piece_of(alloc, leaf_use, &reduction, found)?)
 }
 
 /// How a block groups all rows of the table with this number, if it does; the first table has number 1.

@@ -57,7 +57,8 @@ fn tables_of<'a>(alloc: Global, leaves: &'a [Seq<Piece>]) -> Result<Tables<'a>, 
 }
 
 /// The rows of a query whose tables are the leaves of its plan, from the pieces of each leaf in the order of their ranges.
-/// `ArithmeticFault`, or `OutOfMemory`.
+/// `ArithmeticFault`, or `OutOfMemory`; the latter too where the rows of a piece are asked for of which the groups alone are there, which the query
+/// that the pieces were made for does not do.
 pub fn finish(alloc: Global, top: &BoundQuery, leaves: &[Seq<Piece>]) -> Result<Rows, Refusal>
     ensures { MatchResult result
         (λ rows. gathered leaves.now top.now ≡ Some rows.rows)

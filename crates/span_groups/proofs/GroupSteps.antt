@@ -261,20 +261,17 @@ pub count_by_firsts : (places : List ℕ) (width : ℕ) (firsts : List (Bor Row)
 count_by_firsts places width firsts states =
     count_in width (keys_at places (lent_rows firsts)) states ∙ length-map (lent_rows firsts) (columns_at places) ∙ length-map firsts (λ (r : Bor Row). r.now)
 
-key_by_place : (places : List ℕ) (rows : List Row) (firsts : List ℕ) (at place : ℕ) (row : Row) → at < length firsts → place ≡ get_or firsts at place → row ≡ get_or rows place [] → get_or (keys_at places (rows_at rows firsts)) at [] ≡ columns_at places row
-key_by_place places rows firsts at place row within is there =
-    get_or-map (columns_at places) (rows_at rows firsts) at row [] (omega (arith, within, length-map firsts (λ (p : ℕ). get_or rows p [])))
-    ∙ ap (columns_at places) (get_or-map (λ (p : ℕ). get_or rows p []) firsts at place row within ∙ ap (λ (p : ℕ). get_or rows p []) (sym is) ∙ sym there)
+key_by_row : (places : List ℕ) (firsts : List Row) (at : ℕ) (row : Row) → at < length firsts → row ≡ get_or firsts at row → get_or (keys_at places firsts) at [] ≡ columns_at places row
+key_by_row places firsts at row within is = get_or-map (columns_at places) firsts at row [] within ∙ ap (columns_at places) (sym is)
 
-pub group_by_place : (places : List ℕ) (width : ℕ) (rows : List Row) (firsts : List ℕ) (states : List AggregateState) (at place : ℕ) (row : Row) (d : Group) → at < length firsts → place ≡ get_or firsts at place → row ≡ get_or rows place []
-    → get_or (groups_in width (keys_at places (rows_at rows firsts)) states) at d ≡ record { key = columns_at places row; states = states_from (at * width) width states }
-group_by_place places width rows firsts states at place row d within is there =
-    group_found width (keys_at places (rows_at rows firsts)) states at d [] (omega (arith, within, length-map (rows_at rows firsts) (columns_at places), length-map firsts (λ (p : ℕ). get_or rows p [])))
-    ∙ ap (λ (k : Row). record { key = k; states = states_from (at * width) width states }) (key_by_place places rows firsts at place row within is there)
+pub group_by_row : (places : List ℕ) (width : ℕ) (firsts : List Row) (states : List AggregateState) (at : ℕ) (row : Row) (d : Group) → at < length firsts → row ≡ get_or firsts at row
+    → get_or (groups_in width (keys_at places firsts) states) at d ≡ record { key = columns_at places row; states = states_from (at * width) width states }
+group_by_row places width firsts states at row d within is =
+    group_found width (keys_at places firsts) states at d [] (omega (arith, within, length-map firsts (columns_at places)))
+    ∙ ap (λ (k : Row). record { key = k; states = states_from (at * width) width states }) (key_by_row places firsts at row within is)
 
-pub count_by_places : (places : List ℕ) (width : ℕ) (rows : List Row) (firsts : List ℕ) (states : List AggregateState) → length (groups_in width (keys_at places (rows_at rows firsts)) states) ≡ length firsts
-count_by_places places width rows firsts states =
-    count_in width (keys_at places (rows_at rows firsts)) states ∙ length-map (rows_at rows firsts) (columns_at places) ∙ length-map firsts (λ (p : ℕ). get_or rows p [])
+pub count_by_rows : (places : List ℕ) (width : ℕ) (firsts : List Row) (states : List AggregateState) → length (groups_in width (keys_at places firsts) states) ≡ length firsts
+count_by_rows places width firsts states = count_in width (keys_at places firsts) states ∙ length-map firsts (columns_at places)
 
 -- the keys of groups that are whole are those of their lists
 pub lists_of_groups : (g : Grouping) (keys : List Row) (states : List AggregateState) (ks rows : List Row) → AreWholeGroups g ks rows (groups_by g keys states) → keys ≡ ks

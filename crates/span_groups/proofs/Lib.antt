@@ -7,7 +7,8 @@ pub mod Passes
 pub mod FirstRows
 pub mod Merging
 pub mod MergedGroups
-pub mod Measuring
+pub mod Copying
+pub mod KeptGroups
 pub mod Parting
 pub mod AddedStates
 pub mod GroupSteps

@@ -94,7 +94,7 @@ none_unlike (y ∷ keys) x e =
     ap (λ b. cond (not b) (y ∷ filter (unlike x) keys) (filter (unlike x) keys)) (are_equal-reversed x y ∙ both.0)
     ∙ ap (λ (l : List Row). y ∷ l) (none_unlike keys x both.1)
 
-apart_distinct : (keys : List Row) → AreApart keys → distinct keys ≡ keys
+pub apart_distinct : (keys : List Row) → AreApart keys → distinct keys ≡ keys
 apart_distinct [] a = refl
 apart_distinct (x ∷ keys) a = ap (λ (l : List Row). x ∷ filter (unlike x) l) (apart_distinct keys a.1) ∙ ap (λ (l : List Row). x ∷ l) (none_unlike keys x a.0)
 

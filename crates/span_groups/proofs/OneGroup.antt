@@ -32,27 +32,30 @@ counted_more all rows states new i a s inside at h is added =
     subst (λ (ss : List AggregateState). AreStatesOf (take (i + 1) all) rows ss) (sym added)
     (subst (λ (xs : List Aggregate). AreStatesOf xs rows (states ++ s ∷ [])) front (states_more (take i all) rows states a s h is))
 
-pub counted_group : (g : Grouping) (rows : List Row) (x : GroupLists) → g.keys ≡ [] → x.firsts.items ≡ 0 ∷ [] → AreStatesOf g.aggregates rows x.states.items → AreGroupsWhere None g rows x
-counted_group g rows x none first states =
+pub one_group_held : (g : Grouping) (rows : List Row) (states : List AggregateState) → g.keys ≡ [] → AreStatesOf g.aggregates rows states → AreGroupLists g rows ([] ∷ []) states
+one_group_held g rows states none are =
     let width : ℕ = length g.aggregates in
     let key : Row = [] in
-    let one : keys_at g.keys (rows_at rows x.firsts.items) ≡ key ∷ [] = ap (λ (ks : List ℕ). keys_at ks (rows_at rows x.firsts.items)) none ∙ ap (λ (fs : List ℕ). keys_at [] (rows_at rows fs)) first in
     let all : rows_with g.keys key rows ≡ rows = ap (λ (ks : List ℕ). rows_with ks key rows) none ∙ all_with rows in
-    let whole : take width x.states.items ≡ x.states.items = take_all width x.states.items (omega (arith, states.long)) in
-    let taken : AreStatesOf g.aggregates (rows_with g.keys key rows) (take width x.states.items) =
-    subst (λ (ss : List AggregateState). AreStatesOf g.aggregates (rows_with g.keys key rows) ss) (sym whole) (subst (λ (rs : List Row). AreStatesOf g.aggregates rs x.states.items) (sym all) states) in
-    let group : Group = record { key = key; states = take width x.states.items } in
-    let held : AreGroupLists g rows (key ∷ []) x.states.items = record {
-      whole = omega (arith, states.long);
+    let whole : take width states ≡ states = take_all width states (omega (arith, are.long)) in
+    let taken : AreStatesOf g.aggregates (rows_with g.keys key rows) (take width states) =
+    subst (λ (ss : List AggregateState). AreStatesOf g.aggregates (rows_with g.keys key rows) ss) (sym whole) (subst (λ (rs : List Row). AreStatesOf g.aggregates rs states) (sym all) are) in
+    let group : Group = record { key = key; states = take width states } in
+    record {
+      whole = omega (arith, are.long);
       are = record {
         keyed = sym (ap (λ (ks : List ℕ). group_keys ks rows) none);
         each = All-replicate (HasTakenRows g rows) 1 group taken;
       };
-    } in
+    }
+
+pub counted_group : (g : Grouping) (rows : List Row) (x : GroupLists) → g.keys ≡ [] → x.firsts.items ≡ 0 ∷ [] → AreStatesOf g.aggregates rows x.states.items → AreGroupsWhere None g rows x
+counted_group g rows x none first states =
+    let one : keys_at g.keys (rows_at rows x.firsts.items) ≡ [] ∷ [] = ap (λ (ks : List ℕ). keys_at ks (rows_at rows x.firsts.items)) none ∙ ap (λ (fs : List ℕ). keys_at [] (rows_at rows fs)) first in
     record {
       kept = rows;
       those = refl;
-      are = subst (λ (ks : List Row). AreGroupLists g rows ks x.states.items) (sym one) held;
+      are = subst (λ (ks : List Row). AreGroupLists g rows ks x.states.items) (sym one) (one_group_held g rows x.states.items none states);
     }
 
 -- ---- one row after another

@@ -1,10 +1,10 @@
 -- Rows that are enough in the place of others stay so.
-use Rattle.std.proofs.Common.{◌≡◌, ◌∙◌, List, ◌++◌, Some, Result, Ok, Err, refl, ap}
+use Rattle.std.proofs.Common.{◌∙◌, List, ◌++◌, Some, Result, Ok, Err, refl, ap}
 use Rattle.span_expr.specs.declared.cell.Failure.{Failure}
 use Rattle.span_expr.specs.declared.cell.Failure.TheVariants.{Fault, OutOfMemory}
 use Rattle.span_query.specs.Rows.{Row, Rows}
 use Rattle.span_query.specs.Sorting.{comes_before}
-use Rattle.span_sorting.proofs.FirstOfParts.{first_of_parts, first_again}
+use Rattle.span_sorting.proofs.FirstOfParts.{first_of_parts}
 use Rattle.span_sorting.proofs.RowOrder.{rows_ranked}
 use Rattle.span_groups.specs.declared.reduction.Reduction.{Reduction}
 use Rattle.span_groups.specs.declared.reduction.Reduction.TheVariants.{Everything, First, Distinct}

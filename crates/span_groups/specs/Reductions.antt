@@ -1,5 +1,5 @@
 -- Rows that are enough in the place of others.
-use Rattle.std.specs.Prelude.{◌≡◌, List, Option, Result, Ok, Err, Some, None, take}
+use Rattle.std.specs.Prelude.{◌≡◌, List, Result, Ok, Err, Some, None, take}
 use Rattle.span_expr.specs.declared.cell.Failure.{Failure}
 use Rattle.span_expr.specs.declared.cell.Failure.TheVariants.{Fault, OutOfMemory}
 use Rattle.span_query.specs.Rows.{Row, Rows}

@@ -1,5 +1,6 @@
 //! Groups of rows of which nothing but their number is wanted: no row is looked at.
-ghost use Rattle.std.specs.Prelude.{None, IfOk, IfSome};
+ghost use Rattle.std.specs.Prelude.{◌≡◌, List, None, IfOk, IfSome, length};
+ghost use Rattle.span_query.specs.Rows.{Row};
 ghost use Rattle.span_groups.specs.GroupStates.{AreGroupsWhere};
 ghost use Rattle.span_groups.specs.States.{AreStatesOf};
 
@@ -9,21 +10,23 @@ use span_query::query::{Aggregate, Grouping};
 use span_rows::row_list::RowList;
 use std::alloc::{AllocError, Global};
 
-/// The states of counts of rows at all rows of a list. None where an aggregate is no such count.
+/// The states of counts of rows after a number of them. None where an aggregate is no such count.
 #[tactic(auto, using(crate::proofs::OneGroup::counted_more))]
-fn counted_states(
+pub(crate) fn counted_states(
     alloc: Global,
     aggregates: &[Aggregate],
-    rows: &RowList,
+    count: usize,
 ) -> Result<Option<Vec<AggregateState>>, AllocError>
-    ensures { IfOk result (λ found. IfSome found (λ states. AreStatesOf aggregates.now rows.now states.items)) }
+    ensures { IfOk result
+        (λ found. IfSome found
+        (λ states. (rows : List Row) → length rows ≡ count → AreStatesOf aggregates.now rows states.items)) }
 {
     let mut states = Vec::with_capacity(alloc, aggregates.len())?;
     for aggregate in aggregates {
         let Aggregate::CountRows = aggregate else {
             return Ok(None);
         };
-        states.push(AggregateState::Count(rows.len() as u64))?;
+        states.push(AggregateState::Count(count as u64))?;
     }
     Ok(Some(states))
 }
@@ -39,7 +42,7 @@ pub(crate) fn counted_group(
     if !grouping.keys.is_empty() {
         return Ok(None);
     }
-    let Some(states) = counted_states(alloc, grouping.aggregates.as_slice(), rows)? else {
+    let Some(states) = counted_states(alloc, grouping.aggregates.as_slice(), rows.len())? else {
         return Ok(None);
     };
     let mut firsts = Vec::new(alloc);

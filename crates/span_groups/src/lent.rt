@@ -6,6 +6,7 @@ ghost use Rattle.span_query.specs.Groups as spec;
 ghost use Rattle.span_rows.specs.Answers.{Gives};
 ghost use Rattle.span_rows.specs.LentRows.{lent_rows};
 ghost use Rattle.span_groups.specs.GroupStates.{keys_at, AreGroupLists, CanCountRow, HaveKeys};
+ghost use Rattle.span_groups.specs.MergedGroups.{AnyFault, CanTakeList};
 ghost use Rattle.span_groups.specs.States.{operand_at};
 
 use super::aggregate::AggregateState;
@@ -70,23 +71,28 @@ fn take_lent_row<'a>(
     Ok(())
 }
 
-/// The groups of rows that are lent.
-fn lent_groups<'a>(
+/// The groups with the rows of a list, one after another.
+pub(crate) fn take_list<'a>(
     alloc: Global,
     grouping: &'a Grouping,
-    rows: &[&'a [Value]],
-) -> Result<LentGroups<'a>, Failure>
-    ensures { MatchResult result
-        (λ groups. AreGroupLists grouping.now (lent_rows rows.now)
-        (keys_at grouping.now.keys (lent_rows groups.firsts.items)) groups.states.items)
-        (λ why. Gives {A = List Row} (Err why) (spec.groups grouping.now (lent_rows rows.now))) }
+    index: &mut IndexSet<LentKey<'a>>,
+    groups: &mut LentGroups<'a>,
+    rows: &'a RowList,
+) -> Result<(), Failure>
+    requires { CanTakeList grouping.now index.old.keys groups.old.states.items rows.now }
+    ensures ok { OnOk result
+        ((before : List Row)
+        → AreGroupLists grouping.now before index.old.keys groups.old.states.items
+        → AreGroupLists grouping.now (before ++ rows.now) index.new.keys groups.new.states.items) }
+    ensures firsts { OnOk result
+        (HaveKeys grouping.now (lent_rows groups.old.firsts.items) index.old.keys
+        → HaveKeys grouping.now (lent_rows groups.new.firsts.items) index.new.keys) }
+    ensures fault { result ≡ Err Fault → AnyFault grouping.now rows.now }
 {
-    let mut groups = no_lent_groups(alloc, grouping)?;
-    let mut index = first_index(alloc, grouping)?;
     for at in 0..rows.len() {
-        take_lent_row(alloc, grouping, &mut index, &mut groups, rows[at])?;
+        take_lent_row(alloc, grouping, index, groups, rows.row(at))?;
     }
-    Ok(groups)
+    Ok(())
 }
 
 /// The row of each of the groups.
@@ -108,16 +114,4 @@ pub(crate) fn rows_of_lent(
         groups.firsts.as_slice(),
         groups.states.as_slice(),
     )
-}
-
-/// The rows of the groups of rows that are lent: of each group its key, and then its aggregates.
-pub(crate) fn group_lent_rows(
-    alloc: Global,
-    grouping: &Grouping,
-    rows: &[&[Value]],
-) -> Result<RowList, Failure>
-    ensures { Gives result (spec.groups grouping.now (lent_rows rows.now)) }
-{
-    let groups = lent_groups(alloc, grouping, rows)?;
-    rows_of_lent(alloc, grouping, &groups)
 }

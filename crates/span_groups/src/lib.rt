@@ -2,10 +2,14 @@
 #![tactic(auto)]
 
 mod aggregate;
+pub mod collected;
+mod column_grouping;
 mod counted;
 mod firsts;
 pub mod group;
+pub mod grouped;
 mod lent;
+mod many;
 mod merge;
 mod one_group;
 pub mod part_rows;

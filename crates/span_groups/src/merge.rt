@@ -1,20 +1,27 @@
 //! The groups of parts of some rows put together: those of all the rows, by first appearance.
-ghost use Rattle.std.specs.Prelude.{◌≡◌, ◌*◌, [], ◌∷◌, ◌++◌, length, List, IfOk, IfSome, IsTrue, OnOk};
+ghost use Rattle.std.specs.Prelude.{◌≡◌, ◌*◌, ◌++◌, length, List, Err, IfOk, IsTrue, MatchResult, OnOk};
+ghost use Rattle.std.specs.Option.{option_copied};
+ghost use Rattle.span_expr.specs.declared.cell.Failure.TheVariants.{Fault};
+ghost use Rattle.span_query.specs.Groups as spec;
+ghost use Rattle.span_query.specs.Groups.{columns_at, rows_with};
 ghost use Rattle.span_query.specs.Rows.{Row};
-ghost use Rattle.span_query.specs.Groups.{columns_at, group_keys, rows_with};
+ghost use Rattle.span_rows.specs.Answers.{Gives};
 ghost use Rattle.span_rows.specs.Keys.{with_new};
 ghost use Rattle.span_rows.specs.LentRows.{lent_rows};
-ghost use Rattle.span_groups.specs.GroupStates.{groups_by, keys_at, AreGroupLists, AreInStep, HaveKeys, HoldGroups};
-ghost use Rattle.span_groups.specs.MergedGroups.{AreWholeGroups};
+ghost use Rattle.span_groups.specs.GroupStates.{groups_by, keys_at, AreGroupLists, AreInStep, HaveKeys};
+ghost use Rattle.span_groups.specs.KeptGroups.{grouped_rows, AreGroupsWith};
+ghost use Rattle.span_groups.specs.MergedGroups.{AnyFault, AreWholeGroups, CanTakeList};
 ghost use Rattle.span_groups.specs.Parts.{all_rows};
 ghost use Rattle.span_groups.specs.States.{AreStatesOf};
 
 use super::aggregate::AggregateState;
-use super::group::{GroupLists, first_index, group_of, push_if, row_or_none};
-use super::lent::{LentGroups, no_lent_groups};
+use super::group::{first_index, group_of, push_if};
+use super::grouped::GroupedRows;
+use super::lent::{LentGroups, no_lent_groups, take_list};
 use super::part_rows::PartRows;
 use super::states::{merge_all, states_at};
 use indexmap::IndexSet;
+use span_expr::cell::Failure;
 use span_query::query::Grouping;
 use span_rows::key::LentKey;
 use span_rows::row_list::RowList;
@@ -59,32 +66,32 @@ fn merge_group<'a>(
     )
 }
 
-/// The groups of rows with those of further rows, of a list. False where they could not be put together.
+/// The groups of rows with those of further rows, given by the first row of each and the states. False where they could not be put together.
 fn merge_groups<'a>(
     alloc: Global,
     grouping: &'a Grouping,
     index: &mut IndexSet<LentKey<'a>>,
     groups: &mut LentGroups<'a>,
-    rows: &'a RowList,
-    more: &GroupLists,
+    firsts: &'a RowList,
+    more: &[AggregateState],
 ) -> Result<bool, AllocError>
     requires step { AreInStep grouping.now index.old.keys groups.old.states.items }
-    requires wide { length more.now.states.items ≡ length more.now.firsts.items * length grouping.now.aggregates }
+    requires wide { length more.now ≡ length firsts.now * length grouping.now.aggregates }
     ensures merged { IfOk result
         (λ done.
         IsTrue done
-        → (taken : List Row)
-        → AreGroupLists grouping.now taken index.old.keys groups.old.states.items
-        → HoldGroups grouping.now rows.now rows.now more.now
-        → AreGroupLists grouping.now (taken ++ rows.now) index.new.keys groups.new.states.items) }
+        → (before next : List Row)
+        → AreGroupLists grouping.now before index.old.keys groups.old.states.items
+        → AreGroupsWith grouping.now next firsts.now more.now
+        → AreGroupLists grouping.now (before ++ next) index.new.keys groups.new.states.items) }
     ensures firsts { OnOk result
         (HaveKeys grouping.now (lent_rows groups.old.firsts.items) index.old.keys
         → HaveKeys grouping.now (lent_rows groups.new.firsts.items) index.new.keys) }
 {
     let width = grouping.aggregates.len();
-    for at in 0..more.firsts.len() {
-        let row = row_or_none(rows, more.firsts[at]);
-        let states = states_at(more.states.as_slice(), at, width);
+    for at in 0..firsts.len() {
+        let row = firsts.row(at);
+        let states = states_at(more, at, width);
         if !merge_group(alloc, grouping, index, groups, row, states)? {
             return Ok(false);
         }
@@ -92,27 +99,98 @@ fn merge_groups<'a>(
     Ok(true)
 }
 
-/// The groups that a block makes of the rows of all parts. None where those of a part were not made, or they could not be put together.
+/// The groups with those of further rows. The error is out of memory, or that these are by another grouping, or a count of 64 bits does not
+/// suffice.
+fn take_groups<'a>(
+    alloc: Global,
+    grouping: &'a Grouping,
+    index: &mut IndexSet<LentKey<'a>>,
+    groups: &mut LentGroups<'a>,
+    more: &'a GroupedRows,
+) -> Result<(), AllocError>
+    requires { AreInStep grouping.now index.old.keys groups.old.states.items }
+    ensures ok { OnOk result
+        ((before : List Row)
+        → AreGroupLists grouping.now before index.old.keys groups.old.states.items
+        → AreGroupLists grouping.now (before ++ more.now) index.new.keys groups.new.states.items) }
+    ensures firsts { OnOk result
+        (HaveKeys grouping.now (lent_rows groups.old.firsts.items) index.old.keys
+        → HaveKeys grouping.now (lent_rows groups.new.firsts.items) index.new.keys) }
+{
+    let Some((firsts, states)) = more.groups_by(grouping) else {
+        return Err(AllocError);
+    };
+    if merge_groups(alloc, grouping, index, groups, firsts, states)? {
+        Ok(())
+    } else {
+        Err(AllocError)
+    }
+}
+
+/// The same, where there are further rows.
+fn take_grouped<'a>(
+    alloc: Global,
+    grouping: &'a Grouping,
+    index: &mut IndexSet<LentKey<'a>>,
+    groups: &mut LentGroups<'a>,
+    more: Option<&'a GroupedRows>,
+) -> Result<(), AllocError>
+    requires { AreInStep grouping.now index.old.keys groups.old.states.items }
+    ensures ok { OnOk result
+        ((before : List Row)
+        → AreGroupLists grouping.now before index.old.keys groups.old.states.items
+        → AreGroupLists grouping.now (before ++ grouped_rows (option_copied more.entry)) index.new.keys groups.new.states.items) }
+    ensures firsts { OnOk result
+        (HaveKeys grouping.now (lent_rows groups.old.firsts.items) index.old.keys
+        → HaveKeys grouping.now (lent_rows groups.new.firsts.items) index.new.keys) }
+{
+    match more {
+        Some(more) => take_groups(alloc, grouping, index, groups, more),
+        None => Ok(()),
+    }
+}
+
+/// The groups with the rows of a part: with its groups, and then with the rows of its list.
+fn take_part<'a>(
+    alloc: Global,
+    grouping: &'a Grouping,
+    index: &mut IndexSet<LentKey<'a>>,
+    groups: &mut LentGroups<'a>,
+    part: &'a PartRows,
+) -> Result<(), Failure>
+    requires { CanTakeList grouping.now index.old.keys groups.old.states.items part.now }
+    ensures ok { OnOk result
+        ((before : List Row)
+        → AreGroupLists grouping.now before index.old.keys groups.old.states.items
+        → AreGroupLists grouping.now (before ++ part.now) index.new.keys groups.new.states.items) }
+    ensures firsts { OnOk result
+        (HaveKeys grouping.now (lent_rows groups.old.firsts.items) index.old.keys
+        → HaveKeys grouping.now (lent_rows groups.new.firsts.items) index.new.keys) }
+    ensures fault { result ≡ Err Fault
+        → AnyFault grouping.now part.now }
+{
+    let (grouped, listed) = part.parts();
+    take_grouped(alloc, grouping, index, groups, grouped)?;
+    take_list(alloc, grouping, index, groups, listed)
+}
+
+/// The groups that a block makes of the rows of all parts. The error is an arithmetic error of an aggregate, or out of memory.
 pub(crate) fn merge_parts<'a>(
     alloc: Global,
     grouping: &'a Grouping,
     parts: &[&'a PartRows],
-) -> Result<Option<LentGroups<'a>>, AllocError>
-    ensures { IfOk result
-        (λ found.
-        IfSome found
+) -> Result<LentGroups<'a>, Failure>
+    ensures { MatchResult result
         (λ groups. AreGroupLists grouping.now (all_rows parts.now)
-        (keys_at grouping.now.keys (lent_rows groups.firsts.items)) groups.states.items)) }
+        (keys_at grouping.now.keys (lent_rows groups.firsts.items)) groups.states.items)
+        (λ why. Gives {A = List Row} (Err why) (spec.groups grouping.now (all_rows parts.now))) }
 {
     let mut groups = no_lent_groups(alloc, grouping)?;
     let mut index = first_index(alloc, grouping)?;
+    let mut count = 0;
     for part in parts {
-        let Some(more) = part.groups_by(grouping) else {
-            return Ok(None);
-        };
-        if !merge_groups(alloc, grouping, &mut index, &mut groups, part.rows(), more)? {
-            return Ok(None);
-        }
+        count = part.count_after(count)?;
+        take_part(alloc, grouping, &mut index, &mut groups, part)?;
     }
-    Ok(Some(groups))
+    Ok(groups)
 }

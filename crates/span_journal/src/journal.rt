@@ -1,5 +1,5 @@
 //! The journal and its calls.
-ghost use Rattle.std.specs.Prelude.{◌≡◌, ℕ, List, ◌<◌, ◌≤◌, ◌+◌, ◌^◌, [], ◌∷◌, ◌++◌, length, count_by, find, slice_get, IfOk, IfErr, IfSome, IfNone, MatchOption, OnOk, OnErr, Some, None, Ok, true};
+ghost use Rattle.std.specs.Prelude.{◌≡◌, ℕ, List, ◌<◌, ◌≤◌, ◌+◌, ◌^◌, [], ◌∷◌, ◌++◌, length, count_by, find, slice_get, IfOk, IfErr, IfSome, IfNone, MatchOption, OnOk, OnErr, Some, None, Ok, is_some, true};
 ghost use Rattle.span_machine.specs.Machine.{Answers, IsAnswer, start, is_transaction, is_undecided, is_query, commit_refusal, commit_timestamp, begin, begun, decide, apply_step, advance, trim, trim_refusal, open_query, open_refusal, finish, close, refused, without_first, is_prepared_at, split_at, split_in_two};
 ghost use Rattle.span_journal.specs.declared.journal.TheConstants.{MOST_TRANSACTIONS, MOST_COMMITS, MOST_QUERIES, NUMBER_END};
 ghost use Rattle.span_transactions.specs.declared.slots.TheConstants.{MOST_SLOTS};
@@ -631,6 +631,28 @@ impl Journal {
         ensures why { IfErr result (λ why. IsUnregistered self.old query leaf slot interval range why) }
         ensures err { IfErr result (λ why. IsUnchanged self.old query slot interval why self.new) }
     {
+        let mut held = Some(piece);
+        self.register_held(alloc, query, leaf, slot, interval, range, &mut held)
+    }
+
+    /// The same of a piece that is held elsewhere, and taken from there where all else was judged: to prove that a piece is dropped safely takes more
+    /// memory than the prover has where each of these judgements may drop it.
+    fn register_held(
+        &mut self,
+        alloc: Global,
+        query: u64,
+        leaf: usize,
+        slot: usize,
+        interval: Interval,
+        range: KeyRange,
+        piece: &mut Option<Piece>,
+    ) -> Result<(), Refusal>
+        requires { is_some piece.old ≡ true }
+        ensures ok { OnOk result
+            (IfSome piece.old (λ held. IsRegistered self.old query leaf slot interval range held self.new)) }
+        ensures why { IfErr result (λ why. IsUnregistered self.old query leaf slot interval range why) }
+        ensures err { IfErr result (λ why. IsUnchanged self.old query slot interval why self.new) }
+    {
         let (queries, slots) = (self.queries.as_slice(), self.slots.as_slice());
         let (at, question, part, slot_state) = match find_target(
             queries, slots, query, leaf, slot,
@@ -650,7 +672,10 @@ impl Journal {
             set_floor(&mut self.slots, slot, floor);
             return Err(Refusal::NotYet);
         }
-        cover_at(alloc, &mut self.queries, at, leaf, range, piece)?;
+        let Some(held) = piece.take() else {
+            unreachable!()
+        };
+        cover_at(alloc, &mut self.queries, at, leaf, range, held)?;
         set_floor(&mut self.slots, slot, floor);
         Ok(())
     }

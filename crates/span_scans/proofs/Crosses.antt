@@ -20,7 +20,9 @@ use Rattle.span_columns.specs.contracts.leaf.Plan as Plan
 use Rattle.span_machine.specs.contracts.query.OpenQuery as OpenQuery
 use Rattle.span_machine.specs.contracts.query.ScanLeaf as ScanLeaf
 use Rattle.span_machine.proofs.slot.SlotState.TheSendSync as of_slot
-use Rattle.span_fragment.proofs.piece.Piece.TheSendSync as of_piece
+use Rattle.span_groups.specs.contracts.grouped.GroupedRows as GroupedRows
+use Rattle.span_groups.specs.contracts.part_rows.PartRows as PartRows
+use Rattle.span_fragment.specs.contracts.piece.Piece as Piece
 use Rattle.span_transactions.proofs.transaction.KeptTransaction.TheSendSync as of_transaction
 use Rattle.span_transactions.specs.contracts.commit.KeptCommit as KeptCommit
 use Rattle.span_openqueries.specs.contracts.query.KeptQuery as KeptQuery
@@ -97,10 +99,21 @@ scan_leaf_send = search (crosses, leaf_send, sendable) depth 60 fits 20000
 open_query_send : IsSend (OpenQuery.the_field).row
 open_query_send = search (crosses, statement_send, scan_leaf_send, bound_query_send, sendable) depth 60 fits 20000
 
+-- ---- pieces
+
+grouped_rows_send : IsSend GroupedRows.the_row
+grouped_rows_send = search (crosses, grouping_send, sendable) depth 60 fits 20000
+
+part_rows_send : IsSend PartRows.the_row
+part_rows_send = search (crosses, grouped_rows_send, sendable) depth 60 fits 20000
+
+piece_send : IsSend (Piece.the_field).row
+piece_send = search (crosses, part_rows_send, sendable) depth 60 fits 20000
+
 -- ---- the journal
 
 kept_query_send : IsSend KeptQuery.the_row
-kept_query_send = search (crosses, open_query_send, of_piece.the_field_send, sendable) depth 60 fits 20000
+kept_query_send = search (crosses, open_query_send, piece_send, sendable) depth 60 fits 20000
 
 kept_commit_send : IsSend KeptCommit.the_row
 kept_commit_send = search (crosses, sendable) depth 60 fits 20000

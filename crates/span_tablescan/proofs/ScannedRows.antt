@@ -1,5 +1,5 @@
 -- A leaf of one table gives the rows that pass its condition, one after another.
-use Rattle.std.proofs.Common.{◌≡◌, ◌⊎◌, inl, inr, ◌∙◌, ℕ, ◌+◌, ◌==◌, Bool, true, false, cond, List, [], ◌∷◌, ◌++◌, length, take, map, Option, Some, None, Result, Ok, Err, refl, sym, ap, subst, arith, if◌then◌else◌}
+use Rattle.std.proofs.Common.{◌≡◌, ◌⊎◌, inl, inr, ◌∙◌, ℕ, ◌+◌, ◌==◌, Bool, true, false, cond, List, [], ◌∷◌, ◌++◌, length, take, map, Option, Some, None, Result, Ok, Err, refl, sym, ap, subst, arith, if◌then◌else◌, append_assoc}
 use Rattle.std.specs.Prelude.{filter, IfOk}
 use Rattle.std.specs.List.{range_with_len, list_all}
 use Rattle.std.proofs.lemmas.Bool.{and_parts, eqb-true, eq-eqb}
@@ -268,8 +268,9 @@ module _ (schema : List Table) (n : ℕ) (ms : List Bool) (w : Option Expr) wher
   added None old new e = absurd (let f : None ≡ Some new = e in cc)
   added (Some more) old new e = (more, refl, (let f : Some (old ++ more) ≡ Some new = e in cc))
 
-  module _ (r : Reduction) (entries rest later : List KeyRow) (x : KeyRow) (old new : List Row) (is : rest ≡ x ∷ later) (so : EnoughBefore r entries rest old) where
-    pub enough_after : IsTaken schema n ms w x.key x.row (Ok tt) old new → EnoughBefore r entries later new
+  -- after rows that stay as they are
+  module _ (r : Reduction) (entries rest later : List KeyRow) (x : KeyRow) (front old new : List Row) (is : rest ≡ x ∷ later) (so : EnoughBefore r entries rest (front ++ old)) where
+    pub enough_after : IsTaken schema n ms w x.key x.row (Ok tt) old new → EnoughBefore r entries later (front ++ new)
     enough_after taken rows typed whole =
         let before = so rows typed whole in
         let t = first rest later x is rows before.all before.left in
@@ -278,7 +279,9 @@ module _ (schema : List Table) (n : ℕ) (ms : List Bool) (w : Option Expr) wher
         record {
           all = before.all ++ put.0;
           left = left_more rest later x is rows before.all before.left (before.all ++ put.0) adds;
-          enough = subst (λ (l : List Row). AreEnough r l (before.all ++ put.0)) (sym put.2) (enough_more r old before.all put.0 before.enough);
+          enough =
+              subst (λ (l : List Row). AreEnough r l (before.all ++ put.0)) (sym (ap (λ (l : List Row). front ++ l) put.2 ∙ sym (append_assoc front old put.0)))
+              (enough_more r (front ++ old) before.all put.0 before.enough);
         }
 
     pub enough_fails : (why : Failure) → IsTaken schema n ms w x.key x.row (Err why) old new → (rows : List TableRow) → AreTyped schema rows → entries ≡ map (key_row schema) rows → Gives (Err why) (kept_rows rows)
@@ -374,18 +377,18 @@ module _ (schema : List Table) (leaf : Leaf) (n most : ℕ) (tables : leaf.table
     of = λ rows typed is. subst (HasEnough r (Some values)) (sym (leaf_kept schema leaf n tables joins rows)) (enough_end schema n leaf.kept leaf.filter r short rest values end so rows typed is);
   })
 
-  pub scan_fails : (r : Reduction) (rest later : List KeyRow) (x : KeyRow) (old new : List Row) (why : Failure) → rest ≡ x ∷ later → SoFar r rest old
+  pub scan_fails : (r : Reduction) (rest later : List KeyRow) (x : KeyRow) (front old new : List Row) (why : Failure) → rest ≡ x ∷ later → SoFar r rest (front ++ old)
       → IsTaken schema n leaf.kept leaf.filter x.key x.row (Err why) old new → IsEnoughOn schema leaf r entries (Err why)
-  scan_fails r rest later x old new why is so taken = holds_on_all schema leaf entries short (GivesEnough r (Err why)) have_short (record {
+  scan_fails r rest later x front old new why is so taken = holds_on_all schema leaf entries short (GivesEnough r (Err why)) have_short (record {
     of = λ rows typed whole.
         subst (GivesEnough r (Err why)) (sym (leaf_kept schema leaf n tables joins rows))
-        (gives_fault r why (kept_rows schema n leaf.kept leaf.filter rows) (enough_fails schema n leaf.kept leaf.filter r short rest later x old new is so why taken rows typed whole));
+        (gives_fault r why (kept_rows schema n leaf.kept leaf.filter rows) (enough_fails schema n leaf.kept leaf.filter r short rest later x front old new is so why taken rows typed whole));
   })
 
-  pub scan_refused : {A : Type 0} (r : Reduction) (rest later : List KeyRow) (x : KeyRow) (old : List Row) → rest ≡ x ∷ later → SoFar r rest old
+  pub scan_refused : {A : Type 0} (r : Reduction) (rest later : List KeyRow) (x : KeyRow) (front old : List Row) → rest ≡ x ∷ later → SoFar r rest (front ++ old)
       → A ⊎ IsNoTableRow schema x.key x.row → A ⊎ AreNoRows schema entries
-  scan_refused r rest later x old is so (inl why) = inl why
-  scan_refused r rest later x old is so (inr none) = refused_of_all schema leaf.tables entries short have_short (inr (not_rows_left schema n leaf.kept leaf.filter r short rest later x old old is so none))
+  scan_refused r rest later x front old is so (inl why) = inl why
+  scan_refused r rest later x front old is so (inr none) = refused_of_all schema leaf.tables entries short have_short (inr (not_rows_left schema n leaf.kept leaf.filter r short rest later x front old old is so none))
 
 -- ---- where all rows are there
 

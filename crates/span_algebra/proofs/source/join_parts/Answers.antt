@@ -10,7 +10,7 @@ loop-part-preserved c =
     let x = c.part-item.result in
     let within : i < length parts = search rules in
     let is : x ≡ get_or parts i x = search rules in
-    let part : c.rows.result.now ≡ x.now = search rules in
+    let part : c.in_ok-rows_of_part.field-0.now ≡ x.now = search (rules, c.in_ok-rows_of_part.ensures) in
     c.in_ok-add_copies.ensures
     ∙ ap (λ (l : List Row). c.loop-part.rows ++ l) part
     ∙ ap (λ (l : List Row). l ++ x.now) c.loop-part.invariant

@@ -3,14 +3,13 @@ use Rattle.std.proofs.lemmas.List.{take_more}
 use Rattle.span_query.specs.Rows.{Row}
 use Rattle.span_query.specs.Groups.{columns_at, group_keys, rows_with}
 use Rattle.span_rows.specs.Keys.{with_new}
-use Rattle.span_rows.specs.RowPlaces.{rows_at}
 use Rattle.span_groups.specs.declared.aggregate.AggregateState.{AggregateState}
 use Rattle.span_groups.specs.StateLists.{Group, states_from}
 use Rattle.span_groups.specs.GroupStates.{keys_of, keys_at, groups_by, HasTakenRows}
 use Rattle.span_groups.specs.MergedGroups.{AreWholeGroups, with_keys, rows_by_key}
 use Rattle.span_groups.specs.States.{AreStatesOf}
 use Rattle.span_groups.proofs.Absorbed.{key_at, key_count}
-use Rattle.span_groups.proofs.GroupSteps.{group_by_place, count_by_places, lists_of_groups}
+use Rattle.span_groups.proofs.GroupSteps.{group_by_row, count_by_rows, lists_of_groups}
 use Rattle.span_groups.proofs.StateLists.{fits_at}
 use Rattle.span_groups.proofs.MergedGroups.{merged_first, merged_more, merged_all}
 use Rattle.span_groups.proofs.merge.merge_groups.Goals as goal
@@ -20,20 +19,19 @@ states_at-states-requires c =
     let w : ℕ = length c.args.grouping.now.aggregates in
     let i : ℕ = c.loop-at.at in
     let len : c.len-width.result ≡ w = search rules in
-    let within : i < length c.args.more.now.firsts.items = search rules in
-    let bound : i * w + w ≤ length c.args.more.now.states.items = omega (arith, c.requires.wide, fits_at i w (length c.args.more.now.firsts.items) within) in
-    let known : i * c.len-width.result + c.len-width.result ≤ length c.args.more.now.states.items =
-    subst (λ (n : ℕ). i * n + n ≤ length c.args.more.now.states.items) (sym len) bound in
+    let within : i < length c.args.firsts.now = search rules in
+    let bound : i * w + w ≤ length c.args.more.now = omega (arith, c.requires.wide, fits_at i w (length c.args.firsts.now) within) in
+    let known : i * c.len-width.result + c.len-width.result ≤ length c.args.more.now =
+    subst (λ (n : ℕ). i * n + n ≤ length c.args.more.now) (sym len) bound in
     omega (arith, known)
 
 pub loop-at-init : goal.loop-at-init
 loop-at-init c =
     let g = c.args.grouping.now in
-    let next : List Row = c.args.rows.now in
-    let more : List Group = groups_by g (keys_at g.keys (rows_at next c.args.more.now.firsts.items)) c.args.more.now.states.items in
+    let more : List Group = groups_by g (keys_at g.keys c.args.firsts.now) c.args.more.now in
     record {
       step = c.requires.step;
-      merged = λ taken are held. merged_first g taken next more (groups_by g c.args.index.now.keys c.args.groups.now.states.items) are.are;
+      merged = λ taken next are held. merged_first g taken next more (groups_by g c.args.index.now.keys c.args.groups.now.states.items) are.are;
       firsts = λ have. have;
     }
 
@@ -41,17 +39,15 @@ pub loop-at-preserved : goal.loop-at-preserved
 loop-at-preserved c =
     let g = c.args.grouping.now in
     let w : ℕ = length g.aggregates in
-    let next : List Row = c.args.rows.now in
     let i : ℕ = c.loop-at.at in
-    let firsts : List ℕ = c.args.more.now.firsts.items in
-    let states : List AggregateState = c.args.more.now.states.items in
-    let more : List Group = groups_by g (keys_at g.keys (rows_at next firsts)) states in
-    let row : Row = c.row_or_none-row.result.now in
+    let firsts : List Row = c.args.firsts.now in
+    let states : List AggregateState = c.args.more.now in
+    let more : List Group = groups_by g (keys_at g.keys firsts) states in
+    let row : Row = c.row-row.result.now in
     let x : Group = record { key = columns_at g.keys row; states = states_from (i * w) w states } in
     let within : i < length firsts = search rules in
-    let place : c.index.result.now ≡ get_or firsts i c.index.result.now = search rules in
-    let is : x ≡ get_or more i x = sym (group_by_place g.keys w next firsts states i c.index.result.now row x within place c.row_or_none-row.ensures) in
-    let inside : i < length more = omega (arith, within, count_by_places g.keys w next firsts states) in
+    let is : x ≡ get_or more i x = sym (group_by_row g.keys w firsts states i row x within c.row-row.ensures) in
+    let inside : i < length more = omega (arith, within, count_by_rows g.keys w firsts states) in
     let key : get_or (keys_of more) i x.key ≡ x.key = key_at more i x x.key inside ∙ ap (λ (y : Group). y.key) (sym is) in
     let front : take (i + 1) (keys_of more) ≡ take i (keys_of more) ++ x.key ∷ [] =
     take_more (keys_of more) i x.key (omega (arith, inside, key_count more)) ∙ ap (λ (k : Row). take i (keys_of more) ++ k ∷ []) key in
@@ -59,16 +55,15 @@ loop-at-preserved c =
     let len : c.len-width.result ≡ w = search rules in
     let lent : c.states_at-states.result.now ≡ states_from (i * w) w states =
     c.states_at-states.ensures
-    ∙ ap (λ (l : List AggregateState). states_from (i * c.len-width.result) c.len-width.result l) c.as_slice.ensures.value
     ∙ ap (λ (n : ℕ). states_from (i * n) n states) len in
     let now : List Group = groups_by g c.loop-at.index.keys c.loop-at.groups.states.items in
     record {
       step = c.in_ok-merge_group.ensures.step;
-      merged = λ taken are held.
+      merged = λ taken next are held.
           let old : List Row = with_keys (group_keys g.keys taken) (take i (keys_of more)) in
           let rows : List Row = taken ++ rows_by_key g.keys (take i (keys_of more)) next in
           let new : List Group = groups_by g c.merge_group.new.index.keys c.merge_group.new.groups.states.items in
-          let before : AreWholeGroups g old rows now = c.loop-at.invariant.merged taken are held in
+          let before : AreWholeGroups g old rows now = c.loop-at.invariant.merged taken next are held in
           let same : c.loop-at.index.keys ≡ old = lists_of_groups g c.loop-at.index.keys c.loop-at.groups.states.items old rows before in
           let its : AreStatesOf g.aggregates (rows_with g.keys x.key next) x.states = subst (HasTakenRows g next) (sym is) (held.are.each i x inside) in
           let merged : AreWholeGroups g (with_new c.loop-at.index.keys x.key) (rows ++ rows_with g.keys x.key next) new =
@@ -80,15 +75,14 @@ loop-at-preserved c =
     }
 
 pub returns-clause-merged : goal.returns-clause-merged
-returns-clause-merged c done taken are held =
+returns-clause-merged c done taken next are held =
     let g = c.args.grouping.now in
-    let next : List Row = c.args.rows.now in
-    let firsts : List ℕ = c.args.more.now.firsts.items in
-    let states : List AggregateState = c.args.more.now.states.items in
-    let more : List Group = groups_by g (keys_at g.keys (rows_at next firsts)) states in
+    let firsts : List Row = c.args.firsts.now in
+    let states : List AggregateState = c.args.more.now in
+    let more : List Group = groups_by g (keys_at g.keys firsts) states in
     let over : length firsts ≤ c.loop-at.at = search rules in
-    let past : length more ≤ c.loop-at.at = omega (arith, over, count_by_places g.keys (length g.aggregates) next firsts states) in
+    let past : length more ≤ c.loop-at.at = omega (arith, over, count_by_rows g.keys (length g.aggregates) firsts states) in
     record {
       whole = c.loop-at.invariant.step.whole;
-      are = merged_all g taken next more c.loop-at.at (groups_by g c.loop-at.index.keys c.loop-at.groups.states.items) past held.are (c.loop-at.invariant.merged taken are held);
+      are = merged_all g taken next more c.loop-at.at (groups_by g c.loop-at.index.keys c.loop-at.groups.states.items) past held.are (c.loop-at.invariant.merged taken next are held);
     }

@@ -1,19 +1,24 @@
-use Rattle.std.proofs.Common.{rules, ◌≡◌, ◌++◌, ◌<◌, ◌≤◌, [], IsTrue, List, length, get_or, take, sym, subst}
+use Rattle.std.proofs.Common.{rules, ◌≡◌, ◌∙◌, ◌+◌, ◌++◌, ◌<◌, ◌≤◌, [], Err, List, length, get_or, take, drop, ap, sym, subst, arith}
+use Rattle.std.proofs.lemmas.List.{length-append}
 use Rattle.span_query.specs.Rows.{Row}
+use Rattle.span_query.specs.Groups.{groups}
+use Rattle.span_rows.specs.Answers.{Gives}
 use Rattle.span_rows.specs.LentRows.{lent_rows}
 use Rattle.span_groups.specs.declared.aggregate.AggregateState.{AggregateState}
 use Rattle.span_groups.specs.GroupStates.{AreGroupLists, HaveKeys}
 use Rattle.span_groups.specs.Parts.{all_rows}
-use Rattle.span_groups.proofs.GroupSteps.{in_step, held_whole}
+use Rattle.span_groups.proofs.KeptGroups.{rows_split, part_fails}
 use Rattle.span_groups.proofs.Parting.{rows_more, rows_all}
 use Rattle.span_groups.proofs.merge.merge_parts.Goals as goal
 
-pub merge_groups-requires-clause-step : goal.merge_groups-requires-clause-step
-merge_groups-requires-clause-step c =
-    in_step c.args.grouping.now (all_rows (take c.loop-part.part-index c.args.parts.now)) c.loop-part.index.keys c.loop-part.groups.states.items c.loop-part.invariant.are
-
-pub merge_groups-requires-clause-wide : goal.merge_groups-requires-clause-wide
-merge_groups-requires-clause-wide c = held_whole c.args.grouping.now c.part-item.result.now c.part-item.result.now c.in-Some.more.now c.in-Some.ensures
+pub take_part-requires : goal.take_part-requires
+take_part-requires c =
+    let counted : c.in_ok-count.count ≡ c.loop-part.count + length c.part-item.result.now = search rules in
+    record {
+      rows = all_rows (take c.loop-part.part-index c.args.parts.now);
+      are = c.loop-part.invariant.are;
+      few = omega (arith, counted, c.loop-part.invariant.counted);
+    }
 
 pub loop-part-init : goal.loop-part-init
 loop-part-init c =
@@ -22,7 +27,21 @@ loop-part-init c =
     record {
       are = subst (λ (ks : List Row). AreGroupLists g [] ks states) (sym {A = List Row} c.in_ok-index.ensures) c.in_ok-groups.ensures.states;
       firsts = subst (λ (ks : List Row). HaveKeys g (lent_rows c.in_ok-groups.groups.firsts.items) ks) (sym {A = List Row} c.in_ok-index.ensures) c.in_ok-groups.ensures.firsts;
+      counted = search rules;
     }
+
+pub returns-in_err-take_part : goal.returns-in_err-take_part
+returns-in_err-take_part c =
+    let g = c.args.grouping.now in
+    let parts = c.args.parts.now in
+    let i = c.loop-part.part-index in
+    let x = c.part-item.result in
+    let within : i < length parts = search rules in
+    let is : x ≡ get_or parts i x = search rules in
+    let why = c.in_err-take_part.field-0.0 in
+    let fails : Gives (Err why) (groups g (all_rows parts)) =
+    part_fails g (all_rows (take i parts)) x.now (all_rows (drop (i + 1) parts)) (all_rows parts) why (rows_split parts i x within is) (λ e. c.in_err-take_part.ensures.fault (ap (λ w. Err w) e)) in
+    search (rules, fails)
 
 pub loop-part-preserved : goal.loop-part-preserved
 loop-part-preserved c =
@@ -32,15 +51,14 @@ loop-part-preserved c =
     let x = c.part-item.result in
     let within : i < length parts = search rules in
     let is : x ≡ get_or parts i x = search rules in
-    let done : IsTrue c.in_ok-merge_groups.field-0 = search rules in
-    let rows : c.rows.result.now ≡ x.now = search rules in
-    let merged : AreGroupLists g (all_rows (take i parts) ++ c.rows.result.now) c.merge_groups.new.index.keys c.merge_groups.new.groups.states.items =
-    c.in_ok-merge_groups.ensures.merged done (all_rows (take i parts)) c.loop-part.invariant.are (search (rules, c.in-Some.ensures)) in
+    let more : all_rows (take (i + 1) parts) ≡ all_rows (take i parts) ++ x.now = rows_more parts i x within is in
+    let counted : c.in_ok-count.count ≡ c.loop-part.count + length x.now = search rules in
     record {
       are =
-          subst (λ (l : List Row). AreGroupLists g l c.merge_groups.new.index.keys c.merge_groups.new.groups.states.items) (sym (rows_more parts i x within is))
-          (subst (λ (l : List Row). AreGroupLists g (all_rows (take i parts) ++ l) c.merge_groups.new.index.keys c.merge_groups.new.groups.states.items) rows merged);
-      firsts = c.in_ok-merge_groups.ensures.firsts c.loop-part.invariant.firsts;
+          subst (λ (l : List Row). AreGroupLists g l c.take_part.new.index.keys c.take_part.new.groups.states.items) (sym more)
+          (c.in_ok-take_part.ensures.ok (all_rows (take i parts)) c.loop-part.invariant.are);
+      firsts = c.in_ok-take_part.ensures.firsts c.loop-part.invariant.firsts;
+      counted = ap (λ (l : List Row). length l) more ∙ omega (arith, counted, c.loop-part.invariant.counted, length-append (all_rows (take i parts)) x.now);
     }
 
 pub returns : goal.returns
