@@ -1,7 +1,7 @@
 -- Groups, and further rows that are taken into them one after another.
-use Rattle.std.proofs.Common.{◌≡◌, ℕ, ◌+◌, ◌<◌, ◌≤◌, Bool, true, false, not, List, [], ◌∷◌, ◌++◌, Any, length, get_or, take, drop, Option, None, Err, refl, sym, ap, ◌∙◌, subst, append_assoc, arith}
+use Rattle.std.proofs.Common.{◌≡◌, ℕ, ◌+◌, ◌<◌, ◌≤◌, Bool, true, false, not, List, [], ◌∷◌, ◌++◌, length, get_or, take, drop, Option, None, Err, refl, sym, ap, ◌∙◌, subst, append_assoc, arith}
 use Rattle.std.proofs.lemmas.Grind.{flat_map-append}
-use Rattle.std.proofs.lemmas.List.{append-nil, get_or_append_left, length-append, length-take-le, take_all, take-append-drop}
+use Rattle.std.proofs.lemmas.List.{append-nil, length-append, length-take-le, take_all, take-append-drop}
 use Rattle.std.proofs.Math.Seq.{get_or-append_right}
 use denote.Ref.{Bor}
 use Rattle.span_value.proofs.Lists.{drop_read}
@@ -20,12 +20,11 @@ use Rattle.span_rows.proofs.Gathering.{taken_more}
 use Rattle.span_rows.proofs.Places.{group_keys-apart}
 use Rattle.span_groups.specs.declared.aggregate.AggregateState.{AggregateState}
 use Rattle.span_groups.specs.GroupStates.{keys_at, AreGroupLists, CanCountRow, HaveKeys}
-use Rattle.span_groups.specs.declared.kept_groups.KeptGroups.{KeptGroups}
-use Rattle.span_groups.specs.KeptGroups.{AreGroupsWith, AreGroupsOrFault, IsSameGrouping}
+use Rattle.span_groups.specs.KeptGroups.{AreGroupsWith, IsSameGrouping}
 use Rattle.span_groups.specs.MergedGroups.{AnyFault, CanTakeList}
 use Rattle.span_groups.specs.Parts.{all_rows}
 use Rattle.span_groups.proofs.GroupSteps.{firsts_by, rows_at-push}
-use Rattle.span_groups.specs.States.{AreStatesOf, operand_at}
+use Rattle.span_groups.specs.States.{AreStatesOf}
 use Rattle.span_groups.proofs.MergedGroups.{apart_distinct}
 use Rattle.span_groups.proofs.OneGroup.{one_group_held}
 use Rattle.span_groups.proofs.Shown.{groups-fault}
@@ -45,20 +44,6 @@ other_having keys aggregates having other rows firsts states are = record { whol
 
 pub same_groups : (g other : Grouping) → IsSameGrouping g other → (rows firsts : List Row) (states : List AggregateState) → AreGroupsWith other rows firsts states → AreGroupsWith g rows firsts states
 same_groups g other same rows firsts states are = rw (same.keys, same.aggregates) (other_having other.keys other.aggregates g.having other.having rows firsts states are)
-
--- ---- the fault
-
-pub any_before : (g : Grouping) (rows after : List Row) → AnyFault g rows → AnyFault g (rows ++ after)
-any_before g rows after found = (
-  found.0,
-  found.1,
-  omega (arith, found.2, length-append rows after),
-  get_or_append_left rows after found.1 found.0 found.2 ∙ found.3,
-  found.4,
-)
-
-pub same_fault : (g other : Grouping) → IsSameGrouping g other → (rows : List Row) → AnyFault other rows → AnyFault g rows
-same_fault g other same rows found = subst (λ (all : List Aggregate). Any (λ (row : Row). Any (λ a. operand_at row a ≡ None) all) rows) (sym same.aggregates) found
 
 -- ---- the one group, where the number of rows alone is wanted
 

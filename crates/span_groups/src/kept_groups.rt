@@ -151,13 +151,13 @@ pub(crate) fn with_rows(
     rows: &RowList,
     count: usize,
 ) -> Result<Option<KeptGroups>, AllocError>
-    requires { IfSome groups.entry
+    requires { IfSome groups
         (λ kept. CanTakeList grouping.now (keys_at grouping.now.keys kept.firsts) kept.states.items rows.now) }
     ensures { IfOk result
         (λ new.
         (before : List Row)
         → length before + length rows.now ≡ count
-        → AreGroupsOrFault grouping.now before groups.entry
+        → AreGroupsOrFault grouping.now before groups
         → AreGroupsOrFault grouping.now (before ++ rows.now) new) }
 {
     let Some(groups) = groups else {
