@@ -6,7 +6,7 @@ ghost use Rattle.span_groups.specs.KeptGroups.{AreGroupsWith};
 ghost use Rattle.span_groups.specs.MergedGroups.{AnyFault};
 
 use super::aggregate::AggregateState;
-use super::kept_groups::{KeptGroups, no_groups, with_rows};
+use super::kept_groups::{KeptGroups, no_groups, take_or_drop};
 use super::many::are_many;
 use super::same_grouping::{are_same, copy_grouping};
 use span_expr::cell::Failure;
@@ -67,9 +67,9 @@ impl GroupedRows {
             count,
             past,
         } = self;
-        let mut past = past;
+        let (mut groups, mut past) = (groups, past);
         let count = count.checked_add(rows.len()).ok_or(AllocError)?;
-        let groups = with_rows(alloc, &grouping, groups, rows, count)?;
+        take_or_drop(alloc, &grouping, &mut groups, rows, count)?;
         past.push(Snapshot::of(rows))?;
         rows.clear();
         Ok(GroupedRows {

@@ -142,31 +142,32 @@ fn take_or_count(
     Ok(())
 }
 
-/// The groups with further rows, of which `count` is the number with those before. None where there are none, or an operand of an aggregate is an
-/// arithmetic error at one of the rows. The only error is out of memory.
-pub(crate) fn with_rows(
+/// Groups take further rows, of which `count` is the number with those before; they are dropped where an operand of an aggregate is an arithmetic error
+/// at one of the rows. Where there are none, none are made. The only error is out of memory.
+pub(crate) fn take_or_drop(
     alloc: Global,
     grouping: &Grouping,
-    groups: Option<KeptGroups>,
+    groups: &mut Option<KeptGroups>,
     rows: &RowList,
     count: usize,
-) -> Result<Option<KeptGroups>, AllocError>
-    requires { IfSome groups
+) -> Result<(), AllocError>
+    requires { IfSome groups.old
         (λ kept. CanTakeList grouping.now (keys_at grouping.now.keys kept.firsts) kept.states.items rows.now) }
-    ensures { IfOk result
-        (λ new.
-        (before : List Row)
+    ensures { OnOk result
+        ((before : List Row)
         → length before + length rows.now ≡ count
-        → AreGroupsOrFault grouping.now before groups
-        → AreGroupsOrFault grouping.now (before ++ rows.now) new) }
+        → AreGroupsOrFault grouping.now before groups.old
+        → AreGroupsOrFault grouping.now (before ++ rows.now) groups.new) }
 {
-    let Some(groups) = groups else {
-        return Ok(None);
+    let Some(kept) = groups else {
+        return Ok(());
     };
-    let mut groups = groups;
-    match take_or_count(alloc, grouping, &mut groups, rows, count) {
-        Ok(()) => Ok(Some(groups)),
-        Err(Failure::Fault) => Ok(None),
+    match take_or_count(alloc, grouping, kept, rows, count) {
+        Ok(()) => Ok(()),
+        Err(Failure::Fault) => {
+            *groups = None;
+            Ok(())
+        }
         Err(Failure::OutOfMemory) => Err(AllocError),
     }
 }

@@ -1,7 +1,7 @@
 use Rattle.std.proofs.Common.{rules}
 use Rattle.span_groups.specs.MergedGroups.{AnyFault}
 use Rattle.span_groups.proofs.KeptGroups.{any_after}
-use Rattle.span_groups.proofs.kept_groups.with_rows.Goals as goal
+use Rattle.span_groups.proofs.kept_groups.take_or_drop.Goals as goal
 
 pub returns-in-Err-Fault : goal.returns-in-Err-Fault
 returns-in-Err-Fault c before counted are =
