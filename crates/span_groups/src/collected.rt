@@ -7,6 +7,7 @@ use super::grouped::GroupedRows;
 use super::reduction::Reduction;
 use span_query::query::Grouping;
 use span_rows::row_list::RowList;
+use span_value::owned::{give_after, keep_with};
 use std::alloc::{AllocError, Global};
 use std::marker::Model;
 
@@ -80,6 +81,18 @@ pub fn no_rows(
     }
 }
 
+/// Keeps of the rows of a list those that are enough, where no groups are made. The only error is out of memory.
+fn keep_listed(
+    alloc: Global,
+    reduction: &Reduction,
+    rows: &mut RowList,
+) -> Result<Option<GroupedRows>, AllocError>
+    ensures { IfOk result (λ kept. AreEnough reduction.now (grouped_rows kept ++ rows.new) rows.old) }
+{
+    reduction.keep(alloc, rows)?;
+    Ok(None)
+}
+
 /// Takes the rows of a list into groups, which come before them; where these seem to be many no groups are made. Where there are no groups, those rows
 /// are kept that are enough. The only error is out of memory.
 pub fn keep_enough(
@@ -92,12 +105,12 @@ pub fn keep_enough(
         (λ kept. AreEnough reduction.now (grouped_rows kept ++ rows.new) (grouped_rows groups ++ rows.old)) }
 {
     let Some(groups) = groups else {
-        reduction.keep(alloc, rows)?;
-        return Ok(None);
+        return keep_listed(alloc, reduction, rows);
     };
-    if groups.has_many(alloc, rows)? {
-        reduction.keep(alloc, rows)?;
-        return Ok(None);
+    let are_many = groups.has_many(alloc, rows);
+    let (groups, are_many) = keep_with(groups, are_many)?;
+    if are_many {
+        return give_after(groups, keep_listed(alloc, reduction, rows));
     }
     Ok(Some(groups.take(alloc, rows)?))
 }
