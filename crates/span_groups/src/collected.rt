@@ -1,5 +1,5 @@
 //! The rows of a part while they are read: of those that came first the groups alone may be kept, or as many rows as are enough.
-ghost use Rattle.std.specs.Prelude.{◌≡◌, ◌++◌, [], IfOk, OnOk};
+ghost use Rattle.std.specs.Prelude.{◌≡◌, ◌++◌, [], IfOk};
 ghost use Rattle.span_groups.specs.KeptGroups.{grouped_rows};
 ghost use Rattle.span_groups.specs.Reductions.{AreEnough};
 
@@ -82,7 +82,7 @@ pub fn no_rows(
 
 /// Takes the rows of a list into groups, which come before them; where these seem to be many no groups are made. Where there are no groups, those rows
 /// are kept that are enough. The only error is out of memory.
-fn keep_enough(
+pub fn keep_enough(
     alloc: Global,
     reduction: &Reduction,
     groups: Option<GroupedRows>,
@@ -102,43 +102,6 @@ fn keep_enough(
     Ok(Some(groups.take(alloc, rows)?))
 }
 
-/// Takes the rows of a list into groups, or keeps those that are enough, as `keep_enough` does, where there are as many as `most`, or more; `most` is
-/// then how many there are when that is due again. The only error is out of memory.
-#[tactic(auto, using(crate::proofs::Reductions::enough_same))]
-#[inline(always)]
-pub fn keep_where_due(
-    alloc: Global,
-    reduction: &Reduction,
-    groups: &mut Option<GroupedRows>,
-    rows: &mut RowList,
-    most: &mut usize,
-) -> Result<(), AllocError>
-    ensures { OnOk result
-        (AreEnough reduction.now (grouped_rows groups.new ++ rows.new) (grouped_rows groups.old ++ rows.old)) }
-{
-    if rows.len() < *most {
-        return Ok(());
-    }
-    keep_rows(alloc, reduction, groups, rows, most)
-}
-
-/// The same, however many there are.
-#[inline(never)]
-fn keep_rows(
-    alloc: Global,
-    reduction: &Reduction,
-    groups: &mut Option<GroupedRows>,
-    rows: &mut RowList,
-    most: &mut usize,
-) -> Result<(), AllocError>
-    ensures { OnOk result
-        (AreEnough reduction.now (grouped_rows groups.new ++ rows.new) (grouped_rows groups.old ++ rows.old)) }
-{
-    *groups = keep_enough(alloc, reduction, groups.take(), rows)?;
-    *most = next_count(reduction, groups, rows);
-    Ok(())
-}
-
 /// How many rows are in a list when `keep_enough` is due for the first time.
 pub fn first_count(reduction: &Reduction, groups: &Option<GroupedRows>) -> usize {
     match (reduction, groups) {
@@ -149,7 +112,7 @@ pub fn first_count(reduction: &Reduction, groups: &Option<GroupedRows>) -> usize
 }
 
 /// How many rows are in a list when `keep_enough` is due again, after what it left.
-fn next_count(reduction: &Reduction, groups: &Option<GroupedRows>, rows: &RowList) -> usize {
+pub fn next_count(reduction: &Reduction, groups: &Option<GroupedRows>, rows: &RowList) -> usize {
     let kept = match (reduction, groups) {
         (_, Some(groups)) => groups.group_count(),
         (Reduction::Everything, None) => return usize::MAX,
