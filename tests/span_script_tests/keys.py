@@ -25,6 +25,7 @@ FEW_ABORTS, MANY_ABORTS, MOST_TIMES = 20, 400, 1.25
 GROUPED_ROWS, ROWS_OF_A_TRANSACTION, MOST_KILOBYTES = 200_000, 1_000, 5_000
 SUMS = "SELECT COUNT(n), SUM(n), MIN(n), MAX(n) FROM T"
 GROUPS = "SELECT n, COUNT(*), SUM(k) FROM T GROUP BY n"
+OF_EXPRESSIONS = "SELECT n, COUNT(*), SUM(k * 2 - n) FROM T GROUP BY n"
 # Rows of T below each row of P, where they are joined.
 ROWS_BELOW = 200
 JOINED_SUMS = "SELECT COUNT(*), SUM(n), MAX(n) FROM P JOIN T ON T.k = P.k"
@@ -96,7 +97,7 @@ def query_rows(query, rows):
         return [(len(numbers), sum(numbers), min(numbers), max(numbers))]
     groups = {}
     for key, n in rows:
-        groups.setdefault(n, []).append(key)
+        groups.setdefault(n, []).append(key if query == GROUPS else key * 2 - n)
     return [(n, len(keys), sum(keys)) for n, keys in groups.items()]
 
 
@@ -151,7 +152,7 @@ def main():
         is_right = few is not None and many is not None and many <= MOST_TIMES * few
         print(f"keys: {FEW_ABORTS} and {MANY_ABORTS} aborted transactions: {few} and {many} KB, {'as wanted' if is_right else 'not as wanted'}")
         wrong += not is_right
-        for title, made, asked in (("rows", many_rows, (SUMS, GROUPS)), ("rows below others", joined_rows, (JOINED_SUMS, JOINED_GROUPS))):
+        for title, made, asked in (("rows", many_rows, (SUMS, GROUPS, OF_EXPRESSIONS)), ("rows below others", joined_rows, (JOINED_SUMS, JOINED_GROUPS))):
             without, both = (memory_of(folder, made(queries)) for queries in ((), asked))
             is_right = without is not None and both is not None and both <= without + MOST_KILOBYTES
             print(f"keys: {GROUPED_ROWS} {title} without and with their groups: {without} and {both} KB, {'as wanted' if is_right else 'not as wanted'}")

@@ -9,4 +9,5 @@ pub mod expr;
 pub mod form;
 pub mod rank;
 pub mod reads;
+pub mod same;
 pub mod total;

@@ -67,7 +67,7 @@ impl CollectedRows {
     }
 }
 
-/// No rows, for a grouping if there is one: None where groups are not made by it where rows are read. The only error is out of memory.
+/// No rows, for a grouping if there is one. The only error is out of memory.
 pub fn no_rows(
     alloc: Global,
     grouping: Option<&Grouping>,
@@ -75,7 +75,7 @@ pub fn no_rows(
     ensures { IfOk result (λ groups. grouped_rows groups ≡ []) }
 {
     match grouping {
-        Some(grouping) => GroupedRows::new(alloc, grouping),
+        Some(grouping) => Ok(Some(GroupedRows::new(alloc, grouping)?)),
         None => Ok(None),
     }
 }

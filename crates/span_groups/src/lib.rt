@@ -3,11 +3,11 @@
 
 mod aggregate;
 pub mod collected;
-mod column_grouping;
 mod counted;
 mod firsts;
 pub mod group;
 pub mod grouped;
+mod kept_groups;
 mod lent;
 mod many;
 mod merge;
@@ -15,5 +15,6 @@ mod one_group;
 pub mod part_rows;
 pub mod parts;
 pub mod reduction;
+mod same_grouping;
 mod states;
 mod sum;

@@ -99,15 +99,15 @@ fn merge_groups<'a>(
     Ok(true)
 }
 
-/// The groups with those of further rows. The error is out of memory, or that these are by another grouping, or a count of 64 bits does not
-/// suffice.
+/// The groups with those of further rows. The error is an arithmetic error of an operand, or out of memory, which is said too where these are by
+/// another grouping, or a count of 64 bits does not suffice.
 fn take_groups<'a>(
     alloc: Global,
     grouping: &'a Grouping,
     index: &mut IndexSet<LentKey<'a>>,
     groups: &mut LentGroups<'a>,
     more: &'a GroupedRows,
-) -> Result<(), AllocError>
+) -> Result<(), Failure>
     requires { AreInStep grouping.now index.old.keys groups.old.states.items }
     ensures ok { OnOk result
         ((before : List Row)
@@ -116,14 +116,13 @@ fn take_groups<'a>(
     ensures firsts { OnOk result
         (HaveKeys grouping.now (lent_rows groups.old.firsts.items) index.old.keys
         → HaveKeys grouping.now (lent_rows groups.new.firsts.items) index.new.keys) }
+    ensures fault { result ≡ Err Fault → AnyFault grouping.now more.now }
 {
-    let Some((firsts, states)) = more.groups_by(grouping) else {
-        return Err(AllocError);
-    };
+    let (firsts, states) = more.groups_by(grouping)?;
     if merge_groups(alloc, grouping, index, groups, firsts, states)? {
         Ok(())
     } else {
-        Err(AllocError)
+        Err(Failure::OutOfMemory)
     }
 }
 
@@ -134,7 +133,7 @@ fn take_grouped<'a>(
     index: &mut IndexSet<LentKey<'a>>,
     groups: &mut LentGroups<'a>,
     more: Option<&'a GroupedRows>,
-) -> Result<(), AllocError>
+) -> Result<(), Failure>
     requires { AreInStep grouping.now index.old.keys groups.old.states.items }
     ensures ok { OnOk result
         ((before : List Row)
@@ -143,6 +142,7 @@ fn take_grouped<'a>(
     ensures firsts { OnOk result
         (HaveKeys grouping.now (lent_rows groups.old.firsts.items) index.old.keys
         → HaveKeys grouping.now (lent_rows groups.new.firsts.items) index.new.keys) }
+    ensures fault { result ≡ Err Fault → AnyFault grouping.now (grouped_rows (option_copied more.entry)) }
 {
     match more {
         Some(more) => take_groups(alloc, grouping, index, groups, more),
@@ -166,8 +166,7 @@ fn take_part<'a>(
     ensures firsts { OnOk result
         (HaveKeys grouping.now (lent_rows groups.old.firsts.items) index.old.keys
         → HaveKeys grouping.now (lent_rows groups.new.firsts.items) index.new.keys) }
-    ensures fault { result ≡ Err Fault
-        → AnyFault grouping.now part.now }
+    ensures fault { result ≡ Err Fault → AnyFault grouping.now part.now }
 {
     let (grouped, listed) = part.parts();
     take_grouped(alloc, grouping, index, groups, grouped)?;

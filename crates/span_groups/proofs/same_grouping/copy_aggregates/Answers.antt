@@ -1,7 +1,7 @@
 use Rattle.std.proofs.Common.{rules, ◌≡◌, ◌∷◌, ◌++◌, ◌+◌, ◌<◌, ◌∙◌, [], List, length, take, get_or, sym}
 use Rattle.span_query.specs.declared.query.Aggregate.{Aggregate}
 use Rattle.span_groups.proofs.Copying.{copied_more, copied_all}
-use Rattle.span_groups.proofs.column_grouping.copies_of.Goals as goal
+use Rattle.span_groups.proofs.same_grouping.copy_aggregates.Goals as goal
 
 pub loop-aggregate-preserved : goal.loop-aggregate-preserved
 loop-aggregate-preserved c =
@@ -10,8 +10,9 @@ loop-aggregate-preserved c =
     let x = c.aggregate-item.result in
     let within : i < length all = search rules in
     let is : x ≡ get_or all i x = search rules in
-    let more : take (i + 1) all ≡ c.loop-aggregate.copies.items ++ c.in-Some.copy ∷ [] =
-    copied_more all c.loop-aggregate.copies.items i x c.in-Some.copy within is (sym {A = Aggregate} c.in-Some.ensures) c.loop-aggregate.invariant in
+    let copy = c.in_ok-copy_aggregate.field-0 in
+    let more : take (i + 1) all ≡ c.loop-aggregate.copies.items ++ copy ∷ [] =
+    copied_more all c.loop-aggregate.copies.items i x copy within is (sym {A = Aggregate} c.in_ok-copy_aggregate.ensures) c.loop-aggregate.invariant in
     more ∙ sym {A = List Aggregate} c.in_ok-push.ensures.items
 
 pub returns : goal.returns

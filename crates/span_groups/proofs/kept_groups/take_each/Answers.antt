@@ -5,7 +5,7 @@ use Rattle.span_rows.specs.RowPlaces.{rows_at}
 use Rattle.span_groups.specs.declared.aggregate.AggregateState.{AggregateState}
 use Rattle.span_groups.specs.GroupStates.{keys_at, AreGroupLists, HaveKeys}
 use Rattle.span_groups.proofs.KeptGroups.{HaveTaken, kept_index, taken_none, taken_next, taken_all, can_count_next, first_next}
-use Rattle.span_groups.proofs.grouped.take_each.Goals as goal
+use Rattle.span_groups.proofs.kept_groups.take_each.Goals as goal
 
 pub take_row-requires : goal.take_row-requires
 take_row-requires c =
@@ -43,8 +43,8 @@ loop-at-preserved c =
           (sym (get_or_read rows i row within c.row.ensures [])) c.in_ok-push_if.ensures.added c.in_ok-push_if.ensures.same c.loop-at.invariant.firsts;
     }
 
-pub returns : goal.returns
-returns c before are =
+pub returns-clause-ok : goal.returns-clause-ok
+returns-clause-ok c before are =
     let g = c.args.grouping.now in
     let rows : List Row = c.args.rows.now in
     let past : length rows ≤ c.loop-at.at = search rules in

@@ -2,7 +2,7 @@ use Rattle.std.proofs.Common.{◌++◌}
 use Rattle.span_rows.specs.RowPlaces.{rows_at}
 use Rattle.span_groups.specs.GroupStates.{keys_at, HaveKeys}
 use Rattle.span_groups.proofs.KeptGroups.{HaveTaken}
-use Rattle.span_groups.proofs.grouped.take_each.Given as goal
+use Rattle.span_groups.proofs.kept_groups.take_each.Given as goal
 
 abbrev pub invariant-loop-at : goal.invariant-loop-at
 invariant-loop-at l = record {

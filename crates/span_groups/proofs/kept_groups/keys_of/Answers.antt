@@ -5,7 +5,7 @@ use Rattle.span_query.specs.Rows.{Row}
 use Rattle.span_query.specs.Groups.{are_equal, columns_at}
 use Rattle.span_rows.specs.Columns.{distinct_at}
 use Rattle.span_groups.proofs.FirstRows.{seen_more}
-use Rattle.span_groups.proofs.grouped.keys_of.Goals as goal
+use Rattle.span_groups.proofs.kept_groups.keys_of.Goals as goal
 
 pub loop-at-preserved : goal.loop-at-preserved
 loop-at-preserved c =
