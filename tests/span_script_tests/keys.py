@@ -2,7 +2,7 @@
 """Runs, by the proved program, the scripts that are too long for files: 10,000 keys that rise or fall, and 100,000 in no order. Every second key
 is removed, and all come again the other way round; the answers are those of a sorted list (computed.py). Groups of 21,500 rows, with all queries of
 grouped.py three times. Then transactions that are aborted, few and many, after which as much memory is taken; and many rows, of which a query
-that groups them takes little memory beside that which they have.
+that groups them takes little memory beside that which they have, alone and joined with others.
 """
 import os
 import random
@@ -26,6 +26,10 @@ GROUPED_ROWS, ROWS_OF_A_TRANSACTION, MOST_KILOBYTES = 200_000, 1_000, 5_000
 SUMS = "SELECT COUNT(n), SUM(n), MIN(n), MAX(n) FROM T"
 GROUPS = "SELECT n, COUNT(*), SUM(k) FROM T GROUP BY n"
 OF_EXPRESSIONS = "SELECT n, COUNT(*), SUM(k * 2 - n) FROM T GROUP BY n"
+# Rows of T below each row of P, where they are joined.
+ROWS_BELOW = 200
+JOINED_SUMS = "SELECT COUNT(*), SUM(n), MAX(n) FROM P JOIN T ON T.k = P.k"
+JOINED_GROUPS = "SELECT m, COUNT(*), SUM(n) FROM P JOIN T ON T.k = P.k GROUP BY m"
 
 
 def aborted(count):
@@ -58,6 +62,31 @@ def many_rows(queries):
         last += 100
     for query in queries:
         script.rows(last, query, query_rows(query, rows))
+    return script
+
+
+def joined_rows(queries):
+    """The same of as many rows, each of which is below a row of another table, and of queries of both."""
+    script = computed.Script(
+        "CREATE TABLE P (k INT64 NOT NULL, m INT64) PRIMARY KEY (k);\n"
+        "CREATE TABLE T (k INT64 NOT NULL, c INT64 NOT NULL, n INT64) PRIMARY KEY (k, c), INTERLEAVE IN PARENT P ON DELETE CASCADE\n"
+    )
+    parents, last = [(key, key % 7) for key in range(GROUPED_ROWS // ROWS_BELOW)], 0
+    rows = [(key, c, (key * ROWS_BELOW + c) * 7919 % 1000) for key, _ in parents for c in range(ROWS_BELOW)]
+    of_each = ROWS_OF_A_TRANSACTION // ROWS_BELOW
+    for start in range(0, len(parents), of_each):
+        for name, part in (("P", parents[start : start + of_each]), ("T", rows[start * ROWS_BELOW : (start + of_each) * ROWS_BELOW])):
+            lines = [",".join(map(str, row)) for row in part]
+            script.ask("\n".join([f"load {name} *", *lines, "end"]), f"loaded {len(part)}")
+        script.commit(last + 100, last + 1)
+        last += 100
+    for query in queries:
+        numbers = {}
+        for key, _, n in rows:
+            numbers.setdefault(parents[key][1], []).append(n)
+        every = [n for of_one in numbers.values() for n in of_one]
+        groups = [(m, len(of_one), sum(of_one)) for m, of_one in numbers.items()]
+        script.rows(last, query, [(len(every), sum(every), max(every))] if query == JOINED_SUMS else groups)
     return script
 
 
@@ -123,10 +152,11 @@ def main():
         is_right = few is not None and many is not None and many <= MOST_TIMES * few
         print(f"keys: {FEW_ABORTS} and {MANY_ABORTS} aborted transactions: {few} and {many} KB, {'as wanted' if is_right else 'not as wanted'}")
         wrong += not is_right
-        without, both = (memory_of(folder, many_rows(queries)) for queries in ((), (SUMS, GROUPS, OF_EXPRESSIONS)))
-        is_right = without is not None and both is not None and both <= without + MOST_KILOBYTES
-        print(f"keys: {GROUPED_ROWS} rows without and with their groups: {without} and {both} KB, {'as wanted' if is_right else 'not as wanted'}")
-        wrong += not is_right
+        for title, made, asked in (("rows", many_rows, (SUMS, GROUPS, OF_EXPRESSIONS)), ("rows below others", joined_rows, (JOINED_SUMS, JOINED_GROUPS))):
+            without, both = (memory_of(folder, made(queries)) for queries in ((), asked))
+            is_right = without is not None and both is not None and both <= without + MOST_KILOBYTES
+            print(f"keys: {GROUPED_ROWS} {title} without and with their groups: {without} and {both} KB, {'as wanted' if is_right else 'not as wanted'}")
+            wrong += not is_right
     return int(wrong > 0)
 
 

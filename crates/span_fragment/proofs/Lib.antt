@@ -3,5 +3,6 @@ mod Ending
 mod LastJoin
 mod KeptRows
 mod Running
+mod EnoughAdded
 mod Fronts
 mod LentDirectories

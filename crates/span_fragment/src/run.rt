@@ -120,7 +120,7 @@ fn give_rows(
     if let Some(table) = only_table(leaf) {
         return rows_of_table(alloc, schema, leaf, table, reduction, grouping, snapshot);
     }
-    rows_of_leaf(alloc, schema, leaf, grouping, snapshot)
+    rows_of_leaf(alloc, schema, leaf, reduction, grouping, snapshot)
 }
 
 /// What a leaf gives on the rows of a part of its range, which a snapshot lends, for the query above the leaves: the leaf is the table at this

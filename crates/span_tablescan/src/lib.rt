@@ -2,6 +2,7 @@
 #![tactic(auto)]
 
 mod count;
+pub mod due;
 mod ends;
 pub mod narrow;
 mod number_test;

@@ -39,11 +39,11 @@ loop-late-preserved c =
     let old : List Row = c.loop-late.rows in
     let new : List Row = c.take_late.new.rows in
     let Q : Result (Unit {0}) Failure → Type 0 = λ found. IsTakenBy schema scan x.key x.row found old new in
-    let last : List Row = grouped_rows c.keep_where_due.new.groups ++ c.keep_where_due.new.rows in
+    let last : List Row = grouped_rows c.keep_counted.new.groups ++ c.keep_counted.new.rows in
     subst (λ (es : List KeyRow). EnoughBefore schema n leaf.kept leaf.filter r short es last) (sym c.look_where_due-has_keys.ensures)
     (enough_kept schema n leaf.kept leaf.filter r short c.next_late.new.self (front ++ new) last
     (enough_after schema n leaf.kept leaf.filter r short c.loop-late.late_rows c.next_late.new.self x front old new c.in-Some.ensures c.loop-late.invariant (subst Q c.in-Ok.is c.in_ok-taken.ensures.ok))
-    c.in_ok-keep_where_due.ensures)
+    c.in_ok-keep_counted.ensures)
 
 pub loop-late-smaller : goal.loop-late-smaller
 loop-late-smaller c =
