@@ -155,9 +155,6 @@ pub(crate) fn first_of_table(
 ) -> Result<Option<Reduction>, AllocError>
     ensures { IfOk result (λ found. IfSome found (IsReductionFor query.now place)) }
 {
-    let Some(count) = few_rows(query.limit) else {
-        return Ok(None);
-    };
     if !is_table_at(&query.first, place) {
         return Ok(None);
     }
@@ -165,5 +162,8 @@ pub(crate) fn first_of_table(
         return Ok(None);
     };
     let ColumnOrder { columns: _, keys } = order;
-    Ok(Some(Reduction::First(keys, count)))
+    match few_rows(query.limit) {
+        Some(count) => Ok(Some(Reduction::First(keys, count))),
+        None => Ok(Some(Reduction::InOrder(keys))),
+    }
 }

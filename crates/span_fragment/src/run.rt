@@ -71,7 +71,10 @@ fn part_of(
 ) -> Result<PartRows, AllocError>
     ensures { IfOk result (λ made. AreEnough reduction.now made rows) }
 {
-    rows_for(alloc, leaf_use, rows.keep_enough(alloc, reduction)?)
+    match reduction {
+        Reduction::InOrder(keys) => PartRows::in_order(alloc, keys.as_slice(), rows),
+        _ => rows_for(alloc, leaf_use, rows.keep_enough(alloc, reduction)?),
+    }
 }
 
 /// The piece of a leaf that gives these rows, or the fault. The only refusal is out of memory.

@@ -87,6 +87,22 @@ impl PartRows {
         })
     }
 
+    /// Rows of which those in a list are put in the order of the keys, with this order. The only error is out of memory.
+    pub fn in_order(
+        alloc: Global,
+        keys: &[SortKey],
+        rows: CollectedRows,
+    ) -> Result<PartRows, AllocError>
+        ensures { IfOk result (λ ordered. sorted keys.now ordered ≡ sorted keys.now rows) }
+    {
+        let (groups, rows) = rows.into_parts();
+        Ok(PartRows {
+            groups,
+            rows: RowsWithOrder::in_order(alloc, keys, rows)?,
+            firsts: None,
+        })
+    }
+
     /// Rows with the first by some columns of those in a list. The only error is out of memory.
     pub fn with_firsts(
         alloc: Global,

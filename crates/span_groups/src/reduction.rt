@@ -15,6 +15,8 @@ pub enum Reduction {
     Everything,
     /// The first in the order of some keys, up to a number of them.
     First(Vec<SortKey>, usize),
+    /// All, in the order of some keys.
+    InOrder(Vec<SortKey>),
     /// Of the rows with the same values at some columns the first.
     Distinct(Vec<usize>),
 }
@@ -25,7 +27,7 @@ impl Reduction {
         ensures { OnOk result (AreEnough self.now rows.new rows.old) }
     {
         match self {
-            Reduction::Everything => Ok(()),
+            Reduction::Everything | Reduction::InOrder(_) => Ok(()),
             Reduction::First(keys, count) => {
                 keep_first(alloc, keys.as_slice(), *count, rows)?;
                 Ok(())

@@ -11,6 +11,7 @@ ghost use Rattle.span_sorting.specs.PlacesInOrder.{ArePlacesBy, IsCodedPlace, wi
 
 use super::coded::{CodedRow, CodedRows, add_rows};
 use super::first_places::first_places;
+use super::in_order::{OrderedRows, put_in_order};
 use super::placed::{CodedPlace, CodedPlaces, order_places};
 use span_query::query::SortKey;
 use span_rows::row_list::RowList;
@@ -127,6 +128,26 @@ impl RowsWithOrder {
         Ok(RowsWithOrder {
             rows,
             order: Some(RowOrder { keys, count, found }),
+        })
+    }
+
+    /// Rows put in the order of the keys, with this order; rows with equal keys keep theirs. The only error is out of memory.
+    pub fn in_order(
+        alloc: Global,
+        keys: &[SortKey],
+        rows: RowList,
+    ) -> Result<RowsWithOrder, AllocError>
+        ensures { IfOk result (λ ordered. ordered ≡ sorted keys.now rows) }
+    {
+        let OrderedRows { rows, found } = put_in_order(alloc, keys, &rows)?;
+        let keys = keys.to_vec(alloc)?;
+        Ok(RowsWithOrder {
+            rows,
+            order: Some(RowOrder {
+                keys,
+                count: None,
+                found,
+            }),
         })
     }
 
