@@ -59,7 +59,8 @@ pub(crate) fn put_in_order(
     ensures places { IfOk result
         (λ ordered. ArePlacesBy keys.now None ordered.rows ordered.found.are_exact ordered.found.places.items) }
 {
-    let coded = sort_codes(keys, coded_list(alloc, keys, rows)?)?;
+    let listed = coded_list(alloc, keys, rows)?;
+    let coded = sort_codes(keys, listed)?;
     let places = places_in_turn(alloc, coded.rows.as_slice())?;
     let lent = uncode_rows(alloc, coded.rows.as_slice())?;
     let copies = copy_rows(alloc, lent.as_slice())?;
