@@ -1,10 +1,13 @@
 //! Queries whose rows are put in order where they are lent, before the columns of their select list are copied.
-ghost use Rattle.std.specs.Prelude.{◌≡◌, IfOk, IfSome, map, suc, true};
+ghost use Rattle.std.specs.Prelude.{◌≡◌, IfOk, IfSome, List, map, suc, true};
 ghost use Rattle.span_query.specs.declared.query.BoundQuery.TheViews.{out-BoundQuery};
 ghost use Rattle.span_query.specs.Groups.{columns_at};
 ghost use Rattle.span_query.specs.Meaning.{limit_rows};
+ghost use Rattle.span_query.specs.Rows.{Row};
 ghost use Rattle.span_query.specs.Sorting.{sorted};
 ghost use Rattle.span_sorting.specs.Codes.{HaveCodes, coded_rows};
+ghost use Rattle.span_sorting.specs.Orders.{take_first};
+ghost use Rattle.span_groups.specs.Reductions.{AreEnough};
 ghost use Rattle.span_algebra.specs.ColumnOrders.{IsColumnOrder, IsTable, TakesAllRows};
 ghost use Rattle.span_algebra.specs.SameMeaning.{IsReductionFor};
 
@@ -147,7 +150,18 @@ pub(crate) fn is_table_at(block: &Block<BoundQuery>, place: usize) -> bool
     }
 }
 
-/// The first rows of the table at a place, counted from 0, where a query puts all its rows in order and LIMIT needs few.
+/// Rows of which the first in the order of the keys are needed, up to a count of them where there is one; else all.
+fn first_or_all(keys: Vec<SortKey>, count: Option<usize>) -> Reduction
+    ensures { (rows all : List Row) → AreEnough result rows all
+        → take_first count (sorted keys.items rows) ≡ take_first count (sorted keys.items all) }
+{
+    match count {
+        Some(count) => Reduction::First(keys, count),
+        None => Reduction::InOrder(keys),
+    }
+}
+
+/// Which rows of the table at a place, counted from 0, are kept where a query puts all its rows in order: the first where LIMIT needs few.
 pub(crate) fn first_of_table(
     alloc: Global,
     query: &BoundQuery,
@@ -162,8 +176,5 @@ pub(crate) fn first_of_table(
         return Ok(None);
     };
     let ColumnOrder { columns: _, keys } = order;
-    match few_rows(query.limit) {
-        Some(count) => Ok(Some(Reduction::First(keys, count))),
-        None => Ok(Some(Reduction::InOrder(keys))),
-    }
+    Ok(Some(first_or_all(keys, few_rows(query.limit))))
 }
