@@ -11,8 +11,6 @@ ghost use Rattle.span_groups.specs.Reductions.{AreEnough};
 ghost use Rattle.span_algebra.specs.ColumnOrders.{IsColumnOrder, IsTable, TakesAllRows};
 ghost use Rattle.span_algebra.specs.SameMeaning.{IsReductionFor};
 
-use span_groups::collected::CollectedRows;
-use span_groups::part_rows::PartRows;
 use span_groups::reduction::Reduction;
 use span_query::query::{Block, BoundQuery, Item, Limit, SortKey};
 use span_rows::row_list::{RowList, lent_rows};
@@ -111,33 +109,6 @@ pub(crate) fn take_columns_of(
     let (keys, columns) = (order.keys.as_slice(), order.columns.as_slice());
     let part = order_columns(alloc, keys, limit, columns, lent)?;
     Ok(part)
-}
-
-/// The table all of whose rows a query puts in order, where it is such a query: one SELECT with no condition and no groups.
-pub fn ordered_table(query: &BoundQuery) -> Option<usize>
-    ensures table { IfSome result (λ number. IsTable (out-BoundQuery query.now).first number) }
-    ensures takes { IfSome result (λ _. TakesAllRows (out-BoundQuery query.now)) }
-{
-    if orders_all_rows(query) {
-        only_table(&query.first)
-    } else {
-        None
-    }
-}
-
-/// Rows of the table that a query puts in order, with this order where its select list is columns alone. Where LIMIT needs few rows,
-/// these alone are put in order. The only error is out of memory.
-pub fn order_part(
-    alloc: Global,
-    query: &BoundQuery,
-    rows: CollectedRows,
-) -> Result<PartRows, AllocError>
-    ensures { IfOk result (λ ordered. ordered ≡ rows) }
-{
-    match column_order(alloc, query)? {
-        Some(order) => PartRows::with_order(alloc, order.keys(), few_rows(query.limit), rows),
-        None => Ok(PartRows::new(rows)),
-    }
 }
 
 /// Whether a FROM is one table, the one at a place, counted from 0.

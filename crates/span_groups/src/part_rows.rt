@@ -69,24 +69,6 @@ impl PartRows {
         }
     }
 
-    /// Rows with the order by the keys of those in a list; where a count is given, with that of the first `count` alone. The only error is out
-    /// of memory.
-    pub fn with_order(
-        alloc: Global,
-        keys: &[SortKey],
-        count: Option<usize>,
-        rows: CollectedRows,
-    ) -> Result<PartRows, AllocError>
-        ensures { IfOk result (λ ordered. ordered ≡ rows) }
-    {
-        let (groups, rows) = rows.into_parts();
-        Ok(PartRows {
-            groups,
-            rows: RowsWithOrder::with_order(alloc, keys, count, rows)?,
-            firsts: None,
-        })
-    }
-
     /// Rows of which those in a list are put in the order of the keys, with this order. The only error is out of memory.
     pub fn in_order(
         alloc: Global,

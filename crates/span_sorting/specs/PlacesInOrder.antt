@@ -65,4 +65,4 @@ pub record ArePlacesBy (keys : List SortKey) (count : Option ℕ) (rows : List R
   pub sorted : rows_at rows (without_codes places) ≡ take_first count (sorted keys rows)
 
 abbrev pub IsOrderOf : List Row → RowOrder → Type 0
-IsOrderOf rows order = ArePlacesBy order.keys.items order.count rows order.found.are_exact order.found.places.items
+IsOrderOf rows order = ArePlacesBy order.keys.items None rows order.found.are_exact order.found.places.items
