@@ -70,7 +70,10 @@ fn part_of(
 {
     let kept = rows.keep_enough(alloc, reduction)?;
     match reduction.keys() {
-        Some(keys) => PartRows::in_order(alloc, keys, kept),
+        Some(keys) => {
+            let ordered = PartRows::in_order(alloc, keys, kept)?;
+            Ok(ordered)
+        }
         None => rows_for(alloc, leaf_use, kept),
     }
 }

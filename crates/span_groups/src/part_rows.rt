@@ -78,9 +78,10 @@ impl PartRows {
         ensures { IfOk result (λ ordered. sorted keys.now ordered ≡ sorted keys.now rows) }
     {
         let (groups, rows) = rows.into_parts();
+        let ordered = RowsWithOrder::in_order(alloc, keys, rows)?;
         Ok(PartRows {
             groups,
-            rows: RowsWithOrder::in_order(alloc, keys, rows)?,
+            rows: ordered,
             firsts: None,
         })
     }
