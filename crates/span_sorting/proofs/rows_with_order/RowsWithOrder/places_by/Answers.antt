@@ -14,4 +14,5 @@ returns-then-are_same_keys c =
     let exact = order.found.are_exact in
     let is : ArePlacesBy order.keys.items None rows exact all = search rules in
     let same : keys ≡ order.keys.items = search rules in
-    subst (λ (ks : List SortKey). ArePlacesBy ks None rows exact all) (sym same) is
+    let places : c.as_slice-then-are_same_keys.result.now ≡ all = search rules in
+    subst (ArePlacesBy keys None rows exact) (sym places) (subst (λ (ks : List SortKey). ArePlacesBy ks None rows exact all) (sym same) is)
