@@ -10,9 +10,9 @@ use Rattle.span_groups.proofs.part_rows.PartRows.in_order.Goals as goal
 pub returns : goal.returns
 returns c =
     let keys = c.args.keys.now in
-    let front : List Row = grouped_rows c.into_parts.result.0 in
-    let rows : List Row = c.into_parts.result.1 in
+    let front : List Row = grouped_rows c.into_parts-groups.result.0 in
+    let rows : List Row = c.into_parts-groups.result.1 in
     let ordered : List Row = c.in_ok-ordered.ordered in
     first_of_parts (comes_before keys) (rows_ranked keys) None front front ordered rows refl
     (ap (sorted keys) c.in_ok-ordered.ensures ∙ sorted_again (comes_before keys) (rows_ranked keys) rows)
-    ∙ ap (sorted keys) c.into_parts.ensures
+    ∙ ap (sorted keys) c.into_parts-groups.ensures
