@@ -38,8 +38,7 @@ module _ (keys : List SortKey) (exact : Bool) where
   coded_in_turn front [] at is all = tt
   coded_in_turn front (x ∷ xs) at is all =
       let r : Row = x.row.now in
-      let same : r ≡ get_or (front ++ r ∷ uncoded xs) at [] = sym (here front r (uncoded xs) at is) in
-      (
+      let same : r ≡ get_or (front ++ r ∷ uncoded xs) at [] = sym (here front r (uncoded xs) at is) in (
         record {
           within = within front r (uncoded xs) at is;
           first = all.0.coded.first ∙ ap (first_code keys) same;
@@ -48,7 +47,7 @@ module _ (keys : List SortKey) (exact : Bool) where
           ties = λ e. ap (are_exact keys) (sym same) ∙ all.0.ties e;
         },
         subst (λ (l : List Row). AllByRecursion (IsCodedPlace l keys exact) (places_from (at + 1) xs)) (append_assoc front (r ∷ []) (uncoded xs))
-        (coded_in_turn (front ++ r ∷ []) xs (at + 1) (next front r at is) all.1),
+            (coded_in_turn (front ++ r ∷ []) xs (at + 1) (next front r at is) all.1),
       )
 
   -- the places of rows in order in a list of them alone
