@@ -1,5 +1,6 @@
 -- What a query means stays the same where rows that are enough are in the place of others.
-use Rattle.std.proofs.Common.{◌≡◌, ◌∙◌, ℕ, suc, ◌+◌, List, [], ◌∷◌, ◌++◌, Some, None, length, map, refl, sym, ap, subst, take}
+use Rattle.std.proofs.Common.{◌≡◌, ◌∙◌, ℕ, suc, ◌+◌, List, [], ◌∷◌, ◌++◌, Option, Some, None, length, map, refl, sym, ap, subst}
+use Rattle.std.specs.Prelude.{IfSome}
 use Rattle.span_query.specs.declared.query.Block.{Block}
 use Rattle.span_query.specs.declared.query.BoundQuery.{BoundQuery}
 use Rattle.span_query.specs.declared.query.BoundQuery.TheOpen.{BoundQuery-F}
@@ -11,6 +12,7 @@ use Rattle.span_query.specs.Rows.{Row, Rows, ◌>>=◌, append_results, concat_m
 use Rattle.span_query.specs.Sorting.{comes_before, sorted}
 use Rattle.span_rows.specs.Columns.{distinct_at}
 use Rattle.span_sorting.specs.Columns.{AreColumns}
+use Rattle.span_sorting.specs.Orders.{take_first}
 use Rattle.span_sorting.proofs.FirstOfParts.{first_of_parts}
 use Rattle.span_sorting.proofs.Limits.{IsNeededBy}
 use Rattle.span_sorting.proofs.RowOrder.{rows_ranked}
@@ -51,9 +53,9 @@ by_table query place made reads rows all same = record {
       means rows ∙ with_others made rows all same before after ∙ sym (means all);
 }
 
--- the first rows in the order that LIMIT needs
-pub first_enough : (query : BoundQuery) (place count : ℕ) (order : ColumnOrder) → IsColumnOrder (out-BoundQuery query) order → IsTable (out-BoundQuery query).first (suc place)
-    → IsNeededBy (out-BoundQuery query).limit count → (rows all : List Row) → take count (sorted order.keys.items rows) ≡ take count (sorted order.keys.items all)
+-- the first rows in the order that LIMIT needs, or all
+pub first_enough : (query : BoundQuery) (place : ℕ) (count : Option ℕ) (order : ColumnOrder) → IsColumnOrder (out-BoundQuery query) order → IsTable (out-BoundQuery query).first (suc place)
+    → IfSome count (IsNeededBy (out-BoundQuery query).limit) → (rows all : List Row) → take_first count (sorted order.keys.items rows) ≡ take_first count (sorted order.keys.items all)
     → MeanTheSame query place (Some rows) (Some all)
 first_enough query place count order is table needed rows all same =
     let q : BoundQuery-F BoundQuery = out-BoundQuery query in
@@ -61,9 +63,9 @@ first_enough query place count order is table needed rows all same =
     let made : List Row → Rows = λ some. Some (columns_first q order some) in
     let reads : (tables : ℕ → Rows) → meaning_over tables query ≡ (tables (suc place) >>= made) =
     λ tables. ordered_meaning tables query order is ∙ ap (λ (o : Rows). o >>= made) (rows_of_table tables q.first (suc place) table) in
-    let parts : (b a : List Row) → take count (sorted keys (b ++ (rows ++ a))) ≡ take count (sorted keys (b ++ (all ++ a))) =
-    λ b a. first_of_parts (comes_before keys) (rows_ranked keys) (Some count) b b (rows ++ a) (all ++ a) refl (first_of_parts (comes_before keys) (rows_ranked keys) (Some count) rows all a a same refl) in
-    by_table query place made reads rows all (λ b a. sym (sorts_columns q order (Some count) (b ++ (rows ++ a)) (Some (b ++ (all ++ a))) needed (parts b a)))
+    let parts : (b a : List Row) → take_first count (sorted keys (b ++ (rows ++ a))) ≡ take_first count (sorted keys (b ++ (all ++ a))) =
+    λ b a. first_of_parts (comes_before keys) (rows_ranked keys) count b b (rows ++ a) (all ++ a) refl (first_of_parts (comes_before keys) (rows_ranked keys) count rows all a a same refl) in
+    by_table query place made reads rows all (λ b a. sym (sorts_columns q order count (b ++ (rows ++ a)) (Some (b ++ (all ++ a))) needed (parts b a)))
 
 -- one row for each of the values
 pub distinct_enough : (query : BoundQuery) (place : ℕ) (columns : List ℕ) → (out-BoundQuery query).others ≡ [] → TakesDistinct (out-BoundQuery query).first (suc place)

@@ -1,15 +1,16 @@
 //! Queries whose rows are put in order where they are lent, before the columns of their select list are copied.
-ghost use Rattle.std.specs.Prelude.{◌≡◌, IfOk, IfSome, map, suc, true};
+ghost use Rattle.std.specs.Prelude.{◌≡◌, IfOk, IfSome, List, map, suc, true};
 ghost use Rattle.span_query.specs.declared.query.BoundQuery.TheViews.{out-BoundQuery};
 ghost use Rattle.span_query.specs.Groups.{columns_at};
 ghost use Rattle.span_query.specs.Meaning.{limit_rows};
+ghost use Rattle.span_query.specs.Rows.{Row};
 ghost use Rattle.span_query.specs.Sorting.{sorted};
 ghost use Rattle.span_sorting.specs.Codes.{HaveCodes, coded_rows};
+ghost use Rattle.span_sorting.specs.Orders.{take_first};
+ghost use Rattle.span_groups.specs.Reductions.{AreEnough};
 ghost use Rattle.span_algebra.specs.ColumnOrders.{IsColumnOrder, IsTable, TakesAllRows};
 ghost use Rattle.span_algebra.specs.SameMeaning.{IsReductionFor};
 
-use span_groups::collected::CollectedRows;
-use span_groups::part_rows::PartRows;
 use span_groups::reduction::Reduction;
 use span_query::query::{Block, BoundQuery, Item, Limit, SortKey};
 use span_rows::row_list::{RowList, lent_rows};
@@ -110,33 +111,6 @@ pub(crate) fn take_columns_of(
     Ok(part)
 }
 
-/// The table all of whose rows a query puts in order, where it is such a query: one SELECT with no condition and no groups.
-pub fn ordered_table(query: &BoundQuery) -> Option<usize>
-    ensures table { IfSome result (λ number. IsTable (out-BoundQuery query.now).first number) }
-    ensures takes { IfSome result (λ _. TakesAllRows (out-BoundQuery query.now)) }
-{
-    if orders_all_rows(query) {
-        only_table(&query.first)
-    } else {
-        None
-    }
-}
-
-/// Rows of the table that a query puts in order, with this order where its select list is columns alone. Where LIMIT needs few rows,
-/// these alone are put in order. The only error is out of memory.
-pub fn order_part(
-    alloc: Global,
-    query: &BoundQuery,
-    rows: CollectedRows,
-) -> Result<PartRows, AllocError>
-    ensures { IfOk result (λ ordered. ordered ≡ rows) }
-{
-    match column_order(alloc, query)? {
-        Some(order) => PartRows::with_order(alloc, order.keys(), few_rows(query.limit), rows),
-        None => Ok(PartRows::new(rows)),
-    }
-}
-
 /// Whether a FROM is one table, the one at a place, counted from 0.
 pub(crate) fn is_table_at(block: &Block<BoundQuery>, place: usize) -> bool
     ensures { result ≡ true → IsTable block.now (suc place) }
@@ -147,7 +121,18 @@ pub(crate) fn is_table_at(block: &Block<BoundQuery>, place: usize) -> bool
     }
 }
 
-/// The first rows of the table at a place, counted from 0, where a query puts all its rows in order and LIMIT needs few.
+/// Rows of which the first in the order of the keys are needed, up to a count of them where there is one; else all.
+fn first_or_all(keys: Vec<SortKey>, count: Option<usize>) -> Reduction
+    ensures { (rows all : List Row) → AreEnough result rows all
+        → take_first count (sorted keys.items rows) ≡ take_first count (sorted keys.items all) }
+{
+    match count {
+        Some(count) => Reduction::First(keys, count),
+        None => Reduction::InOrder(keys),
+    }
+}
+
+/// Which rows of the table at a place, counted from 0, are kept where a query puts all its rows in order: the first where LIMIT needs few.
 pub(crate) fn first_of_table(
     alloc: Global,
     query: &BoundQuery,
@@ -155,9 +140,6 @@ pub(crate) fn first_of_table(
 ) -> Result<Option<Reduction>, AllocError>
     ensures { IfOk result (λ found. IfSome found (IsReductionFor query.now place)) }
 {
-    let Some(count) = few_rows(query.limit) else {
-        return Ok(None);
-    };
     if !is_table_at(&query.first, place) {
         return Ok(None);
     }
@@ -165,5 +147,5 @@ pub(crate) fn first_of_table(
         return Ok(None);
     };
     let ColumnOrder { columns: _, keys } = order;
-    Ok(Some(Reduction::First(keys, count)))
+    Ok(Some(first_or_all(keys, few_rows(query.limit))))
 }

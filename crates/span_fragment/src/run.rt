@@ -13,7 +13,6 @@ ghost use Rattle.span_fragment.specs.Pieces.{IsPieceOf};
 use super::directory::rows_of_leaf;
 use super::piece::Piece;
 use span_algebra::distinct::{distinct_part, distinct_table};
-use span_algebra::ordered::{order_part, ordered_table};
 use span_algebra::plain::grouped_table;
 use span_algebra::reduction::reduction_for;
 use span_columns::leaf::Leaf;
@@ -28,15 +27,13 @@ use span_tablescan::scan::rows_of_table;
 use span_value::refusal::Refusal;
 use std::alloc::{AllocError, Global};
 
-/// What the query above the leaves does with all rows of a leaf, where parts of it are done where the rows are read.
+/// What a block of the query above the leaves does with all rows of a leaf, where parts of it are done where the rows are read.
 #[derive(Clone, Copy)]
 enum LeafUse<'a> {
     /// A block groups them.
     Group(&'a Grouping),
     /// A block takes each row of its select list at them once.
     Distinct(&'a Block<BoundQuery>),
-    /// The query puts them in order.
-    Order(&'a BoundQuery),
 }
 
 /// The grouping by which a block groups them, where one does.
@@ -57,12 +54,12 @@ fn rows_for(
 {
     match leaf_use {
         Some(LeafUse::Distinct(block)) => distinct_part(alloc, block, rows),
-        Some(LeafUse::Order(query)) => order_part(alloc, query, rows),
         _ => Ok(PartRows::new(rows)),
     }
 }
 
-/// Of the rows of a part those that are enough, with what is done here of what the query above does with them.
+/// Of the rows of a part those that are enough: in the order in which the query above puts them, or with what else is done here of what it does
+/// with them.
 fn part_of(
     alloc: Global,
     leaf_use: Option<LeafUse<'_>>,
@@ -71,7 +68,14 @@ fn part_of(
 ) -> Result<PartRows, AllocError>
     ensures { IfOk result (λ made. AreEnough reduction.now made rows) }
 {
-    rows_for(alloc, leaf_use, rows.keep_enough(alloc, reduction)?)
+    let kept = rows.keep_enough(alloc, reduction)?;
+    match reduction.keys() {
+        Some(keys) => {
+            let ordered = PartRows::in_order(alloc, keys, kept)?;
+            Ok(ordered)
+        }
+        None => rows_for(alloc, leaf_use, kept),
+    }
 }
 
 /// The piece of a leaf that gives these rows, or the fault. The only refusal is out of memory.
@@ -169,8 +173,10 @@ fn block_use(block: &Block<BoundQuery>, number: usize) -> Option<LeafUse<'_>> {
     }
 }
 
-/// What one of the query's own blocks does with all rows of the table with this number, where one does.
-fn use_by_block(top: &BoundQuery, number: usize) -> Option<LeafUse<'_>> {
+/// What the query above the leaves does with all rows of a leaf, whose place among them is counted from 0. None where no block of the query's
+/// own groups them or takes each once. Only how fast the query is answered rests on it.
+fn leaf_use(top: &BoundQuery, place: usize) -> Option<LeafUse<'_>> {
+    let number = place.saturating_add(1);
     if let Some(found) = block_use(&top.first, number) {
         return Some(found);
     }
@@ -180,17 +186,4 @@ fn use_by_block(top: &BoundQuery, number: usize) -> Option<LeafUse<'_>> {
         }
     }
     None
-}
-
-/// What the query above the leaves does with all rows of a leaf, whose place among them is counted from 0. None where no block of the query's
-/// own groups them or takes each once, and the query does not put them in order. Only how fast the query is answered rests on it.
-fn leaf_use(top: &BoundQuery, place: usize) -> Option<LeafUse<'_>> {
-    let number = place.saturating_add(1);
-    if let Some(found) = use_by_block(top, number) {
-        return Some(found);
-    }
-    match ordered_table(top) {
-        Some(table) if table == number => Some(LeafUse::Order(top)),
-        _ => None,
-    }
 }

@@ -6,12 +6,14 @@ use Rattle.span_query.specs.Rows.{Row, Rows}
 use Rattle.span_query.specs.Sorting.{sorted}
 use Rattle.span_rows.specs.Columns.{distinct_at}
 use Rattle.span_groups.specs.declared.reduction.Reduction.{Reduction}
-use Rattle.span_groups.specs.declared.reduction.Reduction.TheVariants.{Everything, First, Distinct}
+use Rattle.span_groups.specs.declared.reduction.Reduction.TheVariants.{Everything, First, InOrder, Distinct}
 
--- What is kept of the rows and of the others is the same: all, the first in the order of the keys, or the values at the columns, each once.
+-- What is kept of the rows and of the others is the same: all, the first in the order of the keys, all in this order, or the values at
+-- the columns, each once.
 abbrev pub AreEnough : Reduction → List Row → List Row → Type 0
 AreEnough Everything rows all = rows ≡ all
 AreEnough (First keys count) rows all = take count (sorted keys.items rows) ≡ take count (sorted keys.items all)
+AreEnough (InOrder keys) rows all = sorted keys.items rows ≡ sorted keys.items all
 AreEnough (Distinct columns) rows all = distinct_at columns.items rows ≡ distinct_at columns.items all
 
 -- rows that are enough in the place of those that are meant, or the fault

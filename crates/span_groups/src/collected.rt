@@ -119,7 +119,7 @@ pub fn keep_enough(
 pub fn first_count(reduction: &Reduction, groups: &Option<GroupedRows>) -> usize {
     match (reduction, groups) {
         (_, Some(_)) => JUDGED_ROWS,
-        (Reduction::Everything, None) => usize::MAX,
+        (Reduction::Everything | Reduction::InOrder(_), None) => usize::MAX,
         _ => COLLECTED_ROWS,
     }
 }
@@ -128,7 +128,7 @@ pub fn first_count(reduction: &Reduction, groups: &Option<GroupedRows>) -> usize
 pub fn next_count(reduction: &Reduction, groups: &Option<GroupedRows>, rows: &RowList) -> usize {
     let kept = match (reduction, groups) {
         (_, Some(groups)) => groups.group_count(),
-        (Reduction::Everything, None) => return usize::MAX,
+        (Reduction::Everything | Reduction::InOrder(_), None) => return usize::MAX,
         _ => rows.len(),
     };
     kept.saturating_mul(COLLECTED_SHARE).max(COLLECTED_ROWS)

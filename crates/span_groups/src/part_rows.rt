@@ -69,20 +69,19 @@ impl PartRows {
         }
     }
 
-    /// Rows with the order by the keys of those in a list; where a count is given, with that of the first `count` alone. The only error is out
-    /// of memory.
-    pub fn with_order(
+    /// Rows of which those in a list are put in the order of the keys, with this order. The only error is out of memory.
+    pub fn in_order(
         alloc: Global,
         keys: &[SortKey],
-        count: Option<usize>,
         rows: CollectedRows,
     ) -> Result<PartRows, AllocError>
-        ensures { IfOk result (λ ordered. ordered ≡ rows) }
+        ensures { IfOk result (λ ordered. sorted keys.now ordered ≡ sorted keys.now rows) }
     {
         let (groups, rows) = rows.into_parts();
+        let ordered = RowsWithOrder::in_order(alloc, keys, rows)?;
         Ok(PartRows {
             groups,
-            rows: RowsWithOrder::with_order(alloc, keys, count, rows)?,
+            rows: ordered,
             firsts: None,
         })
     }

@@ -7,4 +7,5 @@ pub mod Codes
 pub mod CodedRows
 pub mod TakenColumns
 pub mod Placing
+mod InTurn
 pub mod FirstOfParts

@@ -1,5 +1,5 @@
 -- The places of the rows of a list, in the order of some keys.
-use Rattle.std.specs.Prelude.{◌≡◌, ℕ, ◌<◌, ◌≤◌, ◌-◌, Bool, true, false, List, [], Option, Some, drop, length, map, slice_get, slice_index_or, take}
+use Rattle.std.specs.Prelude.{◌≡◌, ℕ, ◌<◌, ◌≤◌, ◌+◌, ◌-◌, Bool, true, false, List, [], ◌∷◌, Option, None, Some, drop, length, map, slice_get, slice_index_or, take}
 use Rattle.std.specs.List.{AllByRecursion}
 use Rattle.span_query.specs.declared.query.SortKey.{SortKey}
 use Rattle.span_query.specs.Rows.{Row}
@@ -42,6 +42,11 @@ EndsBelow count code xs =
 abbrev pub coded_place : PlacedRow → CodedPlace
 coded_place x = record { first = x.coded.first; second = x.coded.second; place = x.place }
 
+-- the places of rows with their codes that lie one after another, the first at this place
+abbrev pub places_from : ℕ → List CodedRow → List CodedPlace
+places_from at [] = []
+places_from at (x ∷ xs) = record { first = x.first; second = x.second; place = at } ∷ places_from (at + 1) xs
+
 -- a place of a list, with the codes of the row there, which are exact if it is stated
 pub record IsCodedPlace (rows : List Row) (keys : List SortKey) (exact : Bool) (x : CodedPlace) : Type 0 where
   pub within : x.place < length rows
@@ -60,4 +65,4 @@ pub record ArePlacesBy (keys : List SortKey) (count : Option ℕ) (rows : List R
   pub sorted : rows_at rows (without_codes places) ≡ take_first count (sorted keys rows)
 
 abbrev pub IsOrderOf : List Row → RowOrder → Type 0
-IsOrderOf rows order = ArePlacesBy order.keys.items order.count rows order.found.are_exact order.found.places.items
+IsOrderOf rows order = ArePlacesBy order.keys.items None rows order.found.are_exact order.found.places.items

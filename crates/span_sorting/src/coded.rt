@@ -1,6 +1,7 @@
 //! Rows beside numbers that are in the order of their first two keys, by which most of them are compared.
 ghost use Rattle.std.specs.Prelude.{◌≡◌, ◌&&◌, ◌++◌, ◌∷◌, [], IfOk, List, OnOk};
 ghost use Rattle.span_query.specs.declared.query.SortKey.{SortKey};
+ghost use Rattle.span_query.specs.Sorting.{sorted};
 ghost use Rattle.span_sorting.specs.Codes.{HaveCodes, IsCoded, are_exact, code_order, coded_rows, first_code, IsFirstInRange, uncoded};
 ghost use Rattle.span_rows.specs.LentRows.{lent_rows};
 
@@ -39,6 +40,17 @@ impl<'a> CodedRows<'a> {
             rows: Vec::new(alloc),
             are_exact: true,
         }
+    }
+
+    /// No rows, with reserved capacity for a number of rows. The only error is out of memory.
+    pub(crate) fn with_capacity(alloc: Global, rows: usize) -> Result<CodedRows<'a>, AllocError>
+        ensures rows { IfOk result (λ coded. coded_rows coded ≡ []) }
+        ensures coded { IfOk result (λ coded. (keys : List SortKey) → HaveCodes keys coded) }
+    {
+        Ok(CodedRows {
+            rows: Vec::with_capacity(alloc, rows)?,
+            are_exact: true,
+        })
     }
 }
 
@@ -168,6 +180,26 @@ pub(crate) fn compare_coded(
     } else {
         compare_rows(keys, left.row, right.row)
     }
+}
+
+/// The rows in the order of the keys, by their codes. Rows with equal keys keep their order.
+pub(crate) fn sort_codes<'a>(
+    keys: &[SortKey],
+    rows: CodedRows<'a>,
+) -> Result<CodedRows<'a>, AllocError>
+    requires { HaveCodes keys.now rows }
+    ensures rows { IfOk result (λ ordered. coded_rows ordered ≡ sorted keys.now (coded_rows rows.entry)) }
+    ensures coded { IfOk result (HaveCodes keys.now) }
+{
+    let CodedRows {
+        rows: mut coded,
+        are_exact,
+    } = rows;
+    coded.sort_by(|left, right| compare_coded(keys, are_exact, left, right))?;
+    Ok(CodedRows {
+        rows: coded,
+        are_exact,
+    })
 }
 
 /// The rows without their codes.

@@ -6,6 +6,7 @@ pub mod coded;
 pub mod columns;
 mod first_places;
 mod first_rows;
+mod in_order;
 pub mod kept;
 mod placed;
 pub mod rows_with_order;

@@ -1,5 +1,6 @@
-//! Rows with their order by some keys, made where the rows are read, so that several threads can put their parts in order.
-ghost use Rattle.std.specs.Prelude.{◌≡◌, ◌<◌, ◌++◌, [], Bool, IfOk, IfSome, IsTrue, List, OnOk, length, slice_index_or, true};
+//! Rows that lie in the order of some keys, with their codes: they are put so where they are read, so that several threads can do it for
+//! their parts.
+ghost use Rattle.std.specs.Prelude.{◌≡◌, ◌<◌, ◌++◌, [], Bool, IfOk, IfSome, IsTrue, List, None, OnOk, length, slice_index_or};
 ghost use Rattle.std.specs.List.{All, AllByRecursion};
 ghost use Rattle.span_query.specs.declared.query.SortKey.{SortKey};
 ghost use Rattle.span_query.specs.Rows.{Row};
@@ -10,8 +11,8 @@ ghost use Rattle.span_sorting.specs.Orders.{take_first};
 ghost use Rattle.span_sorting.specs.PlacesInOrder.{ArePlacesBy, IsCodedPlace, without_codes};
 
 use super::coded::{CodedRow, CodedRows, add_rows};
-use super::first_places::first_places;
-use super::placed::{CodedPlace, CodedPlaces, order_places};
+use super::in_order::{OrderedRows, put_in_order};
+use super::placed::{CodedPlace, CodedPlaces};
 use span_query::query::SortKey;
 use span_rows::row_list::RowList;
 use std::alloc::{AllocError, Global};
@@ -21,47 +22,7 @@ use std::marker::Model;
 #[derive(Debug, Drop)]
 struct RowOrder {
     keys: Vec<SortKey>,
-    /// Of how many of the first rows there are the places. None where there are those of all.
-    count: Option<usize>,
     found: CodedPlaces,
-}
-
-/// The places of the rows of a list in the order of the keys: of the first `count`, where there is a count.
-fn find_places(
-    alloc: Global,
-    keys: &[SortKey],
-    count: Option<usize>,
-    rows: &RowList,
-) -> Result<CodedPlaces, AllocError>
-    ensures { IfOk result
-        (λ found. ArePlacesBy keys.now count rows.now found.are_exact found.places.items) }
-{
-    match count {
-        Some(count) => first_places(alloc, keys, rows, count),
-        None => order_places(alloc, keys, rows),
-    }
-}
-
-/// Whether the first `wanted` rows of a list are among its first `count`. No count is all rows.
-fn are_among(wanted: Option<usize>, count: Option<usize>) -> bool
-    ensures { result ≡ true
-        → (rows : List Row) → take_first wanted (take_first count rows) ≡ take_first wanted rows }
-{
-    match (wanted, count) {
-        (_, None) => true,
-        (Some(wanted), Some(count)) => wanted <= count,
-        (None, Some(_)) => false,
-    }
-}
-
-/// The first of some places, where a count of them is given; else all.
-fn take_first(count: Option<usize>, places: &[CodedPlace]) -> &[CodedPlace]
-    ensures { result.now ≡ take_first count places.now }
-{
-    match count {
-        Some(count) => &places[..places.len().min(count)],
-        None => places,
-    }
 }
 
 fn is_same_key(left: &SortKey, right: &SortKey) -> bool
@@ -112,21 +73,19 @@ impl RowsWithOrder {
         RowsWithOrder { rows, order: None }
     }
 
-    /// Rows with their order by the keys; where a count is given, with that of the first `count` alone. The only error is out of
-    /// memory.
-    pub fn with_order(
+    /// Rows put in the order of the keys, with this order; rows with equal keys keep theirs. The only error is out of memory.
+    pub fn in_order(
         alloc: Global,
         keys: &[SortKey],
-        count: Option<usize>,
         rows: RowList,
     ) -> Result<RowsWithOrder, AllocError>
-        ensures { IfOk result (λ ordered. ordered ≡ rows) }
+        ensures { IfOk result (λ ordered. ordered ≡ sorted keys.now rows) }
     {
-        let found = find_places(alloc, keys, count, &rows)?;
+        let OrderedRows { rows, found } = put_in_order(alloc, keys, &rows)?;
         let keys = keys.to_vec(alloc)?;
         Ok(RowsWithOrder {
             rows,
-            order: Some(RowOrder { keys, count, found }),
+            order: Some(RowOrder { keys, found }),
         })
     }
 
@@ -137,25 +96,22 @@ impl RowsWithOrder {
         &self.rows
     }
 
-    /// The places of the rows in the order of the keys, where they were found, and whether their codes are exact; where a count is
-    /// given, those of the first `count` alone.
-    fn places_by(&self, keys: &[SortKey], count: Option<usize>) -> Option<(&[CodedPlace], bool)>
-        ensures { IfSome result (λ found. ArePlacesBy keys.now count self.now found.1 found.0.now) }
+    /// The places of the rows in the order of the keys, where they were put in this order, and whether their codes are exact.
+    fn places_by(&self, keys: &[SortKey]) -> Option<(&[CodedPlace], bool)>
+        ensures { IfSome result (λ found. ArePlacesBy keys.now None self.now found.1 found.0.now) }
     {
         let Some(order) = &self.order else {
             return None;
         };
-        if are_same_keys(keys, order.keys.as_slice()) && are_among(count, order.count) {
-            let places = take_first(count, order.found.places.as_slice());
-            Some((places, order.found.are_exact))
+        if are_same_keys(keys, order.keys.as_slice()) {
+            Some((order.found.places.as_slice(), order.found.are_exact))
         } else {
             None
         }
     }
 
-    /// Lends the rows with their codes after others, in the order of the keys where it was made, so that sorting all has less to do: no
-    /// value of these is read. Where a count is given, the first `count` in this order are what is wanted of all, and the others are
-    /// not lent where these were found. The only error is out of memory.
+    /// Lends the rows with their codes after others. Where they were put in the order of the keys, no value of them is read. Where a count is
+    /// given, the first `count` in this order are what is wanted of all. The only error is out of memory.
     pub fn lend_in_order<'a>(
         &'a self,
         keys: &[SortKey],
@@ -168,7 +124,7 @@ impl RowsWithOrder {
             ≡ take_first count (sorted keys.now (coded_rows all.old ++ self.now))) }
         ensures coded { OnOk result (HaveCodes keys.now all.new) }
     {
-        match self.places_by(keys, count) {
+        match self.places_by(keys) {
             Some((places, are_exact)) => {
                 lend_sorted(keys, count, &self.rows, places, are_exact, all)
             }
@@ -221,7 +177,7 @@ fn lend_sorted<'a>(
     are_exact: bool,
     all: &mut CodedRows<'a>,
 ) -> Result<(), AllocError>
-    requires places { ArePlacesBy keys.now count rows.now are_exact places.now }
+    requires places { ArePlacesBy keys.now None rows.now are_exact places.now }
     requires coded { HaveCodes keys.now all.old }
     ensures rows { OnOk result
         (take_first count (sorted keys.now (coded_rows all.new))

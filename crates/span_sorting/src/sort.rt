@@ -13,7 +13,7 @@ ghost use Rattle.span_rows.specs.LentRows.{lent_rows};
 ghost use Rattle.span_sorting.specs.Codes.{HaveCodes, coded_rows};
 ghost use Rattle.span_sorting.specs.Orders.{IsSorted};
 
-use super::coded::{CodedRows, code_rows, compare_coded, uncode_rows};
+use super::coded::{CodedRows, code_rows, sort_codes, uncode_rows};
 use super::columns::copy_columns;
 use super::first_rows::first_rows;
 use span_expr::cell::Failure;
@@ -82,12 +82,8 @@ fn sort_coded<'a>(
     requires { HaveCodes keys.now rows }
     ensures { IfOk result (λ all. lent_rows all.items ≡ spec.sorted keys.now (coded_rows rows.entry)) }
 {
-    let CodedRows {
-        rows: mut coded,
-        are_exact,
-    } = rows;
-    coded.sort_by(|left, right| compare_coded(keys, are_exact, left, right))?;
-    let all = uncode_rows(alloc, coded.as_slice())?;
+    let ordered = sort_codes(keys, rows)?;
+    let all = uncode_rows(alloc, ordered.rows.as_slice())?;
     Ok(all)
 }
 

@@ -7,5 +7,5 @@ use Rattle.span_algebra.proofs.ordered.first_of_table.Goals as goal
 pub returns : goal.returns
 returns c = λ rows all enough.
     let query = c.args.query.now in
-    let is : IsColumnOrder (out-BoundQuery query) c.in-Some-2.order = search rules in
-    first_enough query c.args.place c.in-Some.count c.in-Some-2.order is (c.is_table_at.ensures c.if-not-is_table_at.false) c.in-Some.ensures rows all enough
+    let is : IsColumnOrder (out-BoundQuery query) c.in-Some.order = search rules in
+    first_enough query c.args.place c.few_rows.result c.in-Some.order is (c.is_table_at.ensures c.if-not-is_table_at.false) c.few_rows.ensures rows all (c.first_or_all.ensures rows all enough)

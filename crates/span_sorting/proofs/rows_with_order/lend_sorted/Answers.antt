@@ -8,9 +8,10 @@ use Rattle.span_sorting.specs.declared.placed.CodedPlace.{CodedPlace}
 use Rattle.span_sorting.specs.Codes.{IsCodedAs, uncoded}
 use Rattle.span_sorting.specs.Orders.{take_first}
 use Rattle.span_sorting.specs.PlacesInOrder.{without_codes}
-use Rattle.span_sorting.proofs.FirstOfParts.{first_again, first_of_parts}
+use Rattle.span_sorting.proofs.FirstOfParts.{first_of_parts}
 use Rattle.span_sorting.proofs.Placing.{all_within, coded_weaker, places_weaker}
 use Rattle.span_sorting.proofs.RowOrder.{rows_ranked}
+use Rattle.span_sorting.proofs.Sorting.{sorted_again}
 use Rattle.span_sorting.proofs.rows_with_order.lend_sorted.Goals as goal
 
 pub lend_places-requires : goal.lend_places-requires
@@ -24,7 +25,7 @@ returns-clause-rows c =
     let rows : List Row = c.args.rows.now in
     let lent : List Row = rows_at rows (without_codes c.args.places.now) in
     let same : take_first count (sorted keys lent) ≡ take_first count (sorted keys rows) =
-    ap (λ (l : List Row). take_first count (sorted keys l)) c.requires.places.sorted ∙ first_again (comes_before keys) (rows_ranked keys) count rows in
+    ap (λ (l : List Row). take_first count (sorted keys l)) c.requires.places.sorted ∙ ap (take_first count) (sorted_again (comes_before keys) (rows_ranked keys) rows) in
     ap (λ (l : List Row). take_first count (sorted keys l)) c.in_ok-lend_places.ensures.rows
     ∙ first_of_parts (comes_before keys) (rows_ranked keys) count old old lent rows refl same
 
