@@ -18,6 +18,7 @@ use span_query::query::SortKey;
 use span_rows::row_list::{RowList, lend_rows};
 use span_sorting::coded::CodedRows;
 use span_sorting::rows_with_order::RowsWithOrder;
+use span_value::owned::keep_with;
 use span_value::value::Value;
 use std::alloc::{AllocError, Global};
 use std::marker::Model;
@@ -77,11 +78,12 @@ impl PartRows {
     ) -> Result<PartRows, AllocError>
         ensures { IfOk result (λ ordered. sorted keys.now ordered ≡ sorted keys.now rows) }
     {
-        let (groups, rows) = rows.into_parts();
-        let ordered = RowsWithOrder::in_order(alloc, keys, rows)?;
+        let (groups, listed) = rows.into_parts();
+        let ordered = RowsWithOrder::in_order(alloc, keys, listed);
+        let (groups, rows) = keep_with(groups, ordered)?;
         Ok(PartRows {
             groups,
-            rows: ordered,
+            rows,
             firsts: None,
         })
     }

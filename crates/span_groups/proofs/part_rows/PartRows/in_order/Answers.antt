@@ -1,4 +1,4 @@
-use Rattle.std.proofs.Common.{◌≡◌, ◌∙◌, List, None, ap, refl}
+use Rattle.std.proofs.Common.{rules, ◌≡◌, ◌∙◌, ◌++◌, List, Option, None, ap, refl}
 use Rattle.span_query.specs.Rows.{Row}
 use Rattle.span_query.specs.Sorting.{comes_before, sorted}
 use Rattle.span_sorting.proofs.FirstOfParts.{first_of_parts}
@@ -10,9 +10,11 @@ use Rattle.span_groups.proofs.part_rows.PartRows.in_order.Goals as goal
 pub returns : goal.returns
 returns c =
     let keys = c.args.keys.now in
-    let front : List Row = grouped_rows c.into_parts-groups.result.0 in
-    let rows : List Row = c.into_parts-groups.result.1 in
-    let ordered : List Row = c.in_ok-ordered.ordered in
-    first_of_parts (comes_before keys) (rows_ranked keys) None front front ordered rows refl
-    (ap (sorted keys) c.in_ok-ordered.ensures ∙ sorted_again (comes_before keys) (rows_ranked keys) rows)
-    ∙ ap (sorted keys) c.into_parts-groups.ensures
+    let front : List Row = grouped_rows c.into_parts.result.0 in
+    let rows : List Row = c.into_parts.result.1 in
+    let ordered : List Row = c.in_ok-keep_with.rows in
+    let is : ordered ≡ sorted keys rows = search (rules, c.in_order.ensures, c.in_ok-keep_with.ensures) in
+    ap (λ (groups : Option (List Row)). sorted keys (grouped_rows groups ++ ordered)) c.in_ok-keep_with.ensures.0
+    ∙ first_of_parts (comes_before keys) (rows_ranked keys) None front front ordered rows refl
+    (ap (sorted keys) is ∙ sorted_again (comes_before keys) (rows_ranked keys) rows)
+    ∙ ap (sorted keys) c.into_parts.ensures
