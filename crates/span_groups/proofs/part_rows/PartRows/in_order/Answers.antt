@@ -10,11 +10,11 @@ use Rattle.span_groups.proofs.part_rows.PartRows.in_order.Goals as goal
 pub returns : goal.returns
 returns c =
     let keys = c.args.keys.now in
-    let front : List Row = grouped_rows c.into_parts.result.0 in
-    let rows : List Row = c.into_parts.result.1 in
-    let ordered : List Row = c.in_ok-keep_with.rows in
-    let is : ordered ≡ sorted keys rows = search (rules, c.in_order.ensures, c.in_ok-keep_with.ensures) in
-    ap (λ (groups : Option (List Row)). sorted keys (grouped_rows groups ++ ordered)) c.in_ok-keep_with.ensures.0
+    let front : List Row = grouped_rows c.into_parts-groups.result.0 in
+    let rows : List Row = c.into_parts-groups.result.1 in
+    let ordered : List Row = c.in_ok-groups.rows in
+    let is : ordered ≡ sorted keys rows = search (rules, c.in_order-ordered.ensures, c.in_ok-groups.ensures) in
+    ap (λ (groups : Option (List Row)). sorted keys (grouped_rows groups ++ ordered)) c.in_ok-groups.ensures.0
     ∙ first_of_parts (comes_before keys) (rows_ranked keys) None front front ordered rows refl
     (ap (sorted keys) is ∙ sorted_again (comes_before keys) (rows_ranked keys) rows)
-    ∙ ap (sorted keys) c.into_parts.ensures
+    ∙ ap (sorted keys) c.into_parts-groups.ensures
