@@ -1,7 +1,7 @@
 #!/usr/bin/env python3
 """Runs, by the proved program, the scripts that are too long for files: 10,000 keys that rise or fall, and 100,000 in no order. Every second key
 is removed, and all come again the other way round; the answers are those of a sorted list (computed.py). Groups of 21,500 rows, with all queries of
-grouped.py three times. Then transactions that are aborted, few and many, after which as much memory is taken; and many rows, of which a query
+grouped.py three times, and all rows of a large table in order. Then transactions that are aborted, few and many, after which as much memory is taken; and many rows, of which a query
 that groups them takes little memory beside that which they have, alone and joined with others.
 """
 import os
@@ -26,6 +26,8 @@ GROUPED_ROWS, ROWS_OF_A_TRANSACTION, MOST_KILOBYTES = 200_000, 1_000, 5_000
 SUMS = "SELECT COUNT(n), SUM(n), MIN(n), MAX(n) FROM T"
 GROUPS = "SELECT n, COUNT(*), SUM(k) FROM T GROUP BY n"
 OF_EXPRESSIONS = "SELECT n, COUNT(*), SUM(k * 2 - n) FROM T GROUP BY n"
+# By n and then by k, the first of which falls; and by k alone, all rows in reverse.
+ORDERED, REVERSED = "SELECT k, n FROM T ORDER BY n DESC, k", "SELECT n, k FROM T ORDER BY k DESC"
 # Rows of T below each row of P, where they are joined.
 ROWS_BELOW = 200
 JOINED_SUMS = "SELECT COUNT(*), SUM(n), MAX(n) FROM P JOIN T ON T.k = P.k"
@@ -95,6 +97,10 @@ def query_rows(query, rows):
     if query == SUMS:
         numbers = [n for _, n in rows]
         return [(len(numbers), sum(numbers), min(numbers), max(numbers))]
+    if query == ORDERED:
+        return sorted(rows, key=lambda row: (-row[1], row[0]))
+    if query == REVERSED:
+        return [(n, key) for key, n in reversed(rows)]
     groups = {}
     for key, n in rows:
         groups.setdefault(n, []).append(key if query == GROUPS else key * 2 - n)
@@ -138,6 +144,7 @@ def scripts():
     for name, count in COUNTS.items():
         yield f"{count} {name}", computed.many_keys(name, count)
     yield f"groups of {grouped.MANY_ROWS.count} rows", computed.grouped_rows(grouped.MANY_ROWS, *[grouped.queries(grouped.MANY_ROWS)] * 3)
+    yield f"{GROUPED_ROWS} rows in order", many_rows((ORDERED, REVERSED))
 
 
 def main():

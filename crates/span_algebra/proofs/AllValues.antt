@@ -31,7 +31,7 @@ same_row columns row order wide =
     (let inside : i < length columns = omega (arith, within, length-map columns (column_of row)) in
     get_or-map (column_of row) columns i 0 value.Null inside ∙ ap (column_of row) (order i inside) ∙ column_read row i))
 
-same_rows : (columns : List ℕ) (rows : List Row) → AreInOrder columns → list_all (has_width (length columns)) rows ≡ true
+pub same_rows : (columns : List ℕ) (rows : List Row) → AreInOrder columns → list_all (has_width (length columns)) rows ≡ true
     → map (columns_at columns) rows ≡ rows
 same_rows columns [] order wide = refl
 same_rows columns (row ∷ rows) order wide =

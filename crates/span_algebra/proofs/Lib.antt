@@ -5,3 +5,4 @@ pub mod InOrder
 pub mod AllValues
 pub mod SameMeaning
 pub mod Reduced
+pub mod TableOrders

@@ -1,10 +1,16 @@
 -- Queries whose rows are put in order before the columns of their select list are copied.
-use Rattle.std.specs.Prelude.{◌≡◌, ℕ, false, [], None}
+use Rattle.std.specs.Prelude.{◌≡◌, ◌==◌, ℕ, Bool, true, false, List, [], None, Some, length}
+use Rattle.std.specs.List.{list_all}
 use Rattle.span_query.specs.declared.query.Block.{Block}
+use Rattle.span_query.specs.declared.query.BoundQuery.{BoundQuery}
 use Rattle.span_query.specs.declared.query.BoundQuery.TheOpen.{BoundQuery-F}
 use Rattle.span_query.specs.declared.query.Item.TheVariants as item
+use Rattle.span_query.specs.Meaning.{meaning_over}
+use Rattle.span_query.specs.Rows.{Row, Rows}
+use Rattle.span_query.specs.Sorting.{sorted}
 use Rattle.span_sorting.specs.Columns.{AreColumns, AreKeysOver}
 use Rattle.span_algebra.specs.declared.ordered.ColumnOrder.{ColumnOrder}
+use Rattle.span_algebra.specs.declared.ordered.TableOrder.{TableOrder}
 
 -- the query is one SELECT, whose select list is taken at each row of its FROM
 pub record TakesAllRows {Q : Type 0} (q : BoundQuery-F Q) : Type 0 where
@@ -23,3 +29,13 @@ pub record IsColumnOrder {Q : Type 0} (q : BoundQuery-F Q) (order : ColumnOrder)
 pub record IsTable {Q : Type 0} (b : Block Q) (number : ℕ) : Type 0 where
   pub from : b.from ≡ item.Table number
   pub joins : b.joins ≡ []
+
+-- each row has a number of values
+abbrev pub have_width : ℕ → List Row → Bool
+have_width width rows = list_all (λ (row : Row). length row == width) rows
+
+-- the query means the rows of the first table in the order of the keys, where each of them has the width
+abbrev pub IsTableOrder : BoundQuery → TableOrder → Type 0
+IsTableOrder query order =
+    (tables : ℕ → Rows) (rows : List Row) → tables 1 ≡ Some rows → have_width order.width rows ≡ true
+    → meaning_over tables query ≡ Some (sorted order.keys.items rows)

@@ -100,7 +100,7 @@ fn are_all_values(alloc: Global, outputs: &[Expr], rows: &RowList) -> Result<boo
 }
 
 /// Whether each column of a list is its own place in the list.
-fn are_in_order(columns: &[usize]) -> bool
+pub(crate) fn are_in_order(columns: &[usize]) -> bool
     ensures { result ≡ true → (i : ℕ) → i < length columns.now → get_or columns.now i 0 ≡ i }
 {
     for at in 0..columns.len() {
@@ -112,7 +112,7 @@ fn are_in_order(columns: &[usize]) -> bool
 }
 
 /// Whether each row has a number of values.
-fn have_width(rows: &RowList, width: usize) -> bool
+pub fn have_width(rows: &RowList, width: usize) -> bool
     ensures { result ≡ list_all (λ row. length row == width) rows.now }
 {
     for at in 0..rows.len() {

@@ -1,7 +1,7 @@
 //! The plain meaning of queries over whole tables.
 #![tactic(auto)]
 
-mod block;
+pub mod block;
 pub mod distinct;
 pub mod ordered;
 pub mod plain;

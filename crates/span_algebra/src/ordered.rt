@@ -8,9 +8,10 @@ ghost use Rattle.span_query.specs.Sorting.{sorted};
 ghost use Rattle.span_sorting.specs.Codes.{HaveCodes, coded_rows};
 ghost use Rattle.span_sorting.specs.Orders.{take_first};
 ghost use Rattle.span_groups.specs.Reductions.{AreEnough};
-ghost use Rattle.span_algebra.specs.ColumnOrders.{IsColumnOrder, IsTable, TakesAllRows};
+ghost use Rattle.span_algebra.specs.ColumnOrders.{IsColumnOrder, IsTable, IsTableOrder, TakesAllRows};
 ghost use Rattle.span_algebra.specs.SameMeaning.{IsReductionFor};
 
+use super::block::are_in_order;
 use span_groups::reduction::Reduction;
 use span_query::query::{Block, BoundQuery, Item, Limit, SortKey};
 use span_rows::row_list::{RowList, lent_rows};
@@ -148,4 +149,31 @@ pub(crate) fn first_of_table(
     };
     let ColumnOrder { columns: _, keys } = order;
     Ok(Some(first_or_all(keys, few_rows(query.limit))))
+}
+
+/// The rows of a table in the order of some keys, where each has as many values as are said.
+#[derive(Drop)]
+pub struct TableOrder {
+    pub width: usize,
+    pub keys: Vec<SortKey>,
+}
+
+/// The order in which a query puts the rows of the first table, where it answers these rows as they are and nothing else. None where it is
+/// another query. The only error is out of memory.
+pub fn table_order(alloc: Global, query: &BoundQuery) -> Result<Option<TableOrder>, AllocError>
+    ensures { IfOk result (λ found. IfSome found (IsTableOrder query.now)) }
+{
+    if query.limit.is_some() || !is_table_at(&query.first, 0) {
+        return Ok(None);
+    }
+    let Some(ColumnOrder { columns, keys }) = column_order(alloc, query)? else {
+        return Ok(None);
+    };
+    if !are_in_order(columns.as_slice()) {
+        return Ok(None);
+    }
+    Ok(Some(TableOrder {
+        width: columns.len(),
+        keys,
+    }))
 }

@@ -15,7 +15,7 @@ use span_core::slot::SlotView;
 use span_core::{Refusal, Reply};
 use span_keycode::key::Key;
 use span_records::record_writer::rows_text;
-use span_rows::row_list::RowList;
+use span_sorting::answer_rows::AnswerRows;
 use std::alloc::Global;
 use std::marker::Model;
 
@@ -177,7 +177,7 @@ impl Answers {
             Reply::Opened { query, s, leaves } => self.opened_line(*query, *s, *leaves),
             Reply::Scanned => self.word_line("scanned"),
             Reply::Nothing => self.word_line("nothing"),
-            Reply::Rows { s, rows } => self.rows(alloc, *s, rows.as_list()),
+            Reply::Rows { s, rows } => self.rows(alloc, *s, rows.as_rows()),
             Reply::Closed => self.word_line("closed"),
             Reply::Split(slot) => self.number_line("split", *slot as u64),
             Reply::Refused(why) => self.refusal_line(*why),
@@ -197,7 +197,7 @@ impl Answers {
 
     /// How many rows there are, and each as a record of its cells.
     #[tactic(auto, using(crate::proofs::Begun::begins_on, crate::proofs::Begun::begins_either))]
-    fn rows(&mut self, alloc: Global, s: u64, rows: &RowList) -> Result<(), Refusal>
+    fn rows(&mut self, alloc: Global, s: u64, rows: &AnswerRows) -> Result<(), Refusal>
         ensures added { OnOk result (self.new ≡ self.old ++ rows_lines s rows.now) }
         ensures grows { Begins self.old self.new }
         ensures memory { IsOkUnless result Refusal.OutOfMemory }

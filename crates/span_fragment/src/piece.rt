@@ -19,6 +19,14 @@ impl Piece {
         Piece { rows }
     }
 
+    /// The rows, moved to where they are wanted, or none where there was an arithmetic error.
+    pub fn into_rows(self) -> Option<PartRows>
+        ensures { result ≡ self.rows }
+    {
+        let Piece { rows } = self;
+        rows
+    }
+
     /// The rows, or none where there was an arithmetic error.
     pub fn rows(&self) -> Option<&PartRows>
         ensures { option_copied result ≡ self.now.rows }

@@ -4,12 +4,15 @@ ghost use Rattle.std.specs.Option.{option_map};
 ghost use Rattle.span_groups.specs.Parts.{all_rows};
 ghost use Rattle.span_gather.specs.Gathered.{joined_pieces, gathered};
 
+use super::in_place::{places_of_rows, rows_in_place};
 use super::rows::Rows;
 use span_algebra::plain::eval_plain;
 use span_algebra::source::Tables;
 use span_fragment::piece::Piece;
 use span_groups::part_rows::PartRows;
 use span_query::query::BoundQuery;
+use span_sorting::answer_rows::AnswerRows;
+use span_value::owned::{give_after, keep_with};
 use span_value::refusal::Refusal;
 use span_value::seq::Seq;
 use std::alloc::{AllocError, Global};
@@ -67,7 +70,29 @@ pub fn finish(alloc: Global, top: &BoundQuery, leaves: &[Seq<Piece>]) -> Result<
 {
     let tables = tables_of(alloc, leaves)?;
     match eval_plain(alloc, top, &tables) {
-        Ok(rows) => Ok(Rows::new(rows)),
+        Ok(rows) => Ok(Rows::new(AnswerRows::of_list(rows))),
         Err(why) => Err(why),
+    }
+}
+
+/// The same, where the pieces are given away: rows that a query puts in order and answers as they are stay where they lie in the pieces, and are
+/// not copied.
+pub fn finish_taken(
+    alloc: Global,
+    top: &BoundQuery,
+    leaves: Seq<Seq<Piece>>,
+) -> Result<Rows, Refusal>
+    ensures { MatchResult result
+        (λ rows. gathered leaves top.now ≡ Some rows.rows)
+        (λ why. ((why ≡ Refusal.ArithmeticFault) × (gathered leaves top.now ≡ None))
+        ⊎ (why ≡ Refusal.OutOfMemory)) }
+{
+    let found = places_of_rows(alloc, top, leaves.as_slice());
+    match keep_with(leaves, found)? {
+        (leaves, Some(places)) => Ok(Rows::new(rows_in_place(alloc, leaves, places)?)),
+        (leaves, None) => {
+            let rows = finish(alloc, top, leaves.as_slice());
+            give_after(leaves, rows)
+        }
     }
 }

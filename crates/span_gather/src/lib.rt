@@ -4,4 +4,5 @@
 
 pub mod explain;
 pub mod finish;
+mod in_place;
 pub mod rows;

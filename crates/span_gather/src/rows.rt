@@ -1,17 +1,17 @@
 //! The rows of a query.
 ghost use Rattle.std.specs.Prelude.{◌≡◌, ◌==◌, ◌<◌, length, slice_index_or};
 
-use span_rows::row_list::RowList;
+use span_sorting::answer_rows::AnswerRows;
 use span_value::value::Value;
 
 /// The rows of a query, in order. Only `finish` makes them.
 #[derive(Debug, Drop, PartialEq, Eq)]
 pub struct Rows {
-    rows: RowList,
+    rows: AnswerRows,
 }
 
 impl Rows {
-    pub(crate) fn new(rows: RowList) -> Rows
+    pub(crate) fn new(rows: AnswerRows) -> Rows
         ensures { result.rows ≡ rows }
     {
         Rows { rows }
@@ -39,8 +39,8 @@ impl Rows {
         self.rows.row(at)
     }
 
-    /// The rows, in the list that they are in.
-    pub fn as_list(&self) -> &RowList
+    /// The rows, where they are.
+    pub fn as_rows(&self) -> &AnswerRows
         ensures { result.now ≡ self.now.rows }
     {
         &self.rows

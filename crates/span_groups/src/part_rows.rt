@@ -18,7 +18,7 @@ use span_query::query::SortKey;
 use span_rows::row_list::{RowList, lend_rows};
 use span_sorting::coded::CodedRows;
 use span_sorting::rows_with_order::RowsWithOrder;
-use span_value::owned::keep_with;
+use span_value::owned::{give_after, keep_with};
 use span_value::value::Value;
 use std::alloc::{AllocError, Global};
 use std::marker::Model;
@@ -57,6 +57,25 @@ fn first_places<'a>(firsts: &'a Option<FirstPlaces>, columns: &[usize]) -> Optio
     }
 }
 
+/// The most rows that are put in an order: of more the order alone is made. To copy rows in an order waits for memory where they are more than
+/// the processor's caches hold, and those who read them once copy them then.
+const MOST_MOVED: usize = 65_536;
+
+/// Rows of a list with their order by the keys. The only error is out of memory.
+fn order_list(
+    alloc: Global,
+    keys: &[SortKey],
+    rows: RowList,
+) -> Result<RowsWithOrder, AllocError>
+    ensures { IfOk result (λ ordered. sorted keys.now ordered ≡ sorted keys.now rows) }
+{
+    if rows.len() > MOST_MOVED {
+        RowsWithOrder::with_order(alloc, keys, rows)
+    } else {
+        RowsWithOrder::in_order(alloc, keys, rows)
+    }
+}
+
 impl PartRows {
     /// Rows without their order.
     pub fn new(rows: CollectedRows) -> PartRows
@@ -70,7 +89,8 @@ impl PartRows {
         }
     }
 
-    /// Rows of which those in a list are put in the order of the keys, with this order. The only error is out of memory.
+    /// Rows of which those in a list have their order by the keys; where they are few they are put in this order. The only error is out of
+    /// memory.
     pub fn in_order(
         alloc: Global,
         keys: &[SortKey],
@@ -79,7 +99,7 @@ impl PartRows {
         ensures { IfOk result (λ ordered. sorted keys.now ordered ≡ sorted keys.now rows) }
     {
         let (groups, listed) = rows.into_parts();
-        let ordered = RowsWithOrder::in_order(alloc, keys, listed);
+        let ordered = order_list(alloc, keys, listed);
         let (groups, rows) = keep_with(groups, ordered)?;
         Ok(PartRows {
             groups,
@@ -112,6 +132,32 @@ impl PartRows {
         match &self.groups {
             Some(_) => None,
             None => Some(self.rows.rows()),
+        }
+    }
+
+    /// The rows, with their order where it was made. None where some are there as groups alone.
+    pub fn listed(&self) -> Option<&RowsWithOrder>
+        ensures { IfSome result (λ rows. rows.now ≡ self.now) }
+    {
+        match &self.groups {
+            Some(_) => None,
+            None => Some(&self.rows),
+        }
+    }
+
+    /// The rows, moved to where they are wanted. None where some are there as groups alone.
+    pub fn into_list(self) -> Option<RowList>
+        ensures { IfSome result (λ rows. rows ≡ self) }
+    {
+        let PartRows {
+            groups,
+            rows,
+            firsts,
+        } = self;
+        let listed = give_after(firsts, rows.into_list());
+        match groups {
+            Some(_) => None,
+            None => Some(listed),
         }
     }
 

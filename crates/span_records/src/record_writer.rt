@@ -6,14 +6,14 @@ ghost use Rattle.span_records.specs.Record.{row_records};
 
 use csv::{StringRecord, WriterBuilder};
 use itoa::Buffer;
-use span_rows::row_list::RowList;
+use span_sorting::answer_rows::AnswerRows;
 use span_value::cell::cell_text;
 use span_value::refusal::Refusal;
 use span_value::value::Value;
 use std::alloc::Global;
 
 /// The rows, each as a record of its cells, as `csv` writes them. `OutOfMemory` is the only refusal.
-pub fn rows_text(alloc: Global, rows: &RowList) -> Result<Vec<u8>, Refusal>
+pub fn rows_text(alloc: Global, rows: &AnswerRows) -> Result<Vec<u8>, Refusal>
     ensures text { IfOk result (λ text. text.items ≡ row_records rows.now) }
     ensures memory { IsOkUnless result Refusal.OutOfMemory }
 {

@@ -21,7 +21,7 @@ use span_params::params::Params;
 use span_query::query::Statement;
 use span_truetime::bound::Bound;
 use span_truetime::interval::Interval;
-use span_value::owned::{give_after, keep_with};
+use span_value::owned::keep_with;
 use span_value::refusal::Refusal;
 use std::sync::Wait;
 
@@ -115,8 +115,7 @@ impl<J: Naming> Locks<J> {
     {
         match self.take(rt, me, opened.query) {
             Ok(taken) => {
-                let rows = rows_of(self.board.alloc, &taken, text, params, opened.s);
-                give_after(taken, rows)
+                rows_of(self.board.alloc, taken, text, params, opened.s)
             }
             Err(why) => Err(why),
         }

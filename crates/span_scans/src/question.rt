@@ -12,7 +12,7 @@ ghost use Rattle.span_locks.specs.Replies.{IsAmong};
 use span_binder::understand::understand;
 use span_board::same::are_same;
 use span_columns::leaf::{Leaf, Plan};
-use span_gather::finish::finish as finish_pieces;
+use span_gather::finish::finish_taken;
 use span_gather::rows::Rows;
 use span_openqueries::taken::Taken;
 use span_params::params::Params;
@@ -92,23 +92,21 @@ fn is_of(taken: &Taken, text: &str, params: &Params, s: u64) -> bool
 /// The rows that what was taken gives. `UnknownQuery` where something else was asked.
 pub(crate) fn rows_of(
     alloc: Global,
-    taken: &Taken,
+    taken: Taken,
     text: &str,
     params: &Params,
     s: u64,
 ) -> Result<Rows, Refusal>
-    ensures same { IfOk result
-        (λ _. (taken.now.text ≡ text.now) × (taken.now.params ≡ params.now) × (taken.now.s ≡ s)) }
-    ensures rows { IfOk result (λ rows. gathered taken.now.pieces taken.now.top ≡ Some rows.rows) }
+    ensures same { IfOk result (λ _. (taken.text ≡ text.now) × (taken.params ≡ params.now) × (taken.s ≡ s)) }
+    ensures rows { IfOk result (λ rows. gathered taken.pieces taken.top ≡ Some rows.rows) }
     ensures refused { IfErr result
-        (λ why. ((why ≡ Refusal.ArithmeticFault) × IsFaultOf taken.now text.now params.now s)
+        (λ why. ((why ≡ Refusal.ArithmeticFault) × IsFaultOf taken text.now params.now s)
         ⊎ IsAmong (Refusal.OutOfMemory ∷ Refusal.UnknownQuery ∷ []) why) }
 {
-    if !is_of(taken, text, params, s) {
+    if !is_of(&taken, text, params, s) {
         return Err(Refusal::UnknownQuery);
     }
-    match finish_pieces(alloc, &taken.top, taken.pieces.as_slice()) {
-        Ok(rows) => Ok(rows),
-        Err(why) => Err(why),
-    }
+    let Taken { top, pieces, .. } = taken;
+    let rows = finish_taken(alloc, &top, pieces);
+    give_after(top, rows)
 }

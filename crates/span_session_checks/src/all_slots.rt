@@ -13,7 +13,7 @@ use span_session_fixtures::clock::{OpenGate, SharedClock};
 use span_session_fixtures::expect::{expect, expect_eq};
 use span_session_fixtures::opening::{database_of, with_two_sessions};
 use span_session_fixtures::users::{
-    TABLES, UIDS, both, change, expect_uids, insert, insert_all, insert_into,
+    FALLING_UIDS, TABLES, UIDS, both, change, expect_uids, insert, insert_all, insert_into,
 };
 use span_value::owned::give_after;
 use span_value::refusal::Refusal;
@@ -31,6 +31,11 @@ const CUTS: [i64; 15] = [
 // A user in each of the sixteen slots.
 const ALL: [i64; 16] = [
     1, 101, 201, 301, 401, 501, 601, 701, 801, 901, 1001, 1101, 1201, 1301, 1401, 1501,
+];
+
+// The same from the last on.
+const FALLING: [i64; 16] = [
+    1501, 1401, 1301, 1201, 1101, 1001, 901, 801, 701, 601, 501, 401, 301, 201, 101, 1,
 ];
 
 /// One commit of a user in each of the sixteen slots; commits that are refused at their second slot, by each of the causes that rows and other
@@ -96,7 +101,9 @@ fn check_commit<J: Naming + Send + Sync, R: Threads + Wait + Sync>(
     )?;
     expect_eq(db.look(me), 1, "how many commits are seen")?;
     let found = ask(rt, alloc, db, clock, &OpenGate, me, UIDS, 8);
-    expect_uids(found, &ALL, "the users of all slots")
+    expect_uids(found, &ALL, "the users of all slots")?;
+    let found = ask(rt, alloc, db, clock, &OpenGate, me, FALLING_UIDS, 8);
+    expect_uids(found, &FALLING, "the users of all slots from the last on")
 }
 
 // A commit is refused at its second slot for each fault of a mutation.

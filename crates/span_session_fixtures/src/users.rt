@@ -26,6 +26,9 @@ CREATE TABLE Albums (uid INT64 NOT NULL, aid INT64 NOT NULL) PRIMARY KEY (uid, a
 /// A query of all users.
 pub const UIDS: &str = "SELECT uid FROM Users";
 
+/// A query of all users, from the last on.
+pub const FALLING_UIDS: &str = "SELECT uid FROM Users ORDER BY uid DESC";
+
 /// The schema of a text twice: a database takes one, and transactions are made by the other.
 pub fn two_schemas(alloc: Global, text: &str) -> Result<(Schema, Schema), Refusal>
     ensures { IfOk result (λ r. r.0 ≡ r.1) }

@@ -8,4 +8,5 @@ pub mod CodedRows
 pub mod TakenColumns
 pub mod Placing
 mod InTurn
+mod PartPlaces
 pub mod FirstOfParts

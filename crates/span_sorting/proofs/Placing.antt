@@ -1,7 +1,9 @@
 -- Rows of a list with their codes and their places, in order.
-use Rattle.std.proofs.Common.{◌≡◌, refl, sym, ap, subst, arith, ◌∙◌, ℕ, zero, suc, ◌+◌, ◌-◌, ◌<◌, drop, Bool, true, false, List, [], ◌∷◌, ◌++◌, Option, Some, None, length, map, get_or, take}
+use Rattle.std.proofs.Common.{◌≡◌, refl, sym, ap, subst, arith, ◌∙◌, ℕ, zero, suc, ◌+◌, ◌-◌, ◌<◌, drop, Bool, true, false, ◌&&◌, List, [], ◌∷◌, ◌++◌, Option, Some, None, length, map, get_or, take}
 use Rattle.std.specs.Cmp.{IsStrictWeakOrder}
 use Rattle.std.specs.List.{All, AllByRecursion}
+use Rattle.std.proofs.lemmas.Bool.{and_parts}
+use Rattle.std.proofs.lemmas.List.{map_push}
 use Rattle.std.proofs.lemmas.List.Elements.{All-from_recursion}
 use Rattle.std.proofs.lemmas.List.MinMax.{ranks_by}
 use Rattle.std.specs.Prelude.{slice_get}
@@ -12,19 +14,44 @@ use Rattle.span_query.specs.Sorting.{comes_before, insert_sorted, insertion_sort
 use Rattle.span_sorting.specs.declared.coded.CodedRow.{CodedRow}
 use Rattle.span_sorting.specs.declared.placed.CodedPlace.{CodedPlace}
 use Rattle.span_sorting.specs.declared.placed.PlacedRow.{PlacedRow}
-use Rattle.span_sorting.specs.Codes.{AreInRange, IsFirstInRange, IsCodedAs, are_exact, code_before, first_code, second_code, uncoded}
+use Rattle.span_sorting.specs.Codes.{AreInRange, IsFirstInRange, IsCoded, IsCodedAs, are_exact, code_before, first_code, second_code, uncoded}
 use Rattle.span_rows.specs.RowPlaces.{rows_at}
 use Rattle.span_sorting.specs.Orders.{IsSorted, take_first}
 use Rattle.span_sorting.specs.PlacesInOrder.{AreFirst, ArePlacesBy, EndsBelow, IsCodedPlace, IsPlaced, coded_place, placed_before, without_codes, without_places}
 use Rattle.span_sorting.proofs.FirstRows.{first_in_order, first_of_inserted, put_beyond}
 use Rattle.span_sorting.proofs.RowOrder.{rows_ranked}
-use Rattle.span_sorting.proofs.CodedRows.{code_total, first_decides_alone, first_in_range, uncoded_inserted}
-use Rattle.span_sorting.proofs.Sorting.{inserted_map}
+use Rattle.span_sorting.proofs.CodedRows.{code_total, first_decides_alone, first_in_range, uncoded_more, uncoded_inserted, uncoded_in_order}
+use Rattle.span_sorting.proofs.Sorting.{all_in_order, inserted_map, sorted_map}
 
 abbrev pub coded_places : List PlacedRow → List CodedPlace
 coded_places xs = map coded_place xs
 
+-- ---- the rows so far
+
+pub unplaced_more : (xs : List PlacedRow) (x : PlacedRow) → uncoded (without_places (xs ++ x ∷ [])) ≡ uncoded (without_places xs) ++ x.coded.row.now ∷ []
+unplaced_more xs x = ap uncoded (map_push (λ (y : PlacedRow). y.coded) xs x) ∙ uncoded_more (without_places xs) x.coded
+
 module _ (rows : List Row) (keys : List SortKey) where
+  pub placed_more : (exact both : Bool) (xs : List PlacedRow) (x : PlacedRow) → AllByRecursion (IsPlaced rows keys exact) xs
+      → IsCoded keys x.coded → x.coded.row.now ≡ get_or rows x.place [] → x.place < length rows → both ≡ (exact && are_exact keys x.coded.row.now)
+      → AllByRecursion (IsPlaced rows keys both) (xs ++ x ∷ [])
+  placed_more exact both [] x all coded row within is = (
+    record {
+      coded = record { coded = coded; ties = λ e. (and_parts exact (are_exact keys x.coded.row.now) (sym is ∙ e)).1 };
+      row = row;
+      within = within;
+    },
+    tt,
+  )
+  placed_more exact both (y ∷ xs) x all coded row within is = (
+    record {
+      coded = record { coded = all.0.coded.coded; ties = λ e. all.0.coded.ties (and_parts exact (are_exact keys x.coded.row.now) (sym is ∙ e)).0 };
+      row = all.0.row;
+      within = all.0.within;
+    },
+    placed_more exact both xs x all.1 coded row within is,
+  )
+
   -- ---- in order
 
   module _ (exact : Bool) where
@@ -58,6 +85,18 @@ module _ (rows : List Row) (keys : List SortKey) where
       coded = places_coded xs all;
       sorted = at_places xs all ∙ is;
     }
+
+    -- the places of rows in the order of their codes are in the order of the keys
+    pub places_in_order : (xs ys : List PlacedRow) → AllByRecursion (IsPlaced rows keys exact) xs → uncoded (without_places xs) ≡ rows
+        → ys ≡ insertion_sort (λ (x y : PlacedRow). code_before keys exact x.coded y.coded) xs → ArePlacesBy keys None rows exact (coded_places ys)
+    places_in_order xs ys all whole is =
+        let lt : PlacedRow → PlacedRow → Bool = λ x y. code_before keys exact x.coded y.coded in
+        let placed : AllByRecursion (IsPlaced rows keys exact) ys = subst (AllByRecursion (IsPlaced rows keys exact)) (sym is) (all_in_order lt (IsPlaced rows keys exact) xs all) in
+        are_places None ys placed
+        (ap (λ (l : List PlacedRow). uncoded (without_places l)) is
+        ∙ ap uncoded (sym (sorted_map (λ (x : PlacedRow). x.coded) (code_before keys exact) lt (λ x y. refl) xs))
+        ∙ uncoded_in_order keys exact (without_places xs) (all_coded xs all)
+        ∙ ap (sorted keys) whole)
 
   -- ---- one more among the first
 

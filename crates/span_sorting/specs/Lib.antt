@@ -1,4 +1,6 @@
 pub mod Orders
 pub mod Codes
 pub mod PlacesInOrder
+pub mod PartPlaces
+pub mod RowSources
 pub mod Columns

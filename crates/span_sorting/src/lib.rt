@@ -1,6 +1,7 @@
 //! Rows in the order of some keys: ORDER BY and LIMIT, and parts that are put in order by themselves.
 #![tactic(auto)]
 
+pub mod answer_rows;
 mod code;
 pub mod coded;
 pub mod columns;
@@ -8,6 +9,7 @@ mod first_places;
 mod first_rows;
 mod in_order;
 pub mod kept;
+pub mod parts;
 mod placed;
 pub mod rows_with_order;
 pub mod sort;

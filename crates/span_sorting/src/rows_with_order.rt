@@ -1,5 +1,5 @@
-//! Rows that lie in the order of some keys, with their codes: they are put so where they are read, so that several threads can do it for
-//! their parts.
+//! Rows with their order by some keys, and the codes of the keys: it is made where they are read, so that several threads can do it for their
+//! parts.
 ghost use Rattle.std.specs.Prelude.{◌≡◌, ◌<◌, ◌++◌, [], Bool, IfOk, IfSome, IsTrue, List, None, OnOk, length, slice_index_or};
 ghost use Rattle.std.specs.List.{All, AllByRecursion};
 ghost use Rattle.span_query.specs.declared.query.SortKey.{SortKey};
@@ -12,9 +12,10 @@ ghost use Rattle.span_sorting.specs.PlacesInOrder.{ArePlacesBy, IsCodedPlace, wi
 
 use super::coded::{CodedRow, CodedRows, add_rows};
 use super::in_order::{OrderedRows, put_in_order};
-use super::placed::{CodedPlace, CodedPlaces};
+use super::placed::{CodedPlace, CodedPlaces, order_places};
 use span_query::query::SortKey;
 use span_rows::row_list::RowList;
+use span_value::owned::give_after;
 use std::alloc::{AllocError, Global};
 use std::marker::Model;
 
@@ -73,6 +74,22 @@ impl RowsWithOrder {
         RowsWithOrder { rows, order: None }
     }
 
+    /// Rows that stay where they are, with their order by the keys. The only error is out of memory.
+    pub fn with_order(
+        alloc: Global,
+        keys: &[SortKey],
+        rows: RowList,
+    ) -> Result<RowsWithOrder, AllocError>
+        ensures { IfOk result (λ ordered. ordered ≡ rows) }
+    {
+        let found = order_places(alloc, keys, &rows)?;
+        let keys = keys.to_vec(alloc)?;
+        Ok(RowsWithOrder {
+            rows,
+            order: Some(RowOrder { keys, found }),
+        })
+    }
+
     /// Rows put in the order of the keys, with this order; rows with equal keys keep theirs. The only error is out of memory.
     pub fn in_order(
         alloc: Global,
@@ -96,8 +113,16 @@ impl RowsWithOrder {
         &self.rows
     }
 
-    /// The places of the rows in the order of the keys, where they were put in this order, and whether their codes are exact.
-    fn places_by(&self, keys: &[SortKey]) -> Option<(&[CodedPlace], bool)>
+    /// The rows, without their order.
+    pub fn into_list(self) -> RowList
+        ensures { result ≡ self }
+    {
+        let RowsWithOrder { rows, order } = self;
+        give_after(order, rows)
+    }
+
+    /// The places of the rows in the order of the keys, where this was made, and whether their codes are exact.
+    pub(crate) fn places_by(&self, keys: &[SortKey]) -> Option<(&[CodedPlace], bool)>
         ensures { IfSome result (λ found. ArePlacesBy keys.now None self.now found.1 found.0.now) }
     {
         let Some(order) = &self.order else {
@@ -110,7 +135,7 @@ impl RowsWithOrder {
         }
     }
 
-    /// Lends the rows with their codes after others. Where they were put in the order of the keys, no value of them is read. Where a count is
+    /// Lends the rows with their codes after others. Where their order by the keys was made, no value of them is read. Where a count is
     /// given, the first `count` in this order are what is wanted of all. The only error is out of memory.
     pub fn lend_in_order<'a>(
         &'a self,
@@ -134,7 +159,7 @@ impl RowsWithOrder {
 }
 
 /// The row at a place, with its codes.
-fn coded_row<'a>(rows: &'a RowList, place: &CodedPlace) -> CodedRow<'a>
+pub(crate) fn coded_row<'a>(rows: &'a RowList, place: &CodedPlace) -> CodedRow<'a>
     requires { place.now.place < length rows.now }
     ensures row { result.row.now ≡ slice_index_or rows.now place.now.place [] }
     ensures first { result.first ≡ place.now.first }
