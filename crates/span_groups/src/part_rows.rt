@@ -70,10 +70,10 @@ fn order_list(
     ensures { IfOk result (λ ordered. sorted keys.now ordered ≡ sorted keys.now rows) }
 {
     if rows.len() > MOST_MOVED {
-        RowsWithOrder::with_order(alloc, keys, rows)
-    } else {
-        RowsWithOrder::in_order(alloc, keys, rows)
+        return RowsWithOrder::with_order(alloc, keys, rows);
     }
+    let ordered = RowsWithOrder::in_order(alloc, keys, rows)?;
+    Ok(ordered)
 }
 
 impl PartRows {
