@@ -62,11 +62,7 @@ fn first_places<'a>(firsts: &'a Option<FirstPlaces>, columns: &[usize]) -> Optio
 const MOST_MOVED: usize = 65_536;
 
 /// Rows of a list with their order by the keys. The only error is out of memory.
-fn order_list(
-    alloc: Global,
-    keys: &[SortKey],
-    rows: RowList,
-) -> Result<RowsWithOrder, AllocError>
+fn order_list(alloc: Global, keys: &[SortKey], rows: RowList) -> Result<RowsWithOrder, AllocError>
     ensures { IfOk result (λ ordered. sorted keys.now ordered ≡ sorted keys.now rows) }
 {
     if rows.len() > MOST_MOVED {

@@ -114,9 +114,7 @@ impl<J: Naming> Locks<J> {
         ensures refused { IfErr result (IsUnfinished J.schema text.now params.now me.new.seen opened.s) }
     {
         match self.take(rt, me, opened.query) {
-            Ok(taken) => {
-                rows_of(self.board.alloc, taken, text, params, opened.s)
-            }
+            Ok(taken) => rows_of(self.board.alloc, taken, text, params, opened.s),
             Err(why) => Err(why),
         }
     }

@@ -127,13 +127,13 @@ pub fn order_parts(
 ) -> Result<Option<Vec<PartPlace>>, AllocError>
     ensures { IfOk result (λ found. IfSome found (λ places. AreInOrder keys.now (lists parts.now) places.items)) }
 {
-    let Some(RowsOfParts {
-        mut rows,
-        are_exact,
-    }) = rows_of_parts(alloc, keys, parts)?
-    else {
+    let Some(found) = rows_of_parts(alloc, keys, parts)? else {
         return Ok(None);
     };
+    let RowsOfParts {
+        mut rows,
+        are_exact,
+    } = found;
     rows.sort_by(|left, right| compare_part_rows(keys, are_exact, left, right))?;
     let places = places_of(alloc, rows.as_slice())?;
     Ok(Some(places))

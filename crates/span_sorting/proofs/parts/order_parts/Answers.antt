@@ -13,8 +13,8 @@ pub returns : goal.returns
 returns c =
     let keys = c.args.keys.now in
     let parts : List (List Row) = lists c.args.parts.now in
-    let exact = c.in-Some.field-0.are_exact in
-    let xs : List PartRow = c.in-Some.field-0.rows.items in
+    let exact = c.in-Some.found.are_exact in
+    let xs : List PartRow = c.in-Some.found.rows.items in
     let ys : List PartRow = c.sort_by.new.self.items in
     let placed : AllByRecursion (IsInPart parts keys exact) xs = search rules in
     let whole : sorted keys (uncoded (without_parts xs)) ≡ sorted keys (joined parts) = search rules in
