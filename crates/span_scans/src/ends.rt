@@ -21,7 +21,7 @@ use span_params::params::Params;
 use span_query::query::Statement;
 use span_truetime::bound::Bound;
 use span_truetime::interval::Interval;
-use span_value::owned::keep_with;
+use span_value::owned::{give_after, keep_with};
 use span_value::refusal::Refusal;
 use std::sync::Wait;
 
@@ -114,7 +114,10 @@ impl<J: Naming> Locks<J> {
         ensures refused { IfErr result (IsUnfinished J.schema text.now params.now me.new.seen opened.s) }
     {
         match self.take(rt, me, opened.query) {
-            Ok(taken) => rows_of(self.board.alloc, taken, text, params, opened.s),
+            Ok(mut taken) => {
+                let rows = rows_of(self.board.alloc, &mut taken, text, params, opened.s);
+                give_after(taken, rows)
+            }
             Err(why) => Err(why),
         }
     }

@@ -22,8 +22,10 @@ use span_schema::schema::Schema;
 use span_soundness::laws::can_be_planned;
 use span_value::owned::give_after;
 use span_value::refusal::Refusal;
+use span_value::seq::Seq;
 use span_value::text::Text;
 use std::alloc::{AllocError, Global};
+use std::mem;
 
 /// The plan of a statement that can be planned. The error is out of memory.
 #[tactic(auto, using(span_planner::proofs::SizedNumbers::sized_numbered))]
@@ -89,24 +91,26 @@ fn is_of(taken: &Taken, text: &str, params: &Params, s: u64) -> bool
         && taken.s == s
 }
 
-/// The rows that what was taken gives. `UnknownQuery` where something else was asked.
+/// The rows that what was taken gives, whose pieces are taken from it. `UnknownQuery` where something else was asked.
 pub(crate) fn rows_of(
     alloc: Global,
-    taken: Taken,
+    taken: &mut Taken,
     text: &str,
     params: &Params,
     s: u64,
 ) -> Result<Rows, Refusal>
-    ensures same { IfOk result (λ _. (taken.text ≡ text.now) × (taken.params ≡ params.now) × (taken.s ≡ s)) }
-    ensures rows { IfOk result (λ rows. gathered taken.pieces taken.top ≡ Some rows.rows) }
+    ensures same { IfOk result (λ _. (taken.old.text ≡ text.now) × (taken.old.params ≡ params.now) × (taken.old.s ≡ s)) }
+    ensures rows { IfOk result (λ rows. gathered taken.old.pieces taken.old.top ≡ Some rows.rows) }
     ensures refused { IfErr result
-        (λ why. ((why ≡ Refusal.ArithmeticFault) × IsFaultOf taken text.now params.now s)
+        (λ why. ((why ≡ Refusal.ArithmeticFault) × IsFaultOf taken.old text.now params.now s)
         ⊎ IsAmong (Refusal.OutOfMemory ∷ Refusal.UnknownQuery ∷ []) why) }
 {
-    if !is_of(&taken, text, params, s) {
+    if !is_of(taken, text, params, s) {
         return Err(Refusal::UnknownQuery);
     }
-    let Taken { top, pieces, .. } = taken;
-    let rows = finish_taken(alloc, &top, pieces);
-    give_after(top, rows)
+    let pieces = mem::replace(&mut taken.pieces, Seq::new(alloc));
+    match finish_taken(alloc, &taken.top, pieces) {
+        Ok(rows) => Ok(rows),
+        Err(why) => Err(why),
+    }
 }
