@@ -1,11 +1,10 @@
 -- What a query means stays the same where rows that are enough are in the place of others.
-use Rattle.std.proofs.Common.{◌≡◌, ◌∙◌, ℕ, suc, ◌+◌, List, [], ◌∷◌, ◌++◌, Option, Some, None, length, map, refl, sym, ap, subst}
+use Rattle.std.proofs.Common.{◌≡◌, ◌∙◌, ℕ, suc, List, [], ◌∷◌, ◌++◌, Option, Some, None, length, map, refl, sym, ap, subst}
 use Rattle.std.specs.Prelude.{IfSome}
 use Rattle.span_query.specs.declared.query.Block.{Block}
 use Rattle.span_query.specs.declared.query.BoundQuery.{BoundQuery}
 use Rattle.span_query.specs.declared.query.BoundQuery.TheOpen.{BoundQuery-F}
 use Rattle.span_query.specs.declared.query.BoundQuery.TheViews.{out-BoundQuery}
-use Rattle.span_query.specs.declared.query.Limit.{Limit}
 use Rattle.span_query.specs.Layers.{map_block}
 use Rattle.span_query.specs.Meaning.{block_rows, given, limit_rows, meaning_over}
 use Rattle.span_query.specs.Rows.{Row, Rows, ◌>>=◌, append_results, concat_map}

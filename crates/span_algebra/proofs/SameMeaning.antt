@@ -1,6 +1,5 @@
 -- Rows that a table may have in the place of others: part by part, and table by table.
 use Rattle.std.proofs.Common.{◌≡◌, ◌∙◌, ℕ, suc, ◌+◌, List, [], ◌∷◌, ◌++◌, Some, length, refl, sym, ap, subst, arith, append_assoc, length-append}
-use Rattle.std.proofs.lemmas.List.{append-nil}
 use Rattle.span_query.specs.declared.query.BoundQuery.{BoundQuery}
 use Rattle.span_query.specs.Rows.{Rows, append_results}
 use Rattle.span_query.specs.Meaning.{given, meaning_over}

@@ -1,6 +1,6 @@
 -- A query that answers the rows of a table as they are, in the order of some keys.
-use Rattle.std.proofs.Common.{◌≡◌, ◌∙◌, ℕ, ◌<◌, ◌==◌, ◌&&◌, Bool, true, List, [], ◌∷◌, None, Option, Some, map, length, get_or, refl, ap, sym}
-use Rattle.std.specs.List.{AllByRecursion, list_all}
+use Rattle.std.proofs.Common.{◌≡◌, ◌∙◌, ℕ, ◌<◌, ◌==◌, ◌&&◌, Bool, true, List, [], ◌∷◌, None, Option, Some, map, length, get_or, refl, ap}
+use Rattle.std.specs.List.{AllByRecursion}
 use Rattle.std.proofs.lemmas.Bool.{and_parts}
 use Rattle.span_query.specs.declared.query.BoundQuery.{BoundQuery}
 use Rattle.span_query.specs.declared.query.BoundQuery.TheOpen.{BoundQuery-F}

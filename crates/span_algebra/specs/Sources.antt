@@ -1,11 +1,14 @@
 -- The rows of an item of a FROM, lent or made.
-use Rattle.std.specs.Prelude.{◌≡◌, ℕ, List, [], Option, Result, Ok, Err, Some, None}
+use Rattle.std.specs.Prelude.{◌≡◌, ℕ, List, [], Option, Result, Ok, Err, Some, None, Vec}
+use Rattle.std.specs.declared.alloc.Global.{Global}
+use denote.Ref.{Bor}
 use Rattle.span_expr.specs.declared.cell.Failure.{Failure}
 use Rattle.span_expr.specs.declared.cell.Failure.TheVariants.{Fault, OutOfMemory}
 use Rattle.span_query.specs.declared.query.SortKey.{SortKey}
 use Rattle.span_query.specs.Rows.{Row, Rows}
 use Rattle.span_query.specs.Sorting.{sorted}
 use Rattle.span_rows.specs.Columns.{distinct_at}
+use Rattle.span_rows.specs.LentRows.{lent_rows}
 use Rattle.span_sorting.specs.Orders.{take_first}
 use Rattle.span_algebra.specs.declared.source.SourceRows.{SourceRows}
 use Rattle.span_algebra.specs.declared.source.SourceRows.TheVariants.{Lent, Made}
@@ -22,6 +25,12 @@ abbrev pub GivesRows : Result SourceRows Failure → Rows → Type 0
 GivesRows (Ok source) o = o ≡ Some (source_rows source)
 GivesRows (Err Fault) o = o ≡ None
 GivesRows (Err OutOfMemory) o = Unit {0}
+
+-- The same of rows that are lent.
+abbrev pub LendsRows : Result (Vec (Bor Row) Global) Failure → Rows → Type 0
+LendsRows (Ok rows) o = o ≡ Some (lent_rows rows.items)
+LendsRows (Err Fault) o = o ≡ None
+LendsRows (Err OutOfMemory) o = Unit {0}
 
 -- what a table gives: its rows, or the fault
 abbrev pub source_result : TableSource → Rows

@@ -11,13 +11,13 @@ ghost use Rattle.span_rows.specs.LentRows.{lent_rows};
 ghost use Rattle.span_sorting.specs.Codes.{HaveCodes, coded_rows};
 ghost use Rattle.span_sorting.specs.Orders.{take_first};
 ghost use Rattle.span_groups.specs.Parts.{all_rows};
-ghost use Rattle.span_algebra.specs.Sources.{GivesRows, HasSameValues, IsGivenBy, SortsAs, source_rows, source_result};
+ghost use Rattle.span_algebra.specs.Sources.{GivesRows, HasSameValues, IsGivenBy, SortsAs, source_rows, source_result, LendsRows};
 
 use span_expr::cell::Failure;
 use span_groups::part_rows::PartRows;
 use span_groups::parts::groups_of;
 use span_query::query::{Grouping, SortKey};
-use span_rows::row_list::RowList;
+use span_rows::row_list::{RowList, lend_rows};
 use span_sorting::coded::CodedRows;
 use span_value::value::Value;
 use std::alloc::{AllocError, Global};
@@ -101,6 +101,17 @@ impl<'a> Tables<'a> {
             None => Ok(SourceRows::Made(RowList::new(alloc))),
             Some(TableSource::Fault) => Err(Failure::Fault),
             Some(TableSource::Parts(parts)) => Ok(source_of(alloc, parts.as_slice())?),
+        }
+    }
+
+    /// The rows of the table with this number, each lent where it lies. `Fault` where the table is one, or out of memory.
+    pub(crate) fn lend_rows(&self, alloc: Global, number: usize) -> Result<Vec<&[Value]>, Failure>
+        ensures { LendsRows result (spec.given self.now number) }
+    {
+        match numbered_source(self.sources.as_slice(), number) {
+            None => Ok(Vec::new(alloc)),
+            Some(TableSource::Fault) => Err(Failure::Fault),
+            Some(TableSource::Parts(parts)) => Ok(lend_rows_of(alloc, parts.as_slice())?),
         }
     }
 
@@ -260,4 +271,15 @@ fn source_of<'a>(alloc: Global, parts: &[&'a PartRows]) -> Result<SourceRows<'a>
         [part] => Ok(SourceRows::Lent(rows_of_part(*part)?)),
         _ => Ok(SourceRows::Made(join_parts(alloc, parts)?)),
     }
+}
+
+/// The rows of parts, one after another, each lent.
+fn lend_rows_of<'a>(alloc: Global, parts: &[&'a PartRows]) -> Result<Vec<&'a [Value]>, AllocError>
+    ensures { IfOk result (λ rows. lent_rows rows.items ≡ all_rows parts.now) }
+{
+    let mut rows = Vec::new(alloc);
+    for part in parts {
+        lend_rows(rows_of_part(*part)?, &mut rows)?;
+    }
+    Ok(rows)
 }
