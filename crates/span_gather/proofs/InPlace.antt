@@ -1,5 +1,5 @@
 -- Rows that are answered where they lie in the pieces of a leaf.
-use Rattle.std.proofs.Common.{◌≡◌, ◌∙◌, ℕ, ◌+◌, ◌<◌, ◌==◌, ◌&&◌, Bool, true, List, [], ◌∷◌, ◌++◌, Some, map, length, drop, get_or, refl, ap, sym, subst}
+use Rattle.std.proofs.Common.{◌≡◌, ◌∙◌, ℕ, ◌==◌, ◌&&◌, Bool, true, List, [], ◌∷◌, ◌++◌, Some, map, length, get_or, refl, ap, sym, subst}
 use denote.Ref.{Bor}
 use Rattle.std.specs.List.{AllByRecursion}
 use Rattle.std.proofs.lemmas.Grind.{flat_map-append}
@@ -7,7 +7,7 @@ use Rattle.std.proofs.lemmas.List.{append-nil, map_push}
 use Rattle.std.proofs.lemmas.List.Folds.{list_all-append}
 use Rattle.span_query.specs.declared.query.BoundQuery.{BoundQuery}
 use Rattle.span_query.specs.Meaning.{given}
-use Rattle.span_query.specs.Rows.{Row, Rows}
+use Rattle.span_query.specs.Rows.{Row}
 use Rattle.span_query.specs.Sorting.{sorted}
 use Rattle.span_sorting.specs.declared.parts.PartPlace.{PartPlace}
 use Rattle.span_sorting.specs.PartPlaces.{AreInOrder, IsPlaceIn, joined, lists, rows_in}
@@ -35,6 +35,11 @@ wide_more width rows more wide next =
     ∙ next
 
 -- ---- the places
+
+pub one_item : {X : Type 0} (xs : List X) (x : X) → length xs ≡ 1 → x ≡ get_or xs 0 x → xs ≡ x ∷ []
+one_item [] x e is = cc
+one_item {X = X} (y ∷ []) x e is = ap (λ (z : X). z ∷ []) (sym is)
+one_item (y ∷ z ∷ xs) x e is = cc
 
 placed_in_leaf : (pieces : List Piece) (top : BoundQuery) (order : TableOrder) (lent : List (Bor (List Row))) (places : List PartPlace) → IsTableOrder top order
     → AreListsOf order.width pieces lent → AreInOrder order.keys.items (lists lent) places → ArePlacesOf (pieces ∷ []) top places

@@ -66,7 +66,10 @@ pub(crate) fn places_of_rows(
     let Some(lent) = lend_lists(alloc, order.width, pieces.as_slice())? else {
         return Ok(None);
     };
-    order_parts(alloc, order.keys.as_slice(), lent.as_slice())
+    match order_parts(alloc, order.keys.as_slice(), lent.as_slice())? {
+        Some(places) => Ok(Some(places)),
+        None => Ok(None),
+    }
 }
 
 /// The rows of a piece, moved; no rows where it is a fault. The error is that some are there as groups alone.

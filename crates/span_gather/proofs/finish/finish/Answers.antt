@@ -7,7 +7,7 @@ use Rattle.span_gather.proofs.finish.finish.Goals as goal
 pub returns-in-Ok : goal.returns-in-Ok
 returns-in-Ok c =
     ap (λ (tables : List Rows). meaning_over (given tables) c.args.top.now) (sym c.in_ok-tables.ensures) ∙ c.in-Ok.ensures
-    ∙ ap (λ (rows : List Row). Some rows) (sym c.new.ensures)
+    ∙ ap (λ (rows : List Row). Some rows) (sym (c.new.ensures ∙ c.of_list.ensures))
 
 pub returns : goal.returns
 returns c =

@@ -32,12 +32,12 @@ loop-piece-preserved c =
     one_more (joined_pieces pieces) (joined_pieces (drop i pieces)) x.rows rest (joined (lists lent)) r.now c.loop-piece.invariant.rows (gathered_at (λ (p : Piece). p.rows) pieces i x within is) own in
     let more = ap (λ (l : List (Bor (List Row))). joined (lists l)) items ∙ joined_more lent r in
     record {
-      lists = ap (λ (l : List (Bor (List Row))). lists l ++ lists_of left) items
+      each = ap (λ (l : List (Bor (List Row))). lists l ++ lists_of left) items
           ∙ ap (λ (l : List (List Row)). l ++ lists_of left) (lists_more lent r)
           ∙ append_assoc (lists lent) (r.now ∷ []) (lists_of left)
           ∙ ap (λ (l : List Row). lists lent ++ l ∷ lists_of left) (sym list)
           ∙ sym (ap (λ (ps : List Piece). lists lent ++ lists_of ps) (drop_read pieces i x within is))
-          ∙ c.loop-piece.invariant.lists;
+          ∙ c.loop-piece.invariant.each;
       rows = so_far ∙ ap (λ (l : List Row). append_results (Some l) rest) (sym more);
       wide = subst (λ (l : List Row). have_width width l ≡ true) (sym more) (wide_more width (joined (lists lent)) r.now c.loop-piece.invariant.wide wide);
     }
@@ -49,7 +49,7 @@ returns c =
     let lent = c.loop-piece.lent.items in
     let past : length pieces ≤ i = search rules in
     let all : lists lent ≡ lists_of pieces =
-    sym (append-nil (lists lent)) ∙ sym (ap (λ (ps : List Piece). lists lent ++ lists_of ps) (drop_all i pieces past)) ∙ c.loop-piece.invariant.lists in
+    sym (append-nil (lists lent)) ∙ sym (ap (λ (ps : List Piece). lists lent ++ lists_of ps) (drop_all i pieces past)) ∙ c.loop-piece.invariant.each in
     record {
       lists = all;
       rows = c.loop-piece.invariant.rows

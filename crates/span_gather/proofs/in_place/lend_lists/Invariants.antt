@@ -9,7 +9,7 @@ use Rattle.span_gather.proofs.in_place.lend_lists.Given as goal
 -- the rows of the pieces so far, and those of the others
 abbrev pub invariant-loop-piece : goal.invariant-loop-piece
 invariant-loop-piece l = record {
-  lists : lists l.lent.items ++ lists_of (drop l.piece-index l.pieces) ≡ lists_of l.pieces;
+  each : lists l.lent.items ++ lists_of (drop l.piece-index l.pieces) ≡ lists_of l.pieces;
   rows : joined_pieces l.pieces ≡ append_results (Some (joined (lists l.lent.items))) (joined_pieces (drop l.piece-index l.pieces));
   wide : have_width l.width (joined (lists l.lent.items)) ≡ true;
 }
