@@ -174,7 +174,7 @@ module _ (keys : List SortKey) where
       ∙ ap (λ (n : ℕ). or_next (nat_cmp (first_code keys x.row.now) (first_code keys y.row.now)) (or_next (nat_cmp (second_code keys x.row.now) n) o)) g.second
 
   -- of rows with their codes, the order by the codes is that of the rows
-  order_agrees : (exact : Bool) (x y : CodedRow) → IsCodedAs keys exact x → IsCodedAs keys exact y → code_order keys exact x y ≡ row_order keys x.row.now y.row.now
+  pub order_agrees : (exact : Bool) (x y : CodedRow) → IsCodedAs keys exact x → IsCodedAs keys exact y → code_order keys exact x y ≡ row_order keys x.row.now y.row.now
   order_agrees false x y f g =
       with_codes x y f.coded g.coded (row_order keys x.row.now y.row.now)
       ∙ codes_agree keys x.row.now y.row.now f.coded.range g.coded.range

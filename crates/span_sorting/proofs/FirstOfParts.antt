@@ -11,11 +11,11 @@ use Rattle.span_sorting.proofs.Sorting.{all_placed, is_in_order, is_the_order, n
 
 module _ {A : Type 0} (lt : A → A → Bool) where
   -- a list into which items are put one by one, from the last on
-  abbrev put_all : List A → List A → List A
+  abbrev pub put_all : List A → List A → List A
   put_all [] zs = zs
   put_all (x ∷ xs) zs = insert_sorted lt x (put_all xs zs)
 
-  sorted_after : (xs ys : List A) → insertion_sort lt (xs ++ ys) ≡ put_all xs (insertion_sort lt ys)
+  pub sorted_after : (xs ys : List A) → insertion_sort lt (xs ++ ys) ≡ put_all xs (insertion_sort lt ys)
   sorted_after [] ys = refl
   sorted_after (x ∷ xs) ys = ap (insert_sorted lt x) (sorted_after xs ys)
 
@@ -29,7 +29,7 @@ module _ {A : Type 0} (lt : A → A → Bool) where
       ∙ first_of_inserted lt n x (insertion_sort lt (xs ++ vs))
 
   -- an item that none of a list comes before is put in front of it
-  put_first : (x : A) (ys : List A) → AllByRecursion (λ y. lt y x ≡ false) ys → insert_sorted lt x ys ≡ x ∷ ys
+  pub put_first : (x : A) (ys : List A) → AllByRecursion (λ y. lt y x ≡ false) ys → insert_sorted lt x ys ≡ x ∷ ys
   put_first x [] all = refl
   put_first x (y ∷ ys) all = ap (λ (b : Bool). cond b (y ∷ insert_sorted lt x ys) (x ∷ y ∷ ys)) all.0
 
@@ -38,14 +38,14 @@ module _ {A : Type 0} (lt : A → A → Bool) where
   all_put P (x ∷ xs) zs a b = all_placed lt P x (put_all xs zs) a.0 (all_put P xs zs a.1 b)
 
   -- an item that comes before all that are put stays in front
-  stays_first : (z : A) (xs zs : List A) → AllByRecursion (λ x. lt z x ≡ true) xs → put_all xs (z ∷ zs) ≡ z ∷ put_all xs zs
+  pub stays_first : (z : A) (xs zs : List A) → AllByRecursion (λ x. lt z x ≡ true) xs → put_all xs (z ∷ zs) ≡ z ∷ put_all xs zs
   stays_first z [] zs all = refl
   stays_first z (x ∷ xs) zs all =
       ap (insert_sorted lt x) (stays_first z xs zs all.1)
       ∙ ap (λ (b : Bool). cond b (z ∷ insert_sorted lt x (put_all xs zs)) (x ∷ z ∷ put_all xs zs)) all.0
 
   module _ (o : IsStrictWeakOrder lt) where
-    before_all : (z w : A) (ws : List A) → lt z w ≡ true → AllByRecursion (λ v. lt v w ≡ false) ws → AllByRecursion (λ v. lt z v ≡ true) ws
+    pub before_all : (z w : A) (ws : List A) → lt z w ≡ true → AllByRecursion (λ v. lt v w ≡ false) ws → AllByRecursion (λ v. lt z v ≡ true) ws
     before_all z w [] e all = tt
     before_all z w (v ∷ ws) e all = (true_from_ne_false (lt z v) (λ h. true≢false (sym e ∙ o.chain z v w h all.0)), before_all z w ws e all.1)
 

@@ -10,3 +10,5 @@ pub mod Placing
 mod InTurn
 mod PartPlaces
 pub mod FirstOfParts
+mod Merging
+mod PartRests

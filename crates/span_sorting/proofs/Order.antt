@@ -6,7 +6,7 @@ use Rattle.std.specs.Cmp.{IsStrictWeakOrder}
 use Rattle.span_sorting.specs.Orders.{IsSorted}
 
 module _ {A : Type 0} (lt : A → A → Bool) (o : IsStrictWeakOrder lt) where
-  irreflexive : (x : A) → lt x x ≡ false
+  pub irreflexive : (x : A) → lt x x ≡ false
   irreflexive x = elim (lt x x) as (λ b. lt x x ≡ b → b ≡ false) [ true ↦ λ e. sym e ∙ o.one_way x x e | false ↦ λ e. refl ] refl
 
   ties_itself : (x : A) → ties lt x x ≡ true

@@ -2,5 +2,6 @@ pub mod Orders
 pub mod Codes
 pub mod PlacesInOrder
 pub mod PartPlaces
+pub mod PartRests
 pub mod RowSources
 pub mod Columns

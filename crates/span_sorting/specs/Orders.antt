@@ -1,5 +1,5 @@
 -- Lists in order.
-use Rattle.std.specs.Prelude.{◌≡◌, ℕ, Bool, false, List, [], ◌∷◌, ◌++◌, Option, Some, None, drop, take}
+use Rattle.std.specs.Prelude.{◌≡◌, ℕ, ◌<◌, Bool, true, false, List, [], ◌∷◌, ◌++◌, Option, Some, None, drop, take}
 use Rattle.std.specs.List.{AllByRecursion}
 use Rattle.span_query.specs.Sorting.{insert_sorted}
 
@@ -16,3 +16,15 @@ take_first (Some count) xs = take count xs
 -- an item that is put among others in their order goes before the one at this place
 abbrev pub GoesBefore : {A : Type 0} → (A → A → Bool) → A → List A → ℕ → Type 0
 GoesBefore before x xs at = insert_sorted before x xs ≡ take at xs ++ x ∷ drop at xs
+
+-- whether an item is there and comes before another one, if there is such a one
+abbrev pub is_first : {A : Type 0} → (A → A → Bool) → Option A → Option A → Bool
+is_first before None y = false
+is_first before (Some x) None = true
+is_first before (Some x) (Some y) = before x y
+
+-- none of the first `count` items comes before this one, and it comes before those that precede it
+pub record IsLeast {A : Type 0} (before : A → A → Bool) (items : ℕ → A) (count least : ℕ) : Type 0 where
+  pub within : least < count
+  pub none : (i : ℕ) → i < count → before (items i) (items least) ≡ false
+  pub first : (i : ℕ) → i < least → before (items least) (items i) ≡ true

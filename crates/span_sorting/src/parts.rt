@@ -1,20 +1,16 @@
-//! The rows of several lists in the order of some keys, each where it lies.
-ghost use Rattle.std.specs.Prelude.{◌≡◌, ◌<◌, ◌++◌, ◌&&◌, [], Bool, IfOk, IfSome, List, OnOk, length, map, slice_index_or};
-ghost use Rattle.std.specs.List.{All, AllByRecursion};
-ghost use Rattle.span_query.specs.declared.query.SortKey.{SortKey};
-ghost use Rattle.span_query.specs.Rows.{Row};
-ghost use Rattle.span_rows.specs.RowPlaces.{rows_at};
-ghost use Rattle.span_sorting.specs.Codes.{IsCodedAs, code_order, uncoded};
-ghost use Rattle.span_sorting.specs.PartPlaces.{AreInOrder, AreRowsOf, ArePutIn, lists, without_parts};
-ghost use Rattle.span_sorting.specs.PlacesInOrder.{ArePlacesBy, without_codes};
+//! The places of the rows of several lists in the order of some keys: lists that are in order are merged.
+ghost use Rattle.std.specs.Prelude.{◌≡◌, ◌<◌, [], IfNone, IfOk, IfSome, length};
+ghost use Rattle.std.specs.List.{AllByRecursion};
+ghost use Rattle.span_sorting.specs.Orders.{IsLeast};
+ghost use Rattle.span_sorting.specs.PartPlaces.{AreInOrder, joined, lists};
+ghost use Rattle.span_sorting.specs.PartRests.{AreRestsOf, IsFirstTaken, IsNextOf, IsRest, front, front_at, row_before, rows_of_rests};
 
-use super::coded::{CodedRow, compare_coded};
+use super::coded::compare_coded;
 use super::placed::CodedPlace;
 use super::rows_with_order::{RowsWithOrder, coded_row};
 use span_query::query::SortKey;
 use span_rows::row_list::RowList;
 use std::alloc::{AllocError, Global};
-use std::cmp::Ordering;
 
 /// A place in one of several lists of rows.
 #[derive(Clone, Copy, Debug)]
@@ -25,44 +21,21 @@ pub struct PartPlace {
     pub place: usize,
 }
 
-/// A row of one of several lists, with its codes, and where it lies.
+/// What is left of the rows of a list in their order, while they are taken one by one.
 #[derive(Drop)]
-pub(crate) struct PartRow<'a> {
-    pub(crate) coded: CodedRow<'a>,
-    pub(crate) at: PartPlace,
+pub(crate) struct PartRest<'a> {
+    /// All rows of the list.
+    pub(crate) rows: &'a RowList,
+    /// The places of the rows that are left.
+    pub(crate) places: &'a [CodedPlace],
 }
 
-/// Rows of several lists, with their codes, and where they lie.
+/// What is left of several lists, in the order of the lists.
 #[derive(Drop)]
-pub(crate) struct RowsOfParts<'a> {
-    pub(crate) rows: Vec<PartRow<'a>>,
+pub(crate) struct PartRests<'a> {
+    pub(crate) rests: Vec<PartRest<'a>>,
     /// Whether rows that have the same codes are equal by the keys.
     pub(crate) are_exact: bool,
-}
-
-/// Adds the rows at some places of the list with the number `part`, with their codes.
-fn add_places<'a>(
-    rows: &'a RowList,
-    part: usize,
-    places: &[CodedPlace],
-    all: &mut Vec<PartRow<'a>>,
-) -> Result<(), AllocError>
-    requires { All (λ x. x.place < length rows.now) places.now }
-    ensures rows { OnOk result
-        (uncoded (without_parts all.new.items)
-        ≡ uncoded (without_parts all.old.items) ++ rows_at rows.now (without_codes places.now)) }
-    ensures placed { OnOk result (ArePutIn rows.now part places.now all.old.items all.new.items) }
-{
-    for place in places {
-        all.push(PartRow {
-            coded: coded_row(rows, place),
-            at: PartPlace {
-                part,
-                place: place.place,
-            },
-        })?;
-    }
-    Ok(())
 }
 
 /// How many rows there are in lists.
@@ -74,48 +47,95 @@ fn count_rows(parts: &[&RowsWithOrder]) -> usize {
     count
 }
 
-/// The rows of lists, those of each in its order by the keys. None where the order of one was not made.
-fn rows_of_parts<'a>(
+/// All rows of each list, in its order by the keys. None where the order of one was not made.
+fn rests_of<'a>(
     alloc: Global,
     keys: &[SortKey],
     parts: &[&'a RowsWithOrder],
-) -> Result<Option<RowsOfParts<'a>>, AllocError>
-    ensures { IfOk result (λ found. IfSome found (AreRowsOf keys.now (lists parts.now))) }
+) -> Result<Option<PartRests<'a>>, AllocError>
+    ensures { IfOk result (λ found. IfSome found (AreRestsOf keys.now (lists parts.now))) }
 {
-    let mut rows = Vec::with_capacity(alloc, count_rows(parts))?;
+    let mut rests = Vec::with_capacity(alloc, parts.len())?;
     let mut are_exact = true;
-    for at in 0..parts.len() {
-        let part = parts[at];
+    for part in parts {
         let Some((places, is_exact)) = part.places_by(keys) else {
             return Ok(None);
         };
-        add_places(part.rows(), at, places, &mut rows)?;
+        rests.push(PartRest {
+            rows: part.rows(),
+            places,
+        })?;
         are_exact = are_exact && is_exact;
     }
-    Ok(Some(RowsOfParts { rows, are_exact }))
+    Ok(Some(PartRests { rests, are_exact }))
 }
 
-/// The order of two rows by their codes; where these are the same, and not exact, by the keys.
-fn compare_part_rows(
+/// Whether the first row that is left of a list comes before that of another one. Most differ in their codes at the first key, and are not
+/// looked up.
+fn is_before(
     keys: &[SortKey],
     are_exact: bool,
-    left: &PartRow<'_>,
-    right: &PartRow<'_>,
-) -> Ordering
-    ensures { result ≡ code_order keys.now are_exact left.now.coded right.now.coded }
+    left: &PartRest<'_>,
+    right: &PartRest<'_>,
+) -> bool
+    requires left { IsRest keys.now are_exact left.now }
+    requires right { IsRest keys.now are_exact right.now }
+    ensures { result ≡ row_before keys.now (front left.now) (front right.now) }
 {
-    compare_coded(keys, are_exact, &left.coded, &right.coded)
+    let Some(first) = left.places.first() else {
+        return false;
+    };
+    let Some(other) = right.places.first() else {
+        return true;
+    };
+    if first.first != other.first {
+        return first.first < other.first;
+    }
+    let row = coded_row(left.rows, first);
+    compare_coded(keys, are_exact, &row, &coded_row(right.rows, other)).is_lt()
 }
 
-/// Where rows lie.
-fn places_of(alloc: Global, rows: &[PartRow<'_>]) -> Result<Vec<PartPlace>, AllocError>
-    ensures { IfOk result (λ places. places.items ≡ map (λ x. x.at) rows.now) }
+/// Of which list the first row that is left comes before those of the others; of equal ones it is the first list.
+fn least_rest(keys: &[SortKey], are_exact: bool, rests: &[PartRest<'_>]) -> usize
+    requires some { 0 < length rests.now }
+    requires rests { AllByRecursion (IsRest keys.now are_exact) rests.now }
+    ensures { IsLeast (row_before keys.now) (front_at (rows_of_rests rests.now)) (length rests.now) result }
 {
-    let mut places = Vec::with_capacity(alloc, rows.len())?;
-    for row in rows {
-        places.push(row.at)?;
+    let mut least = 0;
+    for at in 1..rests.len() {
+        if is_before(keys, are_exact, &rests[at], &rests[least]) {
+            least = at;
+        }
     }
-    Ok(places)
+    least
+}
+
+/// Takes the first row that is left of a list, and returns its place.
+fn take_first(rest: &mut PartRest<'_>) -> Option<usize>
+    ensures some { IfSome result (λ place. IsFirstTaken rest.old rest.new place) }
+    ensures none { IfNone result (rest.old.places.now ≡ []) }
+{
+    let (first, others) = rest.places.split_first()?;
+    rest.places = others;
+    Some(first.place)
+}
+
+/// Takes the first row in the order of the keys that is left of several lists, and returns its place.
+fn take_least(
+    keys: &[SortKey],
+    are_exact: bool,
+    rests: &mut Vec<PartRest<'_>>,
+) -> Option<PartPlace>
+    requires { AllByRecursion (IsRest keys.now are_exact) rests.old.items }
+    ensures some { IfSome result (IsNextOf keys.now are_exact rests.old.items rests.new.items) }
+    ensures none { IfNone result (joined (rows_of_rests rests.old.items) ≡ []) }
+{
+    if rests.is_empty() {
+        return None;
+    }
+    let part = least_rest(keys, are_exact, rests.as_slice());
+    let place = take_first(&mut rests[part])?;
+    Some(PartPlace { part, place })
 }
 
 /// Where the rows of lists lie, in the order of the keys; rows with equal keys follow in the order of the lists, and in a list keep theirs. No
@@ -127,14 +147,16 @@ pub fn order_parts(
 ) -> Result<Option<Vec<PartPlace>>, AllocError>
     ensures { IfOk result (λ found. IfSome found (λ places. AreInOrder keys.now (lists parts.now) places.items)) }
 {
-    let Some(found) = rows_of_parts(alloc, keys, parts)? else {
+    let Some(found) = rests_of(alloc, keys, parts)? else {
         return Ok(None);
     };
-    let RowsOfParts {
-        mut rows,
+    let PartRests {
+        mut rests,
         are_exact,
     } = found;
-    rows.sort_by(|left, right| compare_part_rows(keys, are_exact, left, right))?;
-    let places = places_of(alloc, rows.as_slice())?;
+    let mut places = Vec::with_capacity(alloc, count_rows(parts))?;
+    while let Some(at) = take_least(keys, are_exact, &mut rests) {
+        places.push(at)?;
+    }
     Ok(Some(places))
 }
