@@ -11,4 +11,5 @@ mod InTurn
 mod PartPlaces
 pub mod FirstOfParts
 mod Merging
+mod ItemOrders
 mod PartRests

@@ -1,28 +1,30 @@
 -- What is left of lists that are in order, while their rows are taken one by one.
-use Rattle.std.proofs.Common.{◌≡◌, ◌≢◌, refl, sym, ap, subst, arith, ◌∙◌, ℕ, zero, suc, ◌<◌, Bool, true, false, List, [], ◌∷◌, ◌++◌, None, Some, length, get_or, set}
+use Rattle.std.proofs.Common.{◌≡◌, ◌≢◌, refl, sym, ap, subst, arith, ◌∙◌, ℕ, zero, suc, ◌<◌, Bool, true, false, cond, List, [], ◌∷◌, ◌++◌, None, Some, length, get_or, set}
 use denote.Ref.{Bor}
 use Rattle.std.specs.Prelude.{nat_lt, slice_get}
 use Rattle.std.specs.Cmp.{IsStrictWeakOrder}
 use Rattle.std.specs.List.{AllByRecursion}
-use Rattle.std.specs.Ordering.{is_lt}
+use Rattle.std.specs.declared.cmp.Ordering.{Ordering}
+use Rattle.std.specs.declared.cmp.Ordering.TheVariants.{Equal}
+use Rattle.std.specs.Ordering.{is_lt, nat_cmp}
 use Rattle.std.proofs.lemmas.Bool.Decides.{nat_tests}
 use Rattle.std.proofs.lemmas.Grind.{flat_map-append}
-use Rattle.std.proofs.lemmas.List.{append-nil, get_or-map, length-map, map-set, map_push}
+use Rattle.std.proofs.lemmas.List.{append-nil, get_or-map, get_or-set_other, length-map, map-set, map_push}
 use Rattle.std.proofs.Math.Seq.{map-set_same}
+use Rattle.span_value.proofs.Comparisons.{number_equal, number_greater, number_less}
 use Rattle.span_value.proofs.Lists.{all_at, all_map, all_weaker}
 use Rattle.span_query.specs.declared.query.SortKey.{SortKey}
 use Rattle.span_query.specs.Rows.{Row}
-use Rattle.span_query.specs.Sorting.{comes_before, sorted}
+use Rattle.span_query.specs.Sorting.{comes_before, or_next, row_order, sorted}
 use Rattle.span_rows.specs.RowPlaces.{rows_at}
 use Rattle.span_sorting.specs.declared.coded.CodedRow.{CodedRow}
 use Rattle.span_sorting.specs.declared.parts.PartRest.{PartRest}
 use Rattle.span_sorting.specs.declared.placed.CodedPlace.{CodedPlace}
-use Rattle.span_sorting.specs.Codes.{code_before, first_code}
 use Rattle.span_sorting.specs.Orders.{IsLeast, IsSorted}
 use Rattle.span_sorting.specs.PartPlaces.{joined}
 use Rattle.span_sorting.specs.PartRests.{IsFirstTaken, IsNextOf, IsRest, front, front_at, lists_of_rests, rest_rows, row_before, rows_of_rests}
 use Rattle.span_sorting.specs.PlacesInOrder.{ArePlacesBy, IsCodedPlace, without_codes}
-use Rattle.span_sorting.proofs.CodedRows.{first_decides_alone, first_in_range, order_agrees}
+use Rattle.span_sorting.proofs.CodedRows.{order_agrees}
 use Rattle.span_sorting.proofs.Merging.{first_ranked, least_taken, none_left}
 use Rattle.span_sorting.proofs.Placing.{lent_coded, places_weaker}
 use Rattle.span_sorting.proofs.RowOrder.{rows_ranked}
@@ -42,30 +44,36 @@ fronts_ranked keys = first_ranked (comes_before keys) (rows_ranked keys)
 
 -- ---- the order of two rows at places with their codes
 
-module _ (keys : List SortKey) (exact : Bool) (rows others : List Row) (p q : CodedPlace) (f : IsCodedPlace rows keys exact p) (g : IsCodedPlace others keys exact q) where
-  -- where they differ, the codes at the first key are in the order of the rows
-  pub first_codes_decide : p.first ≢ q.first → nat_lt p.first q.first ≡ comes_before keys (get_or rows p.place []) (get_or others q.place [])
-  first_codes_decide differ =
-      let r : Row = get_or rows p.place [] in
-      let s : Row = get_or others q.place [] in
-      elim (nat_lt p.first q.first) as (λ b. nat_lt p.first q.first ≡ b → b ≡ comes_before keys r s) [
-        | true ↦ λ e.
-            let less : p.first < q.first = grind (arith, nat_tests, e) in
-            sym (first_decides_alone keys r s (first_in_range keys r f.range) (first_in_range keys s g.range) (omega (arith, less, f.first, g.first)))
-        | false ↦ λ e.
-            let more : q.first < p.first = grind (arith, nat_tests, e, differ) in
-            sym ((rows_ranked keys).one_way s r
-            (first_decides_alone keys s r (first_in_range keys s g.range) (first_in_range keys r f.range) (omega (arith, more, f.first, g.first))))
-      ] refl
+differ : (a b : ℕ) (o : Ordering) → a ≢ b → is_lt (or_next (nat_cmp a b) o) ≡ nat_lt a b
+differ a b o apart = elim (nat_lt a b) as (λ t. nat_lt a b ≡ t → is_lt (or_next (nat_cmp a b) o) ≡ t) [
+  | true ↦ λ e. ap (λ (n : Ordering). is_lt (or_next n o)) (number_less a b (grind (arith, nat_tests, e)))
+  | false ↦ λ e. ap (λ (n : Ordering). is_lt (or_next n o)) (number_greater a b (grind (arith, nat_tests, e, apart)))
+] refl
 
-  -- rows lent with the codes of their places
-  pub lent_in_order : (x y : CodedRow) → x.row.now ≡ get_or rows p.place [] → x.first ≡ p.first → x.second ≡ p.second
-      → y.row.now ≡ get_or others q.place [] → y.first ≡ q.first → y.second ≡ q.second
-      → code_before keys exact x y ≡ comes_before keys (get_or rows p.place []) (get_or others q.place [])
-  lent_in_order x y row first second other_row other_first other_second =
-      ap is_lt (order_agrees keys exact x y (lent_coded rows keys exact p x f row first second) (lent_coded others keys exact q y g other_row other_first other_second))
-      ∙ ap (λ (r : Row). comes_before keys r y.row.now) row
-      ∙ ap (λ (s : Row). comes_before keys (get_or rows p.place []) s) other_row
+module _ (keys : List SortKey) (exact : Bool) (rows others : List Row) (p q : CodedPlace) (f : IsCodedPlace rows keys exact p) (g : IsCodedPlace others keys exact q) where
+  by_codes : is_lt (or_next (nat_cmp p.first q.first) (or_next (nat_cmp p.second q.second) (cond exact Equal (row_order keys (get_or rows p.place []) (get_or others q.place [])))))
+      ≡ comes_before keys (get_or rows p.place []) (get_or others q.place [])
+  by_codes =
+      let x : CodedRow = record { row = record { ref_ptr = (0, 0); now = get_or rows p.place [] }; first = p.first; second = p.second } in
+      let y : CodedRow = record { row = record { ref_ptr = (0, 0); now = get_or others q.place [] }; first = q.first; second = q.second } in
+      ap is_lt (order_agrees keys exact x y (lent_coded rows keys exact p x f refl refl refl) (lent_coded others keys exact q y g refl refl refl))
+
+  -- where the codes at the first key differ, those at the second, or none
+  pub first_codes_differ : p.first ≢ q.first → nat_lt p.first q.first ≡ comes_before keys (get_or rows p.place []) (get_or others q.place [])
+  first_codes_differ apart = sym (differ p.first q.first _ apart) ∙ by_codes
+
+  pub second_codes_differ : p.first ≡ q.first → p.second ≢ q.second → nat_lt p.second q.second ≡ comes_before keys (get_or rows p.place []) (get_or others q.place [])
+  second_codes_differ same apart =
+      sym (differ p.second q.second _ apart)
+      ∙ ap (λ (n : Ordering). is_lt (or_next n (or_next (nat_cmp p.second q.second) (cond exact Equal (row_order keys (get_or rows p.place []) (get_or others q.place [])))))) (sym (number_equal p.first q.first same))
+      ∙ by_codes
+
+  pub codes_tie : p.first ≡ q.first → p.second ≡ q.second → exact ≡ true → false ≡ comes_before keys (get_or rows p.place []) (get_or others q.place [])
+  codes_tie same second ties =
+      ap (λ (b : Bool). is_lt (cond b Equal (row_order keys (get_or rows p.place []) (get_or others q.place [])))) (sym ties)
+      ∙ ap (λ (n : Ordering). is_lt (or_next n (cond exact Equal (row_order keys (get_or rows p.place []) (get_or others q.place []))))) (sym (number_equal p.second q.second second))
+      ∙ ap (λ (n : Ordering). is_lt (or_next n (or_next (nat_cmp p.second q.second) (cond exact Equal (row_order keys (get_or rows p.place []) (get_or others q.place [])))))) (sym (number_equal p.first q.first same))
+      ∙ by_codes
 
 -- ---- rows that are left
 
@@ -144,3 +152,9 @@ module _ (keys : List SortKey) (exact : Bool) (rests : List PartRest) (k : ℕ) 
             ∙ ap (λ (s : Row). s ∷ sorted keys (joined (set (rows_of_rests rests) k (rest_rows new)))) (sym row)
             ∙ ap (λ (l : List (List Row)). get_or (get_or parts k []) at [] ∷ sorted keys (joined l)) (sym (map-set rest_rows rests k new));
       }
+
+  -- the first rows of the other lists stay
+  pub other_fronts : (new : PartRest) (i : ℕ) → i ≢ k → front_at (rows_of_rests (set rests k new)) i ≡ front_at (rows_of_rests rests) i
+  other_fronts new i apart =
+      ap (λ (l : List (List Row)). front_at l i) (map-set rest_rows rests k new)
+      ∙ ap (λ (l : List Row). slice_get l 0) (get_or-set_other (rows_of_rests rests) k i (rest_rows new) [] apart)

@@ -1,5 +1,5 @@
 -- Lists in order.
-use Rattle.std.specs.Prelude.{◌≡◌, ℕ, ◌<◌, Bool, true, false, List, [], ◌∷◌, ◌++◌, Option, Some, None, drop, take}
+use Rattle.std.specs.Prelude.{◌≡◌, ℕ, ◌<◌, ◌⊎◌, Bool, true, false, not, List, [], ◌∷◌, ◌++◌, Option, Some, None, drop, if◌then◌else◌, nat_lt, take}
 use Rattle.std.specs.List.{AllByRecursion}
 use Rattle.span_query.specs.Sorting.{insert_sorted}
 
@@ -28,3 +28,27 @@ pub record IsLeast {A : Type 0} (before : A → A → Bool) (items : ℕ → A) 
   pub within : least < count
   pub none : (i : ℕ) → i < count → before (items i) (items least) ≡ false
   pub first : (i : ℕ) → i < least → before (items least) (items i) ≡ true
+
+-- of items by their places, where those that tie keep their order
+abbrev pub item_before : {A : Type 0} → (A → A → Bool) → (ℕ → A) → ℕ → ℕ → Bool
+item_before before items i j = if nat_lt i j then not (before (items j) (items i)) else before (items i) (items j)
+
+abbrev pub IsIn : {A : Type 0} → A → List A → Type 0
+IsIn x [] = ⊥
+IsIn x (y ∷ ys) = (x ≡ y) ⊎ IsIn x ys
+
+-- each comes before those that follow it in the list
+abbrev pub IsStrictlySorted : {A : Type 0} → (A → A → Bool) → List A → Type 0
+IsStrictlySorted before [] = Unit {0}
+IsStrictlySorted before (x ∷ xs) = AllByRecursion (λ y. before x y ≡ true) xs × IsStrictlySorted before xs
+
+-- the numbers below `count` in order
+pub record IsOrderBelow (count : ℕ) (before : ℕ → ℕ → Bool) (order : List ℕ) : Type 0 where
+  pub within : AllByRecursion (λ i. i < count) order
+  pub whole : (i : ℕ) → i < count → IsIn i order
+  pub rising : IsStrictlySorted before order
+
+-- the first item put among the others
+abbrev pub first_put : {A : Type 0} → (A → A → Bool) → List A → List A
+first_put before [] = []
+first_put before (x ∷ xs) = insert_sorted before x xs

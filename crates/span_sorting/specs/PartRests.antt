@@ -1,5 +1,5 @@
 -- What is left of lists that are in order, while their rows are taken one by one.
-use Rattle.std.specs.Prelude.{◌≡◌, ℕ, Bool, List, [], ◌∷◌, Option, map, slice_get, slice_index_or}
+use Rattle.std.specs.Prelude.{◌≡◌, ℕ, Bool, List, [], ◌∷◌, Option, length, map, slice_get, slice_index_or}
 use Rattle.std.specs.List.{AllByRecursion}
 use Rattle.span_query.specs.declared.query.SortKey.{SortKey}
 use Rattle.span_query.specs.Rows.{Row}
@@ -9,7 +9,7 @@ use Rattle.span_sorting.specs.declared.parts.PartPlace.{PartPlace}
 use Rattle.span_sorting.specs.declared.parts.PartRest.{PartRest}
 use Rattle.span_sorting.specs.declared.parts.PartRests.{PartRests}
 use Rattle.span_sorting.specs.declared.placed.CodedPlace.{CodedPlace}
-use Rattle.span_sorting.specs.Orders.{IsSorted, is_first}
+use Rattle.span_sorting.specs.Orders.{IsOrderBelow, IsSorted, is_first, item_before}
 use Rattle.span_sorting.specs.PartPlaces.{IsPlaceIn, joined, row_in}
 use Rattle.span_sorting.specs.PlacesInOrder.{IsCodedPlace, without_codes}
 
@@ -59,3 +59,11 @@ pub record IsNextOf (keys : List SortKey) (exact : Bool) (old new : List PartRes
   pub rests : AllByRecursion (IsRest keys exact) new
   pub within : IsPlaceIn (lists_of_rests old) at
   pub rows : sorted keys (joined (rows_of_rests old)) ≡ row_in (lists_of_rests old) at ∷ sorted keys (joined (rows_of_rests new))
+
+-- whether the first row that is left of a list comes before that of another one; of equal ones that of the first list does
+abbrev pub part_before : List SortKey → List PartRest → ℕ → ℕ → Bool
+part_before keys rests = item_before (row_before keys) (front_at (rows_of_rests rests))
+
+-- the lists in the order of their first rows
+abbrev pub IsPartOrder : List SortKey → List PartRest → List ℕ → Type 0
+IsPartOrder keys rests order = IsOrderBelow (length rests) (part_before keys rests) order

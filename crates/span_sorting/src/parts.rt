@@ -1,13 +1,15 @@
 //! The places of the rows of several lists in the order of some keys: lists that are in order are merged.
-ghost use Rattle.std.specs.Prelude.{◌≡◌, ◌<◌, [], IfNone, IfOk, IfSome, length};
-ghost use Rattle.std.specs.List.{AllByRecursion};
-ghost use Rattle.span_sorting.specs.Orders.{IsLeast};
+ghost use Rattle.std.specs.Prelude.{◌≡◌, ◌<◌, ◌≤◌, [], IfNone, IfOk, IfSome, OnOk, length, slice_index_or};
+ghost use Rattle.std.specs.List.{All, AllByRecursion};
+ghost use Rattle.span_query.specs.Sorting.{comes_before};
+ghost use Rattle.span_sorting.specs.Orders.{GoesBefore, first_put};
 ghost use Rattle.span_sorting.specs.PartPlaces.{AreInOrder, joined, lists};
-ghost use Rattle.span_sorting.specs.PartRests.{AreRestsOf, IsFirstTaken, IsNextOf, IsRest, front, front_at, row_before, rows_of_rests};
+ghost use Rattle.span_sorting.specs.PartRests.{AreRestsOf, IsFirstTaken, IsNextOf, IsPartOrder, IsRest, front, part_before, row_before, rows_of_rests};
+ghost use Rattle.span_sorting.specs.PlacesInOrder.{IsCodedPlace};
 
-use super::coded::compare_coded;
 use super::placed::CodedPlace;
-use super::rows_with_order::{RowsWithOrder, coded_row};
+use super::rows_with_order::RowsWithOrder;
+use super::sort::compare_rows;
 use span_query::query::SortKey;
 use span_rows::row_list::RowList;
 use std::alloc::{AllocError, Global};
@@ -70,8 +72,35 @@ fn rests_of<'a>(
     Ok(Some(PartRests { rests, are_exact }))
 }
 
-/// Whether the first row that is left of a list comes before that of another one. Most differ in their codes at the first key, and are not
-/// looked up.
+/// Whether the row at a place of a list comes before that at a place of another one: by the codes; where these are the same, and not exact,
+/// the rows are looked up.
+fn is_place_before(
+    keys: &[SortKey],
+    are_exact: bool,
+    rows: &RowList,
+    place: &CodedPlace,
+    other_rows: &RowList,
+    other: &CodedPlace,
+) -> bool
+    requires place { IsCodedPlace rows.now keys.now are_exact place.now }
+    requires other { IsCodedPlace other_rows.now keys.now are_exact other.now }
+    ensures { result ≡ comes_before keys.now
+        (slice_index_or rows.now place.now.place [])
+        (slice_index_or other_rows.now other.now.place []) }
+{
+    if place.first != other.first {
+        return place.first < other.first;
+    }
+    if place.second != other.second {
+        return place.second < other.second;
+    }
+    if are_exact {
+        return false;
+    }
+    compare_rows(keys, rows.row(place.place), other_rows.row(other.place)).is_lt()
+}
+
+/// Whether the first row that is left of a list comes before that of another one. None is after all.
 fn is_before(
     keys: &[SortKey],
     are_exact: bool,
@@ -88,26 +117,91 @@ fn is_before(
     let Some(other) = right.places.first() else {
         return true;
     };
-    if first.first != other.first {
-        return first.first < other.first;
-    }
-    let row = coded_row(left.rows, first);
-    compare_coded(keys, are_exact, &row, &coded_row(right.rows, other)).is_lt()
+    is_place_before(keys, are_exact, left.rows, first, right.rows, other)
 }
 
-/// Of which list the first row that is left comes before those of the others; of equal ones it is the first list.
-fn least_rest(keys: &[SortKey], are_exact: bool, rests: &[PartRest<'_>]) -> usize
-    requires some { 0 < length rests.now }
+/// Whether the first row that is left of a list comes before that of another one; of equal ones that of the first list does.
+fn is_part_before(
+    keys: &[SortKey],
+    are_exact: bool,
+    rests: &[PartRest<'_>],
+    part: usize,
+    other: usize,
+) -> bool
     requires rests { AllByRecursion (IsRest keys.now are_exact) rests.now }
-    ensures { IsLeast (row_before keys.now) (front_at (rows_of_rests rests.now)) (length rests.now) result }
+    requires part { part < length rests.now }
+    requires other { other < length rests.now }
+    ensures { result ≡ part_before keys.now rests.now part other }
 {
-    let mut least = 0;
-    for at in 1..rests.len() {
-        if is_before(keys, are_exact, &rests[at], &rests[least]) {
-            least = at;
+    if part < other {
+        !is_before(keys, are_exact, &rests[other], &rests[part])
+    } else {
+        is_before(keys, are_exact, &rests[part], &rests[other])
+    }
+}
+
+/// The place among lists, in the order of their first rows, before which a list is to be put.
+fn place_of_part(
+    keys: &[SortKey],
+    are_exact: bool,
+    rests: &[PartRest<'_>],
+    order: &[usize],
+    part: usize,
+) -> usize
+    requires rests { AllByRecursion (IsRest keys.now are_exact) rests.now }
+    requires order { All (λ i. i < length rests.now) order.now }
+    requires part { part < length rests.now }
+    ensures within { result ≤ length order.now }
+    ensures place { GoesBefore (part_before keys.now rests.now) part order.now result }
+{
+    for at in 0..order.len() {
+        if !is_part_before(keys, are_exact, rests, order[at], part) {
+            return at;
         }
     }
-    least
+    order.len()
+}
+
+/// The lists in the order of their first rows.
+fn order_rests(
+    alloc: Global,
+    keys: &[SortKey],
+    are_exact: bool,
+    rests: &[PartRest<'_>],
+) -> Result<Vec<usize>, AllocError>
+    requires { AllByRecursion (IsRest keys.now are_exact) rests.now }
+    ensures { IfOk result (λ order. IsPartOrder keys.now rests.now order.items) }
+{
+    let mut order = Vec::with_capacity(alloc, rests.len())?;
+    for part in 0..rests.len() {
+        let at = place_of_part(keys, are_exact, rests, order.as_slice(), part);
+        order.insert(at, part)?;
+    }
+    Ok(order)
+}
+
+/// Puts the first of lists, where another row is the first of it now, among the others in their order.
+fn move_first(
+    keys: &[SortKey],
+    are_exact: bool,
+    rests: &[PartRest<'_>],
+    order: &mut Vec<usize>,
+) -> Result<(), AllocError>
+    requires rests { AllByRecursion (IsRest keys.now are_exact) rests.now }
+    requires order { All (λ i. i < length rests.now) order.old.items }
+    ensures { OnOk result (order.new.items ≡ first_put (part_before keys.now rests.now) order.old.items) }
+{
+    let [part, others @ ..] = order.as_slice() else {
+        return Ok(());
+    };
+    let part = *part;
+    let at = place_of_part(keys, are_exact, rests, others, part);
+    if at == 0 {
+        return Ok(());
+    }
+    order.remove(0);
+    order.insert(at, part)?;
+    Ok(())
 }
 
 /// Takes the first row that is left of a list, and returns its place.
@@ -125,17 +219,23 @@ fn take_least(
     keys: &[SortKey],
     are_exact: bool,
     rests: &mut Vec<PartRest<'_>>,
-) -> Option<PartPlace>
-    requires { AllByRecursion (IsRest keys.now are_exact) rests.old.items }
-    ensures some { IfSome result (IsNextOf keys.now are_exact rests.old.items rests.new.items) }
-    ensures none { IfNone result (joined (rows_of_rests rests.old.items) ≡ []) }
+    order: &mut Vec<usize>,
+) -> Result<Option<PartPlace>, AllocError>
+    requires rests { AllByRecursion (IsRest keys.now are_exact) rests.old.items }
+    requires order { IsPartOrder keys.now rests.old.items order.old.items }
+    ensures some { IfOk result (λ found. IfSome found (IsNextOf keys.now are_exact rests.old.items rests.new.items)) }
+    ensures order { IfOk result (λ found. IfSome found (λ at. IsPartOrder keys.now rests.new.items order.new.items)) }
+    ensures none { IfOk result (λ found. IfNone found (joined (rows_of_rests rests.old.items) ≡ [])) }
 {
-    if rests.is_empty() {
-        return None;
-    }
-    let part = least_rest(keys, are_exact, rests.as_slice());
-    let place = take_first(&mut rests[part])?;
-    Some(PartPlace { part, place })
+    let Some(part) = order.as_slice().first() else {
+        return Ok(None);
+    };
+    let part = *part;
+    let Some(place) = take_first(&mut rests[part]) else {
+        return Ok(None);
+    };
+    move_first(keys, are_exact, rests.as_slice(), order)?;
+    Ok(Some(PartPlace { part, place }))
 }
 
 /// Where the rows of lists lie, in the order of the keys; rows with equal keys follow in the order of the lists, and in a list keep theirs. No
@@ -154,8 +254,9 @@ pub fn order_parts(
         mut rests,
         are_exact,
     } = found;
+    let mut order = order_rests(alloc, keys, are_exact, rests.as_slice())?;
     let mut places = Vec::with_capacity(alloc, count_rows(parts))?;
-    while let Some(at) = take_least(keys, are_exact, &mut rests) {
+    while let Some(at) = take_least(keys, are_exact, &mut rests, &mut order)? {
         places.push(at)?;
     }
     Ok(Some(places))

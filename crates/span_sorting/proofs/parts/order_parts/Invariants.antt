@@ -2,17 +2,18 @@ use Rattle.std.proofs.Common.{◌≡◌, ◌++◌, length}
 use Rattle.std.specs.List.{AllByRecursion}
 use Rattle.span_query.specs.Sorting.{sorted}
 use Rattle.span_sorting.specs.PartPlaces.{IsPlaceIn, joined, lists, rows_in}
-use Rattle.span_sorting.specs.PartRests.{IsRest, lists_of_rests, rows_of_rests}
+use Rattle.span_sorting.specs.PartRests.{IsPartOrder, IsRest, lists_of_rests, rows_of_rests}
 use Rattle.span_sorting.proofs.parts.order_parts.Given as goal
 
 -- the rows at the places so far, and those that are left
-abbrev pub invariant-loop-at : goal.invariant-loop-at
-invariant-loop-at l = record {
+abbrev pub invariant-loop-places : goal.invariant-loop-places
+invariant-loop-places l = record {
   listed : lists_of_rests l.rests.items ≡ lists l.parts;
   rests : AllByRecursion (IsRest l.keys l.are_exact) l.rests.items;
+  order : IsPartOrder l.keys l.rests.items l.order.items;
   within : AllByRecursion (IsPlaceIn (lists l.parts)) l.places.items;
   rows : rows_in (lists l.parts) l.places.items ++ sorted l.keys (joined (rows_of_rests l.rests.items)) ≡ sorted l.keys (joined (lists l.parts));
 }
 
-abbrev pub decreases-loop-at : goal.decreases-loop-at
-decreases-loop-at l = length (sorted l.keys (joined (rows_of_rests l.rests.items)))
+abbrev pub decreases-loop-places : goal.decreases-loop-places
+decreases-loop-places l = length (sorted l.keys (joined (rows_of_rests l.rests.items)))

@@ -1,35 +1,67 @@
-use Rattle.std.proofs.Common.{rules, ◌≡◌, [], IfNone, None, Some, List, ℕ, get_or, length, subst}
-use Rattle.std.specs.Prelude.{Option, slice_get}
+use Rattle.std.proofs.Common.{rules, ◌≡◌, ◌∙◌, ◌∷◌, [], Some, List, ℕ, ap, drop, get_or, length, set, sym, subst}
+use Rattle.std.specs.Prelude.{slice_get}
+use Rattle.std.proofs.lemmas.List.{length-set}
+use Rattle.span_query.specs.Sorting.{insert_sorted}
 use Rattle.span_sorting.specs.declared.parts.PartRest.{PartRest}
-use Rattle.span_sorting.specs.Orders.{IsLeast}
-use Rattle.span_sorting.specs.PartRests.{IsFirstTaken, front_at, row_before, rows_of_rests}
-use Rattle.span_sorting.proofs.PartRests.{next_taken, none_is_left}
+use Rattle.span_sorting.specs.Orders.{IsLeast, IsOrderBelow, first_put}
+use Rattle.span_sorting.specs.PartRests.{IsPartOrder, front_at, part_before, row_before, rows_of_rests}
+use Rattle.span_sorting.proofs.ItemOrders.{first_is_least, order_moved}
+use Rattle.span_sorting.proofs.PartRests.{fronts_ranked, next_taken, none_is_left, other_fronts}
 use Rattle.span_sorting.proofs.parts.take_least.Goals as goal
 
-if_none : {T : Type 0} (P : Type 0) (o : Option T) → P → IfNone o P
-if_none P None p = p
-if_none P (Some x) p = tt
+first_and_others : (order : List ℕ) (k : ℕ) → slice_get order 0 ≡ Some k → order ≡ k ∷ drop 1 order
+first_and_others [] k e = cc
+first_and_others (x ∷ order) k e = let same : x ≡ k = cc in ap (λ (n : ℕ). n ∷ order) same
 
-pub returns-in_err-place-clause-none : goal.returns-in_err-place-clause-none
-returns-in_err-place-clause-none c =
+pub returns-in_default-take_first-clause-none : goal.returns-in_default-take_first-clause-none
+returns-in_default-take_first-clause-none c =
     let keys = c.args.keys.now in
     let rests : List PartRest = c.args.rests.now.items in
-    let k : ℕ = c.least_rest-part.result in
+    let order : List ℕ = c.args.order.now.items in
+    let k : ℕ = c.in-Some.part.now in
     let r : PartRest = c.index_mut.result.now in
-    let slice : c.as_slice.result.now ≡ rests = search rules in
+    let first : slice_get order 0 ≡ Some k = search rules in
+    let parts : IsPartOrder keys rests (k ∷ drop 1 order) = subst (IsPartOrder keys rests) (first_and_others order k first) c.requires.order in
     let least : IsLeast (row_before keys) (front_at (rows_of_rests rests)) (length rests) k =
-    subst (λ (l : List PartRest). IsLeast (row_before keys) (front_at (rows_of_rests l)) (length l) k) slice c.least_rest-part.ensures in
+    first_is_least (row_before keys) (front_at (rows_of_rests rests)) (fronts_ranked keys) (length rests) k (drop 1 order) parts in
     let is : r ≡ get_or rests k r = search rules in
-    if_none _ c.from_residual.result (none_is_left keys c.args.are_exact rests k r is least c.in_err-place.ensures.none)
+    let none : r.places.now ≡ [] = search rules in
+    none_is_left keys c.args.are_exact rests k r is least none
 
 pub returns-clause-some : goal.returns-clause-some
 returns-clause-some c =
     let keys = c.args.keys.now in
     let rests : List PartRest = c.args.rests.now.items in
-    let k : ℕ = c.least_rest-part.result in
+    let order : List ℕ = c.args.order.now.items in
+    let k : ℕ = c.in-Some.part.now in
     let r : PartRest = c.index_mut.result.now in
-    let slice : c.as_slice.result.now ≡ rests = search rules in
+    let first : slice_get order 0 ≡ Some k = search rules in
+    let parts : IsPartOrder keys rests (k ∷ drop 1 order) = subst (IsPartOrder keys rests) (first_and_others order k first) c.requires.order in
     let least : IsLeast (row_before keys) (front_at (rows_of_rests rests)) (length rests) k =
-    subst (λ (l : List PartRest). IsLeast (row_before keys) (front_at (rows_of_rests l)) (length l) k) slice c.least_rest-part.ensures in
+    first_is_least (row_before keys) (front_at (rows_of_rests rests)) (fronts_ranked keys) (length rests) k (drop 1 order) parts in
     let is : r ≡ get_or rests k r = search rules in
-    next_taken keys c.args.are_exact rests k r is least c.take_first.new.rest c.in_ok-place.place c.requires c.in_ok-place.ensures.some
+    next_taken keys c.args.are_exact rests k r is least c.take_first.new.rest c.in-Some-take_first.place c.requires.rests c.in-Some-take_first.ensures.some
+
+pub returns-clause-order : goal.returns-clause-order
+returns-clause-order c =
+    let keys = c.args.keys.now in
+    let rests : List PartRest = c.args.rests.now.items in
+    let order : List ℕ = c.args.order.now.items in
+    let others : List ℕ = drop 1 order in
+    let k : ℕ = c.in-Some.part.now in
+    let r : PartRest = c.index_mut.result.now in
+    let rest : PartRest = c.take_first.new.rest in
+    let now : List PartRest = set rests k rest in
+    let first : slice_get order 0 ≡ Some k = search rules in
+    let split : order ≡ k ∷ others = first_and_others order k first in
+    let parts : IsPartOrder keys rests (k ∷ others) = subst (IsPartOrder keys rests) split c.requires.order in
+    let least : IsLeast (row_before keys) (front_at (rows_of_rests rests)) (length rests) k =
+    first_is_least (row_before keys) (front_at (rows_of_rests rests)) (fronts_ranked keys) (length rests) k others parts in
+    let is : r ≡ get_or rests k r = search rules in
+    let same : c.as_slice-2.result.now ≡ now = search rules in
+    let put : c.move_first.new.order.items ≡ insert_sorted (part_before keys now) k others =
+    c.in_ok-move_first.ensures ∙ ap (λ (l : List PartRest). first_put (part_before keys l) order) same ∙ ap (first_put (part_before keys now)) split in
+    subst (IsPartOrder keys now) (sym put)
+    (subst (λ (n : ℕ). IsOrderBelow n (part_before keys now) (insert_sorted (part_before keys now) k others)) (sym (length-set rests k rest))
+    (order_moved (row_before keys) (fronts_ranked keys) (front_at (rows_of_rests rests)) (front_at (rows_of_rests now)) k
+    (λ i apart. other_fronts keys c.args.are_exact rests k r is least rest i apart) (length rests) others parts))
