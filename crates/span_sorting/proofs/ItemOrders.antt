@@ -1,11 +1,11 @@
 -- Items by their places, in order: the numbers of the places, of which the first is that of the least item.
-use Rattle.std.proofs.Common.{◌≡◌, ◌≢◌, refl, sym, ap, subst, arith, ◌∙◌, ℕ, ◌+◌, ◌<◌, ◌≤◌, ◌⊎◌, inl, inr, Bool, true, false, cond, not, List, [], ◌∷◌, true≢false}
-use Rattle.std.specs.Prelude.{nat_lt}
+use Rattle.std.proofs.Common.{◌≡◌, ◌≢◌, refl, sym, ap, subst, arith, ◌∙◌, ℕ, ◌+◌, ◌<◌, ◌≤◌, ◌⊎◌, inl, inr, zero, suc, Bool, true, false, cond, not, List, [], ◌∷◌, ◌++◌, drop, get_or, length, take, true≢false}
+use Rattle.std.specs.Prelude.{IfSome, nat_lt, slice_get}
 use Rattle.std.specs.Cmp.{IsStrictWeakOrder}
 use Rattle.std.specs.List.{AllByRecursion}
 use Rattle.std.proofs.lemmas.Bool.{true_from_ne_false}
 use Rattle.std.proofs.lemmas.Bool.Decides.{nat_tests}
-use Rattle.span_value.proofs.Lists.{all_weaker}
+use Rattle.span_value.proofs.Lists.{all_at, all_weaker}
 use Rattle.span_query.specs.Sorting.{insert_sorted}
 use Rattle.span_sorting.specs.Orders.{IsIn, IsLeast, IsOrderBelow, IsStrictlySorted, item_before}
 use Rattle.span_sorting.proofs.Order.{irreflexive}
@@ -122,6 +122,35 @@ module _ {X : Type 0} (lt : X → X → Bool) (items : ℕ → X) where
     apart_from : (k : ℕ) (order : List ℕ) → AllByRecursion (λ j. before k j ≡ true) order → AllByRecursion (λ j. j ≢ k) order
     apart_from k order up = all_weaker (λ j. before k j ≡ true) (λ j. j ≢ k) (λ j e same. true≢false (sym e ∙ ap (before k) same ∙ not_itself k)) order up
 
+    -- what precedes an item of the list, or is this one, comes before what the item comes before
+    pub front_before : (order : List ℕ) (m k d : ℕ) → m < length order → IsStrictlySorted before order → before (get_or order m d) k ≡ true
+        → AllByRecursion (λ j. before j k ≡ true) (take (suc m) order)
+    front_before [] m k d within up e = absurd (omega (arith, within))
+    front_before (j ∷ order) zero k d within up e = (e, tt)
+    front_before (j ∷ order) (suc m) k d within up e = (
+      chained j (get_or order m d) k (all_at (λ i. before j i ≡ true) order m d (omega (arith, within)) up.0) e,
+      front_before order m k d (omega (arith, within)) up.1 e,
+    )
+
+-- an item goes after those that come before it, and before the next one, which does not
+pub put_at : {A : Type 0} (before : A → A → Bool) (x : A) (ys : List A) (at : ℕ) → AllByRecursion (λ y. before y x ≡ true) (take at ys)
+    → IfSome (slice_get ys at) (λ y. before y x ≡ false) → insert_sorted before x ys ≡ take at ys ++ x ∷ drop at ys
+put_at before x [] zero front next = refl
+put_at before x [] (suc at) front next = refl
+put_at before x (y ∷ ys) zero front next = ap (λ (b : Bool). cond b (y ∷ insert_sorted before x ys) (x ∷ y ∷ ys)) next
+put_at {A} before x (y ∷ ys) (suc at) front next =
+    ap (λ (b : Bool). cond b (y ∷ insert_sorted before x ys) (x ∷ y ∷ ys)) front.0
+    ∙ ap (λ (l : List A). y ∷ l) (put_at before x ys at front.1 next)
+
+pub none_past : {A : Type 0} (P : A → Type 0) (xs : List A) → IfSome (slice_get xs (length xs)) P
+none_past P [] = tt
+none_past P (x ∷ xs) = none_past P xs
+
+pub if_there : {A : Type 0} (P : A → Type 0) (xs : List A) (m : ℕ) (d : A) → m < length xs → P (get_or xs m d) → IfSome (slice_get xs m) P
+if_there P [] m d within p = absurd (omega (arith, within))
+if_there P (x ∷ xs) zero d within p = p
+if_there P (x ∷ xs) (suc m) d within p = if_there P xs m d (omega (arith, within)) p
+
 -- ---- another item at the first place
 
 module _ {X : Type 0} (lt : X → X → Bool) (o : IsStrictWeakOrder lt) (old new : ℕ → X) (k : ℕ) (others : (i : ℕ) → i ≢ k → new i ≡ old i) where
@@ -137,6 +166,9 @@ module _ {X : Type 0} (lt : X → X → Bool) (o : IsStrictWeakOrder lt) (old ne
         ∙ up.0,
         after rest far.1 up.1,
       )
+
+  pub others_sorted : (count : ℕ) (order : List ℕ) → IsOrderBelow count (item_before lt old) (k ∷ order) → IsStrictlySorted (item_before lt new) order
+  others_sorted count order is = rising_still order (apart_from lt old o k order is.rising.0) is.rising.1
 
   pub order_moved : (count : ℕ) (order : List ℕ) → IsOrderBelow count (item_before lt old) (k ∷ order)
       → IsOrderBelow count (item_before lt new) (insert_sorted (item_before lt new) k order)

@@ -1,8 +1,8 @@
 //! The places of the rows of several lists in the order of some keys: lists that are in order are merged.
-ghost use Rattle.std.specs.Prelude.{◌≡◌, ◌<◌, ◌≤◌, [], IfNone, IfOk, IfSome, OnOk, length, slice_index_or};
+ghost use Rattle.std.specs.Prelude.{◌≡◌, ◌<◌, ◌≤◌, [], IfNone, IfOk, IfSome, OnOk, drop, length, slice_index_or};
 ghost use Rattle.std.specs.List.{All, AllByRecursion};
 ghost use Rattle.span_query.specs.Sorting.{comes_before};
-ghost use Rattle.span_sorting.specs.Orders.{GoesBefore, first_put};
+ghost use Rattle.span_sorting.specs.Orders.{GoesBefore, IsStrictlySorted, first_put};
 ghost use Rattle.span_sorting.specs.PartPlaces.{AreInOrder, joined, lists};
 ghost use Rattle.span_sorting.specs.PartRests.{AreRestsOf, IsFirstTaken, IsNextOf, IsPartOrder, IsRest, front, part_before, row_before, rows_of_rests};
 ghost use Rattle.span_sorting.specs.PlacesInOrder.{IsCodedPlace};
@@ -101,6 +101,7 @@ fn is_place_before(
 }
 
 /// Whether the first row that is left of a list comes before that of another one. None is after all.
+#[inline(always)]
 fn is_before(
     keys: &[SortKey],
     are_exact: bool,
@@ -149,17 +150,23 @@ fn place_of_part(
     part: usize,
 ) -> usize
     requires rests { AllByRecursion (IsRest keys.now are_exact) rests.now }
-    requires order { All (λ i. i < length rests.now) order.now }
+    requires within { All (λ i. i < length rests.now) order.now }
+    requires sorted { IsStrictlySorted (part_before keys.now rests.now) order.now }
     requires part { part < length rests.now }
     ensures within { result ≤ length order.now }
     ensures place { GoesBefore (part_before keys.now rests.now) part order.now result }
 {
-    for at in 0..order.len() {
-        if !is_part_before(keys, are_exact, rests, order[at], part) {
-            return at;
+    let mut low = 0;
+    let mut high = order.len();
+    while low < high {
+        let middle = low + (high - low) / 2;
+        if is_part_before(keys, are_exact, rests, order[middle], part) {
+            low = middle + 1;
+        } else {
+            high = middle;
         }
     }
-    order.len()
+    low
 }
 
 /// The lists in the order of their first rows.
@@ -180,7 +187,8 @@ fn order_rests(
     Ok(order)
 }
 
-/// Puts the first of lists, where another row is the first of it now, among the others in their order.
+/// Puts the first of lists, where another row is the first of it now, among the others in their order. Where it comes before these still, it is
+/// compared with the next one alone.
 fn move_first(
     keys: &[SortKey],
     are_exact: bool,
@@ -188,18 +196,18 @@ fn move_first(
     order: &mut Vec<usize>,
 ) -> Result<(), AllocError>
     requires rests { AllByRecursion (IsRest keys.now are_exact) rests.now }
-    requires order { All (λ i. i < length rests.now) order.old.items }
+    requires within { All (λ i. i < length rests.now) order.old.items }
+    requires sorted { IsStrictlySorted (part_before keys.now rests.now) (drop 1 order.old.items) }
     ensures { OnOk result (order.new.items ≡ first_put (part_before keys.now rests.now) order.old.items) }
 {
-    let [part, others @ ..] = order.as_slice() else {
+    let [part, next, ..] = order.as_slice() else {
         return Ok(());
     };
-    let part = *part;
-    let at = place_of_part(keys, are_exact, rests, others, part);
-    if at == 0 {
+    if !is_part_before(keys, are_exact, rests, *next, *part) {
         return Ok(());
     }
-    order.remove(0);
+    let part = order.remove(0);
+    let at = place_of_part(keys, are_exact, rests, order.as_slice(), part);
     order.insert(at, part)?;
     Ok(())
 }

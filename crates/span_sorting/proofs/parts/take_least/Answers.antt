@@ -3,9 +3,9 @@ use Rattle.std.specs.Prelude.{slice_get}
 use Rattle.std.proofs.lemmas.List.{length-set}
 use Rattle.span_query.specs.Sorting.{insert_sorted}
 use Rattle.span_sorting.specs.declared.parts.PartRest.{PartRest}
-use Rattle.span_sorting.specs.Orders.{IsLeast, IsOrderBelow, first_put}
+use Rattle.span_sorting.specs.Orders.{IsLeast, IsOrderBelow, IsStrictlySorted, first_put}
 use Rattle.span_sorting.specs.PartRests.{IsPartOrder, front_at, part_before, row_before, rows_of_rests}
-use Rattle.span_sorting.proofs.ItemOrders.{first_is_least, order_moved}
+use Rattle.span_sorting.proofs.ItemOrders.{first_is_least, order_moved, others_sorted}
 use Rattle.span_sorting.proofs.PartRests.{fronts_ranked, next_taken, none_is_left, other_fronts}
 use Rattle.span_sorting.proofs.parts.take_least.Goals as goal
 
@@ -65,3 +65,23 @@ returns-clause-order c =
     (subst (λ (n : ℕ). IsOrderBelow n (part_before keys now) (insert_sorted (part_before keys now) k others)) (sym (length-set rests k rest))
     (order_moved (row_before keys) (fronts_ranked keys) (front_at (rows_of_rests rests)) (front_at (rows_of_rests now)) k
     (λ i apart. other_fronts keys c.args.are_exact rests k r is least rest i apart) (length rests) others parts))
+
+pub move_first-requires-clause-sorted : goal.move_first-requires-clause-sorted
+move_first-requires-clause-sorted c =
+    let keys = c.args.keys.now in
+    let rests : List PartRest = c.args.rests.now.items in
+    let order : List ℕ = c.args.order.now.items in
+    let others : List ℕ = drop 1 order in
+    let k : ℕ = c.in-Some.part.now in
+    let r : PartRest = c.index_mut.result.now in
+    let rest : PartRest = c.take_first.new.rest in
+    let now : List PartRest = set rests k rest in
+    let first : slice_get order 0 ≡ Some k = search rules in
+    let parts : IsPartOrder keys rests (k ∷ others) = subst (IsPartOrder keys rests) (first_and_others order k first) c.requires.order in
+    let least : IsLeast (row_before keys) (front_at (rows_of_rests rests)) (length rests) k =
+    first_is_least (row_before keys) (front_at (rows_of_rests rests)) (fronts_ranked keys) (length rests) k others parts in
+    let is : r ≡ get_or rests k r = search rules in
+    let same : c.as_slice-2.result.now ≡ now = search rules in
+    subst (λ (l : List PartRest). IsStrictlySorted (part_before keys l) others) (sym same)
+    (others_sorted (row_before keys) (fronts_ranked keys) (front_at (rows_of_rests rests)) (front_at (rows_of_rests now)) k
+    (λ i apart. other_fronts keys c.args.are_exact rests k r is least rest i apart) (length rests) others parts)
