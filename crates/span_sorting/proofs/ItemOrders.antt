@@ -1,5 +1,5 @@
 -- Items by their places, in order: the numbers of the places, of which the first is that of the least item.
-use Rattle.std.proofs.Common.{◌≡◌, ◌≢◌, refl, sym, ap, subst, arith, ◌∙◌, ℕ, ◌+◌, ◌<◌, ◌≤◌, ◌⊎◌, inl, inr, zero, suc, Bool, true, false, cond, not, List, [], ◌∷◌, ◌++◌, drop, get_or, length, take, true≢false}
+use Rattle.std.proofs.Common.{◌≡◌, ◌≢◌, refl, sym, ap, subst, arith, ◌∙◌, ℕ, ◌+◌, ◌<◌, ◌≤◌, inl, inr, zero, suc, Bool, true, false, cond, not, List, [], ◌∷◌, ◌++◌, drop, get_or, length, take, true≢false}
 use Rattle.std.specs.Prelude.{IfSome, nat_lt, slice_get}
 use Rattle.std.specs.Cmp.{IsStrictWeakOrder}
 use Rattle.std.specs.List.{AllByRecursion}
@@ -142,10 +142,6 @@ put_at {A} before x (y ∷ ys) (suc at) front next =
     ap (λ (b : Bool). cond b (y ∷ insert_sorted before x ys) (x ∷ y ∷ ys)) front.0
     ∙ ap (λ (l : List A). y ∷ l) (put_at before x ys at front.1 next)
 
-pub none_past : {A : Type 0} (P : A → Type 0) (xs : List A) → IfSome (slice_get xs (length xs)) P
-none_past P [] = tt
-none_past P (x ∷ xs) = none_past P xs
-
 pub if_there : {A : Type 0} (P : A → Type 0) (xs : List A) (m : ℕ) (d : A) → m < length xs → P (get_or xs m d) → IfSome (slice_get xs m) P
 if_there P [] m d within p = absurd (omega (arith, within))
 if_there P (x ∷ xs) zero d within p = p
@@ -162,8 +158,8 @@ module _ {X : Type 0} (lt : X → X → Bool) (o : IsStrictWeakOrder lt) (old ne
       after [] far up = tt
       after (i ∷ rest) far up = (
         ap (λ (x : X). cond (nat_lt j i) (not (lt (new i) x)) (lt x (new i))) (others j apart.0)
-        ∙ ap (λ (x : X). cond (nat_lt j i) (not (lt x (old j))) (lt (old j) x)) (others i far.0)
-        ∙ up.0,
+            ∙ ap (λ (x : X). cond (nat_lt j i) (not (lt x (old j))) (lt (old j) x)) (others i far.0)
+            ∙ up.0,
         after rest far.1 up.1,
       )
 

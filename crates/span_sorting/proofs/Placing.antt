@@ -7,7 +7,7 @@ use Rattle.std.proofs.lemmas.List.{map_push}
 use Rattle.std.proofs.lemmas.List.Elements.{All-from_recursion}
 use Rattle.std.proofs.lemmas.List.MinMax.{ranks_by}
 use Rattle.std.specs.Prelude.{slice_get}
-use Rattle.span_value.proofs.Lists.{all_found_at, all_take}
+use Rattle.span_value.proofs.Lists.{all_found_at}
 use Rattle.span_query.specs.declared.query.SortKey.{SortKey}
 use Rattle.span_query.specs.Rows.{Row}
 use Rattle.span_query.specs.Sorting.{comes_before, insert_sorted, insertion_sort, sorted}

@@ -102,12 +102,7 @@ fn is_place_before(
 
 /// Whether the first row that is left of a list comes before that of another one. None is after all.
 #[inline(always)]
-fn is_before(
-    keys: &[SortKey],
-    are_exact: bool,
-    left: &PartRest<'_>,
-    right: &PartRest<'_>,
-) -> bool
+fn is_before(keys: &[SortKey], are_exact: bool, left: &PartRest<'_>, right: &PartRest<'_>) -> bool
     requires left { IsRest keys.now are_exact left.now }
     requires right { IsRest keys.now are_exact right.now }
     ensures { result ≡ row_before keys.now (front left.now) (front right.now) }

@@ -1,4 +1,4 @@
-use Rattle.std.proofs.Common.{rules, ◌≡◌, ◌∙◌, ◌+◌, ◌++◌, ◌∷◌, ◌<◌, ◌&&◌, [], Bool, List, None, ap, sym, subst, length, get_or, take}
+use Rattle.std.proofs.Common.{rules, ◌≡◌, ◌∙◌, ◌++◌, ◌∷◌, ◌<◌, ◌&&◌, [], Bool, List, None, ap, sym, subst, length, get_or, take}
 use denote.Ref.{Bor}
 use Rattle.std.specs.List.{AllByRecursion}
 use Rattle.std.proofs.lemmas.Bool.{and_parts}
@@ -7,7 +7,6 @@ use Rattle.span_value.proofs.Lists.{all_push}
 use Rattle.span_query.specs.Rows.{Row}
 use Rattle.span_query.specs.Sorting.{comes_before, sorted}
 use Rattle.span_sorting.specs.declared.parts.PartRest.{PartRest}
-use Rattle.span_sorting.specs.declared.placed.CodedPlace.{CodedPlace}
 use Rattle.span_sorting.specs.PartPlaces.{joined, lists}
 use Rattle.span_sorting.specs.PartRests.{IsRest, lists_of_rests, rest_rows, rows_of_rests}
 use Rattle.span_sorting.specs.PlacesInOrder.{ArePlacesBy}
