@@ -7,7 +7,8 @@ use Rattle.std.proofs.lemmas.Bool.{true_from_ne_false}
 use Rattle.std.proofs.lemmas.Bool.Decides.{nat_tests}
 use Rattle.span_value.proofs.Lists.{all_at, all_weaker}
 use Rattle.span_query.specs.Sorting.{insert_sorted}
-use Rattle.span_sorting.specs.Orders.{IsIn, IsLeast, IsOrderBelow, IsStrictlySorted, item_before}
+use Rattle.span_sorting.specs.Orders.{IsIn, IsOrderBelow, IsStrictlySorted, item_before}
+use Rattle.span_sorting.proofs.Merging.{IsLeast}
 use Rattle.span_sorting.proofs.Order.{irreflexive}
 use Rattle.span_sorting.proofs.Sorting.{all_placed}
 

@@ -1,15 +1,12 @@
 -- Lists in order, one after another: the least of their first items is the first of all of them in order.
-use Rattle.std.proofs.Common.{◌≡◌, refl, sym, ap, subst, arith, ◌∙◌, ℕ, zero, suc, ◌+◌, ◌<◌, Bool, true, false, List, [], ◌∷◌, ◌++◌, Option, None, Some, append_assoc, flat_map, length, get_or, set, true≢false}
-use Rattle.std.specs.Prelude.{nat_lt, slice_get}
+use Rattle.std.proofs.Common.{◌≡◌, refl, sym, ap, subst, arith, ◌∙◌, ℕ, zero, suc, ◌<◌, Bool, true, false, List, [], ◌∷◌, ◌++◌, Option, None, Some, append_assoc, flat_map, length, get_or, set, true≢false}
+use Rattle.std.specs.Prelude.{slice_get}
 use Rattle.std.specs.Cmp.{IsStrictWeakOrder}
 use Rattle.std.specs.List.{AllByRecursion}
-use Rattle.std.proofs.lemmas.Bool.{true_from_ne_false}
-use Rattle.std.proofs.lemmas.Bool.Decides.{nat_tests}
 use Rattle.span_value.proofs.Lists.{all_append}
 use Rattle.span_query.specs.Sorting.{insertion_sort}
-use Rattle.span_sorting.specs.Orders.{IsLeast, IsSorted, is_first}
+use Rattle.span_sorting.specs.Orders.{IsSorted, is_first}
 use Rattle.span_sorting.proofs.FirstOfParts.{before_all, put_all, put_first, sorted_after, stays_first}
-use Rattle.span_sorting.proofs.Order.{irreflexive}
 use Rattle.span_sorting.proofs.Sorting.{all_in_order, none_before}
 
 -- of items that may be none, none comes after all others
@@ -27,39 +24,11 @@ first_ranked {A} lt o = record { one_way = one_way; chain = chain }
     chain (Some x) (Some y) None e f = absurd (true≢false f)
     chain (Some x) (Some y) (Some z) e f = o.chain x y z e f
 
--- ---- the least of items
-
-by_place : (P : ℕ → Type 0) (i n : ℕ) → i < n + 1 → (i < n → P i) → P n → P i
-by_place P i n below less here = elim (nat_lt i n) as (λ b. nat_lt i n ≡ b → P i) [
-  | true ↦ λ e. less (grind (arith, nat_tests, e))
-  | false ↦ λ e. let same : n ≡ i = grind (arith, nat_tests, e, below) in subst P same here
-] refl
-
-module _ {X : Type 0} (lt : X → X → Bool) (o : IsStrictWeakOrder lt) (items : ℕ → X) where
-  pub least_of_one : IsLeast lt items 1 0
-  least_of_one = record {
-    within = omega arith;
-    none = λ i below. by_place (λ (k : ℕ). lt (items k) (items 0) ≡ false) i 0 below (λ none. absurd (omega (arith, none))) (irreflexive lt o (items 0));
-    first = λ i below. absurd (omega (arith, below));
-  }
-
-  -- one more, which does not come before the least
-  pub least_stays : (at least : ℕ) → IsLeast lt items at least → lt (items at) (items least) ≡ false → IsLeast lt items (at + 1) least
-  least_stays at least is e = record {
-    within = omega (arith, is.within);
-    none = λ i below. by_place (λ (k : ℕ). lt (items k) (items least) ≡ false) i at below (is.none i) e;
-    first = is.first;
-  }
-
-  -- one more, which does
-  pub least_follows : (at least : ℕ) → IsLeast lt items at least → lt (items at) (items least) ≡ true → IsLeast lt items (at + 1) at
-  least_follows at least is e = record {
-    within = omega arith;
-    none = λ i below. by_place (λ (k : ℕ). lt (items k) (items at) ≡ false) i at below
-        (λ less. o.chain (items i) (items least) (items at) (is.none i less) (o.one_way (items at) (items least) e))
-        (irreflexive lt o (items at));
-    first = λ i less. true_from_ne_false (lt (items at) (items i)) (λ h. true≢false (sym e ∙ o.chain (items at) (items i) (items least) h (is.none i less)));
-  }
+-- none of the first `count` items comes before this one, and it comes before those that precede it
+pub record IsLeast {A : Type 0} (before : A → A → Bool) (items : ℕ → A) (count least : ℕ) : Type 0 where
+  pub within : least < count
+  pub none : (i : ℕ) → i < count → before (items i) (items least) ≡ false
+  pub first : (i : ℕ) → i < least → before (items least) (items i) ≡ true
 
 -- ---- lists one after another
 

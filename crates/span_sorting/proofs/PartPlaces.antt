@@ -1,8 +1,8 @@
 -- Lists one after another.
-use Rattle.std.proofs.Common.{◌≡◌, sym, ap, subst, ◌∙◌, ℕ, ◌+◌, ◌<◌, ◌≤◌, List, [], ◌∷◌, ◌++◌, length, get_or, take}
+use Rattle.std.proofs.Common.{◌≡◌, sym, ap, subst, ◌∙◌, ℕ, ◌+◌, ◌<◌, List, [], ◌∷◌, ◌++◌, length, get_or, take}
 use denote.Ref.{Bor}
 use Rattle.std.proofs.lemmas.Grind.{flat_map-append}
-use Rattle.std.proofs.lemmas.List.{append-nil, get_or-map, length-map, take_more, take_all}
+use Rattle.std.proofs.lemmas.List.{append-nil, get_or-map, length-map, take_more}
 use Rattle.span_query.specs.Rows.{Row}
 use Rattle.span_sorting.specs.PartPlaces.{joined, lists}
 
@@ -17,6 +17,3 @@ joined_more parts i within =
     ap joined (take_more parts i [] within)
     ∙ flat_map-append (λ (part : List Row). part) (take i parts) (get_or parts i [] ∷ [])
     ∙ ap (λ (l : List Row). joined (take i parts) ++ l) (append-nil (get_or parts i []))
-
-pub joined_all : (parts : List (List Row)) (i : ℕ) → length parts ≤ i → joined (take i parts) ≡ joined parts
-joined_all parts i past = ap joined (take_all i parts past)

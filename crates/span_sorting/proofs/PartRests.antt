@@ -20,12 +20,12 @@ use Rattle.span_rows.specs.RowPlaces.{rows_at}
 use Rattle.span_sorting.specs.declared.coded.CodedRow.{CodedRow}
 use Rattle.span_sorting.specs.declared.parts.PartRest.{PartRest}
 use Rattle.span_sorting.specs.declared.placed.CodedPlace.{CodedPlace}
-use Rattle.span_sorting.specs.Orders.{IsLeast, IsSorted}
+use Rattle.span_sorting.specs.Orders.{IsSorted}
 use Rattle.span_sorting.specs.PartPlaces.{joined}
-use Rattle.span_sorting.specs.PartRests.{IsFirstTaken, IsNextOf, IsRest, front, front_at, lists_of_rests, rest_rows, row_before, rows_of_rests}
+use Rattle.span_sorting.specs.PartRests.{IsFirstTaken, IsNextOf, IsRest, front_at, lists_of_rests, rest_rows, row_before, rows_of_rests}
 use Rattle.span_sorting.specs.PlacesInOrder.{ArePlacesBy, IsCodedPlace, without_codes}
 use Rattle.span_sorting.proofs.CodedRows.{order_agrees}
-use Rattle.span_sorting.proofs.Merging.{first_ranked, least_taken, none_left}
+use Rattle.span_sorting.proofs.Merging.{IsLeast, first_ranked, least_taken, none_left}
 use Rattle.span_sorting.proofs.Placing.{lent_coded, places_weaker}
 use Rattle.span_sorting.proofs.RowOrder.{rows_ranked}
 use Rattle.span_sorting.proofs.Sorting.{is_in_order}
@@ -35,9 +35,6 @@ use Rattle.span_sorting.proofs.Sorting.{is_in_order}
 pub front_is : (rows : List Row) (places : List CodedPlace) (p : CodedPlace) → slice_get places 0 ≡ Some p → slice_get (rows_at rows (without_codes places)) 0 ≡ Some (get_or rows p.place [])
 front_is rows [] p e = cc
 front_is rows (x ∷ places) p e = let same : x ≡ p = cc in ap (λ (y : CodedPlace). Some (get_or rows y.place [])) same
-
-pub front_found : (rests : List PartRest) (i : ℕ) (r : PartRest) → i < length rests → r ≡ get_or rests i r → front_at (rows_of_rests rests) i ≡ front r
-front_found rests i r within is = ap (λ (l : List Row). slice_get l 0) (get_or-map rest_rows rests i r [] within ∙ ap rest_rows (sym is))
 
 pub fronts_ranked : (keys : List SortKey) → IsStrictWeakOrder (row_before keys)
 fronts_ranked keys = first_ranked (comes_before keys) (rows_ranked keys)

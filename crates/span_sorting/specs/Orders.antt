@@ -23,12 +23,6 @@ is_first before None y = false
 is_first before (Some x) None = true
 is_first before (Some x) (Some y) = before x y
 
--- none of the first `count` items comes before this one, and it comes before those that precede it
-pub record IsLeast {A : Type 0} (before : A → A → Bool) (items : ℕ → A) (count least : ℕ) : Type 0 where
-  pub within : least < count
-  pub none : (i : ℕ) → i < count → before (items i) (items least) ≡ false
-  pub first : (i : ℕ) → i < least → before (items least) (items i) ≡ true
-
 -- of items by their places, where those that tie keep their order
 abbrev pub item_before : {A : Type 0} → (A → A → Bool) → (ℕ → A) → ℕ → ℕ → Bool
 item_before before items i j = if nat_lt i j then not (before (items j) (items i)) else before (items i) (items j)
