@@ -48,8 +48,13 @@ differ a b o apart = elim (nat_lt a b) as (λ t. nat_lt a b ≡ t → is_lt (or_
 ] refl
 
 module _ (keys : List SortKey) (exact : Bool) (rows others : List Row) (p q : CodedPlace) (f : IsCodedPlace rows keys exact p) (g : IsCodedPlace others keys exact q) where
-  by_codes : is_lt (or_next (nat_cmp p.first q.first) (or_next (nat_cmp p.second q.second) (cond exact Equal (row_order keys (get_or rows p.place []) (get_or others q.place [])))))
-      ≡ comes_before keys (get_or rows p.place []) (get_or others q.place [])
+  abbrev by_keys : Ordering
+  by_keys = row_order keys (get_or rows p.place []) (get_or others q.place [])
+
+  abbrev by_second : Ordering
+  by_second = or_next (nat_cmp p.second q.second) (cond exact Equal by_keys)
+
+  by_codes : is_lt (or_next (nat_cmp p.first q.first) by_second) ≡ is_lt by_keys
   by_codes =
       let x : CodedRow = record { row = record { ref_ptr = (0, 0); now = get_or rows p.place [] }; first = p.first; second = p.second } in
       let y : CodedRow = record { row = record { ref_ptr = (0, 0); now = get_or others q.place [] }; first = q.first; second = q.second } in
@@ -57,20 +62,19 @@ module _ (keys : List SortKey) (exact : Bool) (rows others : List Row) (p q : Co
 
   -- where the codes at the first key differ, those at the second, or none
   pub first_codes_differ : p.first ≢ q.first → nat_lt p.first q.first ≡ comes_before keys (get_or rows p.place []) (get_or others q.place [])
-  first_codes_differ apart = sym (differ p.first q.first _ apart) ∙ by_codes
+  first_codes_differ apart = sym (differ p.first q.first by_second apart) ∙ by_codes
+
+  first_codes_tie : p.first ≡ q.first → is_lt by_second ≡ is_lt by_keys
+  first_codes_tie same = ap (λ (o : Ordering). is_lt (or_next o by_second)) (sym (number_equal p.first q.first same)) ∙ by_codes
 
   pub second_codes_differ : p.first ≡ q.first → p.second ≢ q.second → nat_lt p.second q.second ≡ comes_before keys (get_or rows p.place []) (get_or others q.place [])
-  second_codes_differ same apart =
-      sym (differ p.second q.second _ apart)
-      ∙ ap (λ (n : Ordering). is_lt (or_next n (or_next (nat_cmp p.second q.second) (cond exact Equal (row_order keys (get_or rows p.place []) (get_or others q.place [])))))) (sym (number_equal p.first q.first same))
-      ∙ by_codes
+  second_codes_differ same apart = sym (differ p.second q.second (cond exact Equal by_keys) apart) ∙ first_codes_tie same
 
   pub codes_tie : p.first ≡ q.first → p.second ≡ q.second → exact ≡ true → false ≡ comes_before keys (get_or rows p.place []) (get_or others q.place [])
   codes_tie same second ties =
-      ap (λ (b : Bool). is_lt (cond b Equal (row_order keys (get_or rows p.place []) (get_or others q.place [])))) (sym ties)
-      ∙ ap (λ (n : Ordering). is_lt (or_next n (cond exact Equal (row_order keys (get_or rows p.place []) (get_or others q.place []))))) (sym (number_equal p.second q.second second))
-      ∙ ap (λ (n : Ordering). is_lt (or_next n (or_next (nat_cmp p.second q.second) (cond exact Equal (row_order keys (get_or rows p.place []) (get_or others q.place [])))))) (sym (number_equal p.first q.first same))
-      ∙ by_codes
+      ap (λ (b : Bool). is_lt (cond b Equal by_keys)) (sym ties)
+      ∙ ap (λ (o : Ordering). is_lt (or_next o (cond exact Equal by_keys))) (sym (number_equal p.second q.second second))
+      ∙ first_codes_tie same
 
 -- ---- rows that are left
 
