@@ -17,13 +17,13 @@ take_first (Some count) xs = take count xs
 abbrev pub GoesBefore : {A : Type 0} → (A → A → Bool) → A → List A → ℕ → Type 0
 GoesBefore before x xs at = insert_sorted before x xs ≡ take at xs ++ x ∷ drop at xs
 
--- whether an item is there and comes before another one, if there is such a one
-abbrev pub is_first : {A : Type 0} → (A → A → Bool) → Option A → Option A → Bool
-is_first before None y = false
-is_first before (Some x) None = true
-is_first before (Some x) (Some y) = before x y
+-- the order of items that may be missing: a missing one comes after all others
+abbrev pub option_before : {A : Type 0} → (A → A → Bool) → Option A → Option A → Bool
+option_before before None y = false
+option_before before (Some x) None = true
+option_before before (Some x) (Some y) = before x y
 
--- of items by their places, where those that tie keep their order
+-- the order of places of items: by the items, and where these tie, by the places
 abbrev pub item_before : {A : Type 0} → (A → A → Bool) → (ℕ → A) → ℕ → ℕ → Bool
 item_before before items i j = if nat_lt i j then not (before (items j) (items i)) else before (items i) (items j)
 
@@ -36,7 +36,7 @@ abbrev pub IsStrictlySorted : {A : Type 0} → (A → A → Bool) → List A →
 IsStrictlySorted before [] = Unit {0}
 IsStrictlySorted before (x ∷ xs) = AllByRecursion (λ y. before x y ≡ true) xs × IsStrictlySorted before xs
 
--- the numbers below `count` in order
+-- the numbers below `count`, and these alone, each before those that follow it
 pub record IsOrderBelow (count : ℕ) (before : ℕ → ℕ → Bool) (order : List ℕ) : Type 0 where
   pub within : AllByRecursion (λ i. i < count) order
   pub whole : (i : ℕ) → i < count → IsIn i order

@@ -9,7 +9,7 @@ use Rattle.span_sorting.specs.declared.parts.PartPlace.{PartPlace}
 use Rattle.span_sorting.specs.declared.parts.PartRest.{PartRest}
 use Rattle.span_sorting.specs.declared.parts.PartRests.{PartRests}
 use Rattle.span_sorting.specs.declared.placed.CodedPlace.{CodedPlace}
-use Rattle.span_sorting.specs.Orders.{IsOrderBelow, IsSorted, is_first, item_before}
+use Rattle.span_sorting.specs.Orders.{IsOrderBelow, IsSorted, option_before, item_before}
 use Rattle.span_sorting.specs.PartPlaces.{IsPlaceIn, joined, row_in}
 use Rattle.span_sorting.specs.PlacesInOrder.{IsCodedPlace, without_codes}
 
@@ -29,7 +29,7 @@ abbrev pub front : PartRest → Option Row
 front r = slice_get (rest_rows r) 0
 
 abbrev pub row_before : List SortKey → Option Row → Option Row → Bool
-row_before keys r s = is_first (comes_before keys) r s
+row_before keys r s = option_before (comes_before keys) r s
 
 -- the places have the codes of the rows there, and these are in the order of the keys
 pub record IsRest (keys : List SortKey) (exact : Bool) (r : PartRest) : Type 0 where
