@@ -26,9 +26,10 @@ AreAmong ks keys = AllByRecursion (λ (k : Row). contains_row ks k ≡ true) key
 
 itself_among : (ks : List Row) → AreAmong ks ks
 itself_among [] = tt
-itself_among (x ∷ ks) =
-    (ap (λ b. b || contains_row ks x) (are_equal-itself x),
-      all_more (λ (k : Row). contains_row ks k ≡ true) (λ (k : Row). contains_row (x ∷ ks) k ≡ true) (λ k known. or_right (are_equal x k) (contains_row ks k) known) ks (itself_among ks))
+itself_among (x ∷ ks) = (
+  ap (λ b. b || contains_row ks x) (are_equal-itself x),
+  all_more (λ (k : Row). contains_row ks k ≡ true) (λ (k : Row). contains_row (x ∷ ks) k ≡ true) (λ k known. or_right (are_equal x k) (contains_row ks k) known) ks (itself_among ks),
+)
 
 pub distinct_among : (ks : List Row) → AreAmong ks (distinct ks)
 distinct_among ks =

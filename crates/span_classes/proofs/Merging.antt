@@ -1,9 +1,9 @@
 -- Lists of numbers put together: the least of those that are next is the next of all.
-use Rattle.std.proofs.Common.{◌≡◌, ◌≢◌, ◌⊎◌, ℕ, ◌+◌, ◌<◌, ◌≤◌, ◌==◌, zero, suc, Bool, true, false, cond, List, [], ◌∷◌, ◌++◌, length, get_or, set, map, drop, Option, Some, None, refl, sym, ap, ◌∙◌, subst, inl, inr, arith}
+use Rattle.std.proofs.Common.{◌≡◌, ◌≢◌, ◌⊎◌, ℕ, ◌+◌, ◌<◌, ◌≤◌, ◌==◌, zero, suc, Bool, true, false, cond, List, [], ◌∷◌, ◌++◌, length, get_or, set, map, drop, replicate, Option, Some, None, refl, sym, ap, ◌∙◌, subst, inl, inr, arith}
 use Rattle.std.specs.List.{AllByRecursion, filter}
 use Rattle.std.specs.Option.{MatchOption}
 use Rattle.std.proofs.lemmas.Bool.{cases_eq, eqb-true, eq-eqb}
-use Rattle.std.proofs.lemmas.List.{map-append, append_assoc, append-nil, get_or-set_same, get_or-set_other, length-set}
+use Rattle.std.proofs.lemmas.List.{map-append, append_assoc, append-nil, get_or-set_same, get_or-set_other, length-replicate, length-set}
 use Rattle.std.proofs.lemmas.Option.{same_Some}
 use Rattle.span_sorting.specs.declared.parts.PartPlace.{PartPlace}
 use Rattle.span_classes.specs.declared.merge.Head.{Head}
@@ -11,11 +11,10 @@ use Rattle.span_classes.specs.Merging.{list_at, number_in, numbers_in, IsNumberI
 
 -- ---- lists from a place on
 
-drop_all : {X : Type 0} (n : ℕ) (xs : List X) → length xs ≤ n → drop n xs ≡ []
-drop_all zero [] e = refl
-drop_all zero (x ∷ xs) e = absurd (omega arith)
-drop_all (suc n) [] e = refl
-drop_all (suc n) (x ∷ xs) e = drop_all n xs (omega arith)
+pub any_default : {X : Type 0} (xs : List X) (i : ℕ) (d e : X) → i < length xs → get_or xs i d ≡ get_or xs i e
+any_default [] i d e less = absurd (omega arith)
+any_default (x ∷ xs) zero d e less = refl
+any_default (x ∷ xs) (suc i) d e less = any_default xs i d e (omega arith)
 
 -- what a list has from a place on begins with the item there
 record BeginsAt {X : Type 0} (n : ℕ) (xs : List X) (d x : X) (ys : List X) : Type 0 where
@@ -155,6 +154,16 @@ merged_none lists taken counted none = record {
   };
 }
 
+zeros : (n part : ℕ) → get_or (replicate n zero) part zero ≡ zero
+zeros zero part = refl
+zeros (suc n) zero = refl
+zeros (suc n) (suc part) = zeros n part
+
+pub merged_start : (lists : List (List ℕ)) (n : ℕ) (taken : List ℕ) (places : List PartPlace) → n ≡ length lists → taken ≡ replicate n zero → places ≡ [] → AreMergedTo lists taken places
+merged_start lists n taken places many none empty =
+    subst (λ (l : List PartPlace). AreMergedTo lists taken l) (sym empty)
+    (merged_none lists taken (ap (λ (l : List ℕ). length l) none ∙ length-replicate n zero ∙ many) (λ part. ap (λ (l : List ℕ). get_or l part zero) none ∙ zeros n part))
+
 all_added : {X : Type 0} (P : X → Type 0) (xs : List X) (x : X) → AllByRecursion P xs → P x → AllByRecursion P (xs ++ x ∷ [])
 all_added P [] x all its = (its, tt)
 all_added P (y ∷ xs) x all its = (all.0, all_added P xs x all.1 its)
@@ -216,10 +225,10 @@ module _ (lists : List (List ℕ)) (taken : List ℕ) (part : ℕ) (within : par
     | inl same ↦ subst (λ (q : ℕ). length (list_at lists q) ≤ taken_at taken q) (sym same) none
     | inr other ↦ before p (omega (arith, less, other))
   ]
-  least_more None None (Some h) before none is = absurd (elim is.is [ | inl e ↦ cc | inr e ↦ cc ])
+  least_more None None (Some h) before none is = absurd (elim is.is [ inl e ↦ cc | inr e ↦ cc ])
   least_more None (Some n) None before next is = absurd (let clash : Some n ≡ None = is.1 in cc)
   least_more None (Some n) (Some h) before next is =
-      let same : n ≡ h = elim is.is [ | inl e ↦ absurd cc | inr e ↦ same_Some n h e ] in
+      let same : n ≡ h = elim is.is [ inl e ↦ absurd cc | inr e ↦ same_Some n h e ] in
       record {
         is = subst (λ (x : Head). IsHead lists taken x) same (as_head n next);
         least = λ p less left. elim (cases_eq p part) [
@@ -229,7 +238,7 @@ module _ (lists : List (List ℕ)) (taken : List ℕ) (part : ℕ) (within : par
       }
   least_more (Some l) next None before after is = absurd (let clash : Some l ≡ None = is.0 in cc)
   least_more (Some l) None (Some h) before none is =
-      let same : l ≡ h = elim is.is [ | inl e ↦ same_Some l h e | inr e ↦ absurd cc ] in
+      let same : l ≡ h = elim is.is [ inl e ↦ same_Some l h e | inr e ↦ absurd cc ] in
       record {
         is = subst (λ (x : Head). IsHead lists taken x) same before.is;
         least = λ p less left. elim (cases_eq p part) [

@@ -1,23 +1,30 @@
 -- One more row for the groups of a class.
-use Rattle.std.proofs.Common.{◌≡◌, ℕ, ◌<◌, Bool, true, false, cond, not, List, [], ◌∷◌, ◌++◌, length, map, refl, sym, ap, ◌∙◌, subst, arith}
-use Rattle.std.specs.List.{filter}
-use Rattle.std.proofs.lemmas.List.{map-append, append-nil, length-map}
+use Rattle.std.proofs.Common.{◌≡◌, ℕ, ◌+◌, ◌*◌, ◌^◌, ◌<◌, ◌≤◌, suc, Bool, true, false, cond, not, List, [], ◌∷◌, ◌++◌, length, get_or, map, take, drop, Err, None, refl, sym, ap, ◌∙◌, subst, arith}
+use Rattle.std.specs.List.{Any, filter}
+use denote.Ref.{Bor}
+use Rattle.std.proofs.lemmas.List.{map-append, append-nil, get_or-map, length-map, length-take-le, take-append-drop, take_all, take_more}
 use Rattle.std.proofs.lemmas.List.Elements.{filter-append}
+use Rattle.span_value.proofs.Lists.{drop_read}
+use Rattle.span_expr.specs.declared.cell.Failure.{Failure}
+use Rattle.span_expr.specs.declared.cell.Failure.TheVariants as failure
 use Rattle.span_query.specs.declared.query.Grouping.{Grouping}
 use Rattle.span_query.specs.Rows.{Row}
-use Rattle.span_query.specs.Groups.{columns_at, distinct, group_keys}
+use Rattle.span_query.specs.Groups.{columns_at, distinct, group_keys, groups}
+use Rattle.span_rows.specs.Answers.{Gives}
 use Rattle.span_rows.specs.Keys.{contains_row, place_of, with_new}
 use Rattle.span_rows.specs.LentRows.{lent_rows}
 use Rattle.span_rows.proofs.Places.{contains_row-distinct}
 use Rattle.span_groups.specs.declared.aggregate.AggregateState.{AggregateState}
 use Rattle.span_groups.specs.declared.lent.LentGroups.{LentGroups}
-use Rattle.span_groups.specs.GroupStates.{AreGroupLists, HaveKeys, keys_at}
+use Rattle.span_groups.specs.GroupStates.{AreGroupLists, CanCountRow, HaveKeys, keys_at}
+use Rattle.span_groups.specs.States.{operand_at}
 use Rattle.span_groups.proofs.GroupSteps.{firsts_by, known_of, new_of}
+use Rattle.span_groups.proofs.KeptGroups.{part_fails}
 use Rattle.span_groups.proofs.StateLists.{keys_in}
 use Rattle.span_classes.specs.declared.class.Class.{Class}
 use Rattle.span_classes.specs.Classes.{first_places, is_in_class, rows_of_class, HaveTaken}
 use Rattle.span_classes.proofs.Firsts.{place_first}
-use Rattle.span_classes.proofs.Keys.{contains-kind, keys_of_kind}
+use Rattle.span_classes.proofs.Keys.{contains-kind, groups-none, keys_of_kind}
 
 pub distinct_keys : (places : List ℕ) (rows : List Row) → 0 < length places → group_keys places rows ≡ distinct (keys_at places rows)
 distinct_keys [] rows keyed = absurd (omega arith)
@@ -88,3 +95,57 @@ module _ (g : Grouping) (class : Class) (keyed : 0 < length g.keys) (taken rest 
       keyed = firsts_by g b (lent_rows old.firsts.items) (lent_rows now.firsts.items) keys new row is added more same h.keyed;
       placed = placed_by b firsts later old.states.items h.are added longer as_long h.placed;
     }
+
+-- ---- a row of all rows
+
+filter_most : {X : Type 0} (p : X → Bool) (xs : List X) → length (filter p xs) ≤ length xs
+filter_most p [] = omega arith
+filter_most p (x ∷ xs) = elim (p x) as (λ b. length (cond b (x ∷ filter p xs) (filter p xs)) ≤ suc (length xs)) [
+  | true ↦ omega (arith, filter_most p xs)
+  | false ↦ omega (arith, filter_most p xs)
+]
+
+pub can_count : (g : Grouping) (class : Class) (taken keys : List Row) (states : List AggregateState) → AreGroupLists g (rows_of_class g.keys class taken) keys states → length taken + 1 < 2 ^ 64 → CanCountRow g keys states
+can_count g class taken keys states are few = record {
+  rows = rows_of_class g.keys class taken;
+  are = are;
+  few = omega (arith, few, filter_most (λ (r : Row). is_in_class class (columns_at g.keys r)) taken);
+}
+
+pub row_split : (rows : List (Bor Row)) (at : ℕ) (x : Bor Row) → at < length rows → x ≡ get_or rows at x → lent_rows rows ≡ take at (lent_rows rows) ++ x.now ∷ drop (at + 1) (lent_rows rows)
+row_split rows at x within is =
+    let inside : at < length (lent_rows rows) = omega (arith, within, length-map rows (λ (r : Bor Row). r.now)) in
+    let there : x.now ≡ get_or (lent_rows rows) at x.now = sym (get_or-map (λ (r : Bor Row). r.now) rows at x x.now within ∙ ap (λ (r : Bor Row). r.now) (sym is)) in
+    sym (take-append-drop at (lent_rows rows)) ∙ ap (λ (l : List Row). take at (lent_rows rows) ++ l) (drop_read (lent_rows rows) at x.now inside there)
+
+pub row_next : (rows : List (Bor Row)) (at : ℕ) (x : Bor Row) → at < length rows → x ≡ get_or rows at x → take (at + 1) (lent_rows rows) ≡ take at (lent_rows rows) ++ x.now ∷ []
+row_next rows at x within is =
+    take_more (lent_rows rows) at x.now (omega (arith, within, length-map rows (λ (r : Bor Row). r.now)))
+    ∙ ap (λ (r : Row). take at (lent_rows rows) ++ r ∷ []) (get_or-map (λ (r : Bor Row). r.now) rows at x x.now within ∙ ap (λ (r : Bor Row). r.now) (sym is))
+
+pub before_length : (rows : List (Bor Row)) (at : ℕ) → at ≤ length rows → length (take at (lent_rows rows)) ≡ at
+before_length rows at within = length-take-le at (lent_rows rows) (omega (arith, within, length-map rows (λ (r : Bor Row). r.now)))
+
+pub row_fails : (g : Grouping) (before after all : List Row) (row : Row) (why : Failure) → all ≡ before ++ row ∷ after → (why ≡ failure.Fault → Any (λ a. operand_at row a ≡ None) g.aggregates) → Gives {A = List Row} (Err why) (groups g all)
+row_fails g before after all row why is any = part_fails g before (row ∷ []) after all why is (λ e. (0, row, omega arith, refl, any e))
+
+-- ---- all rows
+
+pub taken_all : (g : Grouping) (class : Class) (rows : List (Bor Row)) (at : ℕ) (keys : List Row) (made : LentGroups) (firsts : List ℕ) → length rows ≤ at → HaveTaken g class (lent_rows rows) (take at (lent_rows rows)) keys made firsts
+    → HaveTaken g class (lent_rows rows) (lent_rows rows) keys made firsts
+taken_all g class rows at keys made firsts past h =
+    subst (λ (l : List Row). HaveTaken g class (lent_rows rows) l keys made firsts) (take_all at (lent_rows rows) (omega (arith, past, length-map rows (λ (r : Bor Row). r.now)))) h
+
+module _ (g : Grouping) (class : Class) (keyed : 0 < length g.keys) (all keys : List Row) (made : LentGroups) (firsts : List ℕ) (h : HaveTaken g class all all keys made firsts) where
+  pub keys_are : keys ≡ group_keys g.keys (rows_of_class g.keys class all)
+  keys_are = sym (keys_in (length g.aggregates) keys made.states.items) ∙ h.are.are.keyed
+
+  pub lists_are : AreGroupLists g (rows_of_class g.keys class all) (keys_at g.keys (lent_rows made.firsts.items)) made.states.items
+  lists_are = subst (λ (l : List Row). AreGroupLists g (rows_of_class g.keys class all) l made.states.items) (sym h.keyed) h.are
+
+  pub placed_are : firsts ≡ first_places g.keys all (group_keys g.keys (rows_of_class g.keys class all))
+  placed_are = h.placed ∙ ap (first_places g.keys all) keys_are
+
+  pub class_fails : (why : Failure) → Gives {A = List Row} (Err why) (groups g (rows_of_class g.keys class all)) → Gives {A = List Row} (Err why) (groups g all)
+  class_fails failure.Fault none = groups-none g (is_in_class class) all keyed none
+  class_fails failure.OutOfMemory none = tt {0}

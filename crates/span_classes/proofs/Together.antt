@@ -1,8 +1,9 @@
 -- The groups of all classes, in the order of their first rows, are the groups of all rows.
-use Rattle.std.proofs.Common.{◌≡◌, ℕ, ◌<◌, ◌==◌, zero, suc, Bool, true, List, [], ◌∷◌, length, get_or, map, Some, refl, sym, ap, ◌∙◌, subst, arith}
+use Rattle.std.proofs.Common.{◌≡◌, ◌↔◌, IsTrue, ℕ, ◌<◌, ◌==◌, zero, suc, Bool, true, false, List, [], ◌∷◌, length, get_or, map, Ok, Result, Some, refl, sym, ap, ◌∙◌, subst, arith}
 use Rattle.std.specs.List.{AllByRecursion, filter}
 use Rattle.std.proofs.lemmas.List.{get_or-map, length-map}
 use Rattle.std.proofs.lemmas.Nat.{mod_below}
+use Rattle.span_expr.specs.declared.cell.Failure.{Failure}
 use Rattle.span_query.specs.declared.query.Grouping.{Grouping}
 use Rattle.span_query.specs.Rows.{Row, each}
 use Rattle.span_query.specs.Groups.{distinct, group_keys, group_row, groups}
@@ -11,7 +12,7 @@ use Rattle.span_groups.specs.GroupStates.{keys_at}
 use Rattle.span_sorting.specs.declared.parts.PartPlace.{PartPlace}
 use Rattle.span_sorting.specs.PartPlaces.{IsPlaceIn, row_in, rows_in}
 use Rattle.span_classes.specs.declared.class_groups.ClassGroups.{ClassGroups}
-use Rattle.span_classes.specs.Classes.{AreAllClasses, AreGroupsOfClass, class_at, class_of, first_places, is_in_class, rows_of, rows_of_class}
+use Rattle.span_classes.specs.Classes.{AreAllClasses, AreGroupsOfClass, AreMade, IsMade, class_at, class_of, first_places, is_in_class, rows_of, rows_of_class}
 use Rattle.span_classes.specs.Merging.{AreMerged, AreParted, IsAscending, IsNumberIn, firsts_of, list_at, number_in, numbers_in, of_class}
 use Rattle.span_classes.proofs.Firsts.{AreAmong, all_kept, distinct_among, key_found, places_ascend, places_of_class}
 use Rattle.span_classes.proofs.Keys.{all_more, each-get, each-length, each-map, each-same, each_alike, groups_of_kind, keys_of_kind}
@@ -21,13 +22,17 @@ pub class_few : (count : ℕ) (key : Row) → 0 < count → class_of count key <
 unfolding class_of
 class_few count key some = mod_below _ count some
 
+pub not_empty : {X : Type 0} (xs : List X) (b : Bool) → IsTrue b ↔ (xs ≡ []) → b ≡ false → 0 < length xs
+not_empty [] b is none = absurd (let clash : true ≡ false = sym (is.1 refl) ∙ none in cc)
+not_empty (x ∷ xs) b is none = omega arith
+
 -- ---- items at places
 
-record HasAt {X : Type 0} (xs : List X) (i : ℕ) : Type 0 where
-  item : X
-  is : (d : X) → get_or xs i d ≡ item
+pub record HasAt {X : Type 0} (xs : List X) (i : ℕ) : Type 0 where
+  pub item : X
+  pub is : (d : X) → get_or xs i d ≡ item
 
-has_at : {X : Type 0} (xs : List X) (i : ℕ) → i < length xs → HasAt xs i
+pub has_at : {X : Type 0} (xs : List X) (i : ℕ) → i < length xs → HasAt xs i
 has_at [] i less = absurd (omega arith)
 has_at (x ∷ xs) zero less = record { item = x; is = λ d. refl }
 has_at (x ∷ xs) (suc i) less = let rec = has_at xs i (omega arith) in record { item = rec.item; is = rec.is }
@@ -40,6 +45,19 @@ all_at P (x ∷ xs) (suc i) d all less = all_at P xs i d all.1 (omega arith)
 all_of : {X : Type 0} (P : X → Type 0) (xs : List X) → ((x : X) → P x) → AllByRecursion P xs
 all_of P [] each = tt
 all_of P (x ∷ xs) each = (each x, all_of P xs each)
+
+-- what was made of each class, where nothing failed
+pub classes_made : (g : Grouping) (rows : List Row) (made : List (Result ClassGroups Failure)) (classes : List ClassGroups) → made ≡ map (λ (x : ClassGroups). Ok x) classes
+    → AreMade g rows (length made) made → AreAllClasses g rows (length made) classes
+classes_made g rows made classes is all =
+    let counted : length classes ≡ length made = sym (ap (λ (l : List (Result ClassGroups Failure)). length l) is ∙ length-map classes (λ (x : ClassGroups). Ok x)) in
+    record {
+      counted = counted;
+      each = λ number d within.
+          subst (IsMade g rows (length made) number)
+          (ap (λ (l : List (Result ClassGroups Failure)). get_or l number (Ok d)) is ∙ get_or-map (λ (x : ClassGroups). Ok x) classes number d (Ok d) (omega (arith, within, counted)))
+          (all.each number (Ok d) within);
+    }
 
 module _ (g : Grouping) (rows : List Row) (count : ℕ) (classes : List ClassGroups) (keyed : 0 < length g.keys) (some : 0 < count) (made : AreAllClasses g rows count classes) where
   abbrev ks : List Row
@@ -76,13 +94,13 @@ module _ (g : Grouping) (rows : List Row) (count : ℕ) (classes : List ClassGro
     firsts_there =
         get_or-map (λ (x : ClassGroups). x.firsts.items) classes part class_there.item [] there
         ∙ ap (λ (x : ClassGroups). x.firsts.items) (class_there.is class_there.item)
-        ∙ its.firsts
+        ∙ its.placed
         ∙ ap (map (place_of ks)) (keys_of_kind g.keys (is_in_class (class_at count part)) rows keyed)
 
     rows_there : each (group_row g rows) (own_keys part) ≡ Some (get_or (rows_of classes) part [])
     rows_there =
         sym (groups_of_kind g (is_in_class (class_at count part)) rows keyed)
-        ∙ its.rows
+        ∙ its.are
         ∙ ap (λ (l : List Row). Some l) (sym (get_or-map (λ (x : ClassGroups). x.rows) classes part class_there.item [] there ∙ ap (λ (x : ClassGroups). x.rows) (class_there.is class_there.item)))
 
     pub numbers_there : list_at (firsts_of classes) part ≡ of_class of_number part (first_places g.keys rows keys)

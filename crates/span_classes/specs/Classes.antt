@@ -16,7 +16,7 @@ use Rattle.span_classes.specs.declared.class.Class.{Class}
 use Rattle.span_classes.specs.declared.class_groups.ClassGroups.{ClassGroups}
 
 -- the number of the class of a key, where there are `count` classes
-pub class_of : ℕ → Row → ℕ
+unfoldable pub class_of : ℕ → Row → ℕ
 class_of count key = folding.finish (fold folding.write folding.initial (row_writes key)) / 2 ^ 32 % count
 
 abbrev pub is_in_class : Class → Row → Bool
@@ -38,8 +38,8 @@ pub record HaveTaken (g : Grouping) (class : Class) (all taken keys : List Row) 
 
 -- the groups of the rows whose keys are in a class
 pub record AreGroupsOfClass (g : Grouping) (class : Class) (rows : List Row) (made : ClassGroups) : Type 0 where
-  pub rows : groups g (rows_of_class g.keys class rows) ≡ Some made.rows
-  pub firsts : made.firsts.items ≡ first_places g.keys rows (group_keys g.keys (rows_of_class g.keys class rows))
+  pub are : groups g (rows_of_class g.keys class rows) ≡ Some made.rows
+  pub placed : made.firsts.items ≡ first_places g.keys rows (group_keys g.keys (rows_of_class g.keys class rows))
 
 abbrev pub class_at : ℕ → ℕ → Class
 class_at count number = record { number = number; count = count }

@@ -22,6 +22,6 @@ pub(crate) fn is_in_class(class: Class, row: &[Value], places: &[usize]) -> bool
 {
     let mut hasher = FoldHasher::default();
     LentKey::new(row, places).hash(&mut hasher);
-    // An index of keys takes the low bits of the same hash.
+    // The upper half: an index of keys goes by both, so that the lower half tells the keys of a class apart.
     (hasher.finish() >> 32) % class.count as u64 == class.number as u64
 }

@@ -41,6 +41,7 @@ fn take_if_in_class<'a>(
     row: &'a [Value],
 ) -> Result<(), Failure>
     requires class { 0 < class.count }
+    requires keyed { 0 < length grouping.now.keys }
     requires few { CanCountRow grouping.now index.old.keys groups.old.states.items }
     ensures ok { OnOk result
         ((taken rest : List Row)

@@ -1,7 +1,7 @@
 //! The groups of all classes in the order of their first rows: at each step the least of the places of first rows is taken that are next of
 //! their class.
-ghost use Rattle.std.specs.Prelude.{◌≡◌, ◌≤◌, ◌<◌, IfOk, List, MatchOption, length, replicate, slice_index_or};
-ghost use Rattle.span_classes.specs.Merging.{AreMerged, IsLeast, IsLesser, firsts_of};
+ghost use Rattle.std.specs.Prelude.{◌≡◌, ◌≤◌, ◌<◌, IfOk, List, MatchOption, Some, length, replicate, slice_index_or};
+ghost use Rattle.span_classes.specs.Merging.{AreMerged, IsLeast, IsLesser, IsLesserOf, firsts_of};
 
 use super::class_groups::ClassGroups;
 use span_sorting::parts::PartPlace;
@@ -28,13 +28,20 @@ fn head_of(class: &ClassGroups, part: usize, taken: usize) -> Option<Head>
 }
 
 /// The one of two with the lesser place.
-fn lesser(head: Option<Head>, next: Option<Head>) -> Option<Head>
-    ensures { IsLesser head next result }
+fn lesser_of(one: Head, other: Head) -> Head
+    ensures { IsLesserOf (Some one) (Some other) result }
 {
-    match (head, next) {
-        (Some(one), Some(other)) if one.first <= other.first => Some(one),
-        (_, Some(other)) => Some(other),
-        (_, None) => head,
+    if one.first <= other.first { one } else { other }
+}
+
+/// The same, where there may be none.
+fn lesser(one: Option<Head>, other: Option<Head>) -> Option<Head>
+    ensures { IsLesser one other result }
+{
+    match (one, other) {
+        (Some(one), Some(other)) => Some(lesser_of(one, other)),
+        (Some(one), None) => Some(one),
+        (None, _) => other,
     }
 }
 
