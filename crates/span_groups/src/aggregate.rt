@@ -204,7 +204,7 @@ fn add_count(count: &mut u64, more: u64) -> bool
 
 /// What is known of an aggregate after some rows.
 #[derive(Debug, Drop)]
-pub(crate) enum AggregateState {
+pub enum AggregateState {
     /// How many rows, or how many values.
     Count(u64),
     Sum(Sum),

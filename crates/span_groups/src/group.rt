@@ -84,7 +84,7 @@ pub(crate) fn group_of<'a>(
 }
 
 /// One more row for the states of its group, which are added where there was none. Whether they were added.
-pub(crate) fn take_row<'a>(
+pub fn take_row<'a>(
     alloc: Global,
     grouping: &'a Grouping,
     index: &mut IndexSet<LentKey<'a>>,
@@ -108,11 +108,7 @@ pub(crate) fn take_row<'a>(
 }
 
 /// Adds an item at the end, where this is wanted.
-pub(crate) fn push_if<T: Copy>(
-    is_wanted: bool,
-    items: &mut Vec<T>,
-    item: T,
-) -> Result<(), AllocError>
+pub fn push_if<T: Copy>(is_wanted: bool, items: &mut Vec<T>, item: T) -> Result<(), AllocError>
     ensures added { is_wanted ≡ true → OnOk result (items.new.items ≡ items.old.items ++ item ∷ []) }
     ensures same { is_wanted ≡ false → items.new.items ≡ items.old.items }
 {
@@ -167,10 +163,7 @@ fn first_groups(alloc: Global, grouping: &Grouping) -> Result<GroupLists, AllocE
 }
 
 /// The index of the groups of no rows.
-pub(crate) fn first_index(
-    alloc: Global,
-    grouping: &Grouping,
-) -> Result<IndexSet<LentKey<'_>>, AllocError>
+pub fn first_index(alloc: Global, grouping: &Grouping) -> Result<IndexSet<LentKey<'_>>, AllocError>
     ensures { IfOk result (λ index. index.keys ≡ spec.group_keys grouping.now.keys []) }
 {
     let places = grouping.keys.as_slice();

@@ -22,18 +22,15 @@ use std::alloc::{AllocError, Global};
 
 /// The groups of rows that are lent, in the order of their first rows.
 #[derive(Drop)]
-pub(crate) struct LentGroups<'a> {
+pub struct LentGroups<'a> {
     /// For each group its first row. Where there are no key columns, that of the one group is one of no values.
-    pub(crate) firsts: Vec<&'a [Value]>,
+    pub firsts: Vec<&'a [Value]>,
     /// For each group the states of all the aggregates.
-    pub(crate) states: Vec<AggregateState>,
+    pub states: Vec<AggregateState>,
 }
 
 /// The groups of no rows: none, or the one group where there are no key columns.
-pub(crate) fn no_lent_groups<'a>(
-    alloc: Global,
-    grouping: &Grouping,
-) -> Result<LentGroups<'a>, AllocError>
+pub fn no_lent_groups<'a>(alloc: Global, grouping: &Grouping) -> Result<LentGroups<'a>, AllocError>
     ensures states { IfOk result
         (λ groups. AreGroupLists grouping.now [] (spec.group_keys grouping.now.keys []) groups.states.items) }
     ensures firsts { IfOk result
@@ -96,7 +93,7 @@ pub(crate) fn take_list<'a>(
 }
 
 /// The row of each of the groups.
-pub(crate) fn rows_of_lent(
+pub fn rows_of_lent(
     alloc: Global,
     grouping: &Grouping,
     groups: &LentGroups<'_>,

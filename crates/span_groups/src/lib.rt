@@ -1,14 +1,14 @@
 //! Groups of rows with their aggregates, of one list or of rows in parts.
 #![tactic(auto)]
 
-mod aggregate;
+pub mod aggregate;
 pub mod collected;
 mod counted;
 mod firsts;
 pub mod group;
 pub mod grouped;
 mod kept_groups;
-mod lent;
+pub mod lent;
 mod many;
 mod merge;
 mod one_group;
@@ -17,4 +17,4 @@ pub mod parts;
 pub mod reduction;
 mod same_grouping;
 mod states;
-mod sum;
+pub mod sum;

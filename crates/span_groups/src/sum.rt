@@ -13,7 +13,7 @@ use span_value::value::Value;
 
 /// An exact sum, and the number of its values: so it stays far inside its 128 bits.
 #[derive(Clone, Copy, Debug)]
-pub(crate) struct Sum {
+pub struct Sum {
     values: u64,
     total: i128,
     ghost bounded: { unsigned_abs total ≤ values * 2 ^ 63 },

@@ -1,0 +1,5 @@
+pub mod Keys
+pub mod Firsts
+pub mod Merging
+pub mod Taking
+pub mod Together

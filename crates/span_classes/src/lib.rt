@@ -1,0 +1,7 @@
+//! The groups of many rows, made by several threads: each makes those whose keys are of one class.
+#![tactic(auto)]
+
+mod class;
+mod class_groups;
+pub mod groups;
+mod merge;
