@@ -72,12 +72,26 @@ fn check_groups<J: Naming + Send + Sync, R: Threads + Wait + Sync>(
     requires { schema.now ≡ J.schema }
 {
     let mut me = me;
-    let clock = SharedClock::new();
-    commit_albums(rt, alloc, db, schema, &clock, &mut me)?;
-    check_workers(rt, alloc, db, &clock, &mut me)
+    check_queries(rt, alloc, db, schema, &mut me)
 }
 
-// A user in each slot, with their albums.
+// The session is lent, so that no failure drops it.
+fn check_queries<J: Naming + Send + Sync, R: Threads + Wait + Sync>(
+    rt: &R,
+    alloc: Global,
+    db: &Db<J>,
+    schema: &Schema,
+    me: &mut Session<J>,
+) -> Result<(), Fail>
+    requires { schema.now ≡ J.schema }
+{
+    let clock = SharedClock::new();
+    commit_albums(rt, alloc, db, schema, &clock, me)?;
+    cut_all(rt, db, me)?;
+    check_workers(rt, alloc, db, &clock, me)
+}
+
+// A user for each slot, with their albums.
 fn commit_albums<J: Naming, R: Wait>(
     rt: &R,
     alloc: Global,
@@ -89,18 +103,27 @@ fn commit_albums<J: Naming, R: Wait>(
     requires { schema.now ≡ J.schema }
 {
     for slot in 0..SLOTS {
-        let uid = i64::from(slot) * 100;
-        if slot > 0 {
-            split(rt, db, me, uid)?;
-        }
         let first = (SLOTS - 1 - slot) * STEP;
-        let albums = insert_with_albums(alloc, schema, uid, first..first + ALBUMS)?;
+        let albums = insert_with_albums(alloc, schema, uid_of(slot), first..first + ALBUMS)?;
         db.commit(rt, clock, me, albums)?;
     }
     Ok(())
 }
 
-// The session is lent, so that no failure drops it.
+// Cuts between the users, the last one first, so that the rows of each are moved once.
+fn cut_all<J: Naming, R: Wait>(rt: &R, db: &Db<J>, me: &Session<J>) -> Result<(), Fail> {
+    for cut in 1..SLOTS {
+        split(rt, db, me, uid_of(SLOTS - cut))?;
+    }
+    Ok(())
+}
+
+// The user of a slot.
+fn uid_of(slot: u32) -> i64 {
+    i64::from(slot) * 100
+}
+
+// The groups, and sums that are too large, by one worker and by eight.
 fn check_workers<J: Naming + Send + Sync, R: Threads + Wait + Sync>(
     rt: &R,
     alloc: Global,
