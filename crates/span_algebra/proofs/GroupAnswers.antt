@@ -1,6 +1,6 @@
 -- A query that answers the groups of a table's rows: each row of a group has a value for each key and each aggregate, so that all its columns in
 -- their order are the row.
-use Rattle.std.proofs.Common.{◌≡◌, ◌∙◌, ℕ, ◌+◌, ◌<◌, ◌==◌, ◌&&◌, Bool, true, false, List, [], ◌∷◌, ◌++◌, Option, Some, None, map, length, get_or, refl, sym, ap, subst, length-append}
+use Rattle.std.proofs.Common.{◌≡◌, ◌∙◌, ℕ, ◌+◌, ◌<◌, ◌&&◌, Bool, true, false, List, [], ◌∷◌, ◌++◌, Option, Some, None, map, length, get_or, refl, sym, ap, subst, length-append}
 use Rattle.std.specs.Prelude.{not}
 use Rattle.std.specs.List.{AllByRecursion}
 use Rattle.std.specs.Option.{option_map}
@@ -27,7 +27,7 @@ use Rattle.span_query.proofs.Results.{append_results-nil, bind-Some}
 use Rattle.span_sorting.specs.Columns.{AreColumns}
 use Rattle.span_sorting.proofs.RowOrder.{sorted_by_none}
 use Rattle.span_groups.proofs.Together.{each-length}
-use Rattle.span_algebra.specs.BlockMeaning.{GroupsTable, project_groups}
+use Rattle.span_algebra.specs.BlockMeaning.{GroupsTable}
 use Rattle.span_algebra.specs.ColumnOrders.{have_width}
 use Rattle.span_algebra.specs.GroupAnswers.{IsOneBlock, TakesGroups}
 use Rattle.span_algebra.proofs.AllValues.{as_they_are}
