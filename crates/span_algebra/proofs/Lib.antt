@@ -6,3 +6,4 @@ pub mod AllValues
 pub mod SameMeaning
 pub mod Reduced
 pub mod TableOrders
+pub mod GroupAnswers

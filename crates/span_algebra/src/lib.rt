@@ -3,6 +3,7 @@
 
 pub mod block;
 pub mod distinct;
+pub mod group_answer;
 pub mod ordered;
 pub mod plain;
 pub mod reduction;

@@ -5,9 +5,11 @@ ghost use Rattle.span_groups.specs.Parts.{all_rows};
 ghost use Rattle.span_gather.specs.Gathered.{joined_pieces, gathered};
 
 use super::in_place::{places_of_rows, rows_in_place};
+use super::in_threads::groups_in_threads;
 use super::rows::Rows;
 use span_algebra::plain::eval_plain;
 use span_algebra::source::Tables;
+use span_expr::cell::Failure;
 use span_fragment::piece::Piece;
 use span_groups::part_rows::PartRows;
 use span_query::query::BoundQuery;
@@ -16,6 +18,7 @@ use span_value::owned::{give_after, keep_with};
 use span_value::refusal::Refusal;
 use span_value::seq::Seq;
 use std::alloc::{AllocError, Global};
+use std::thread::Threads;
 
 /// The rows of pieces, lent; none where one of the pieces is a fault.
 fn lent_parts<'a>(
@@ -75,10 +78,33 @@ pub fn finish(alloc: Global, top: &BoundQuery, leaves: &[Seq<Piece>]) -> Result<
     }
 }
 
+/// The same, where at most this many threads may make the groups of many rows.
+fn finish_in_threads<R: Threads + Sync>(
+    rt: &R,
+    alloc: Global,
+    threads: usize,
+    top: &BoundQuery,
+    leaves: &[Seq<Piece>],
+) -> Result<Rows, Refusal>
+    ensures { MatchResult result
+        (λ rows. gathered leaves.now top.now ≡ Some rows.rows)
+        (λ why. ((why ≡ Refusal.ArithmeticFault) × (gathered leaves.now top.now ≡ None))
+        ⊎ (why ≡ Refusal.OutOfMemory)) }
+{
+    match groups_in_threads(rt, alloc, threads, top, leaves) {
+        Ok(Some(rows)) => Ok(Rows::new(rows)),
+        Ok(None) => finish(alloc, top, leaves),
+        Err(Failure::Fault) => Err(Refusal::ArithmeticFault),
+        Err(Failure::OutOfMemory) => Err(Refusal::OutOfMemory),
+    }
+}
+
 /// The same, where the pieces are given away: rows that a query puts in order and answers as they are stay where they lie in the pieces, and are
 /// not copied.
-pub fn finish_taken(
+pub fn finish_taken<R: Threads + Sync>(
+    rt: &R,
     alloc: Global,
+    threads: usize,
     top: &BoundQuery,
     leaves: Seq<Seq<Piece>>,
 ) -> Result<Rows, Refusal>
@@ -91,7 +117,7 @@ pub fn finish_taken(
     match keep_with(leaves, found)? {
         (leaves, Some(places)) => Ok(Rows::new(rows_in_place(alloc, leaves, places)?)),
         (leaves, None) => {
-            let rows = finish(alloc, top, leaves.as_slice());
+            let rows = finish_in_threads(rt, alloc, threads, top, leaves.as_slice());
             give_after(leaves, rows)
         }
     }

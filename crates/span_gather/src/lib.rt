@@ -5,4 +5,5 @@
 pub mod explain;
 pub mod finish;
 mod in_place;
+mod in_threads;
 pub mod rows;

@@ -24,6 +24,7 @@ use span_truetime::interval::Interval;
 use span_value::owned::{give_after, keep_with};
 use span_value::refusal::Refusal;
 use std::sync::Wait;
+use std::thread::Threads;
 
 impl<J: Naming> Locks<J> {
     /// Understands a query text, plans it and opens it.
@@ -76,8 +77,8 @@ impl<J: Naming> Locks<J> {
         let _ = self.journal.lock(rt).close(&self.board, query);
     }
 
-    /// The rows of a query, if its leaves were scanned.
-    pub fn finish_scanned<R: Wait>(
+    /// The rows of a query, if its leaves were scanned. At most this many workers make them.
+    pub fn finish_scanned<R: Threads + Wait + Sync>(
         &self,
         rt: &R,
         me: &mut Session<J>,
@@ -85,6 +86,7 @@ impl<J: Naming> Locks<J> {
         params: &Params,
         opened: Opened,
         scanned: Result<(), Refusal>,
+        workers: usize,
     ) -> Result<Rows, Refusal>
         requires { IfErr scanned (IsUnscanned J.schema) }
         ensures seen { Sees me.old me.new }
@@ -94,19 +96,20 @@ impl<J: Naming> Locks<J> {
             (λ why. IsUnscanned J.schema why ⊎ IsUnfinished J.schema text.now params.now me.new.seen opened.s why) }
     {
         match scanned {
-            Ok(()) => self.finish(rt, me, text, params, opened),
+            Ok(()) => self.finish(rt, me, text, params, opened, workers),
             Err(why) => Err(why),
         }
     }
 
     /// Takes the pieces that cover a query, and makes its rows from them. No lock is held while they are made.
-    fn finish<R: Wait>(
+    fn finish<R: Threads + Wait + Sync>(
         &self,
         rt: &R,
         me: &mut Session<J>,
         text: &str,
         params: &Params,
         opened: Opened,
+        workers: usize,
     ) -> Result<Rows, Refusal>
         ensures seen { Sees me.old me.new }
         ensures begun { me.new.begun ≡ me.old.begun }
@@ -115,7 +118,8 @@ impl<J: Naming> Locks<J> {
     {
         match self.take(rt, me, opened.query) {
             Ok(mut taken) => {
-                let rows = rows_of(self.board.alloc, &mut taken, text, params, opened.s);
+                let alloc = self.board.alloc;
+                let rows = rows_of(rt, alloc, workers, &mut taken, text, params, opened.s);
                 give_after(taken, rows)
             }
             Err(why) => Err(why),

@@ -26,6 +26,7 @@ use span_value::seq::Seq;
 use span_value::text::Text;
 use std::alloc::{AllocError, Global};
 use std::mem;
+use std::thread::Threads;
 
 /// The plan of a statement that can be planned. The error is out of memory.
 #[tactic(auto, using(span_planner::proofs::SizedNumbers::sized_numbered))]
@@ -91,9 +92,12 @@ fn is_of(taken: &Taken, text: &str, params: &Params, s: u64) -> bool
         && taken.s == s
 }
 
-/// The rows that what was taken gives, whose pieces are taken from it. `UnknownQuery` where something else was asked.
-pub(crate) fn rows_of(
+/// The rows that what was taken gives, whose pieces are taken from it; at most this many workers make them. `UnknownQuery` where something
+/// else was asked.
+pub(crate) fn rows_of<R: Threads + Sync>(
+    rt: &R,
     alloc: Global,
+    workers: usize,
     taken: &mut Taken,
     text: &str,
     params: &Params,
@@ -109,7 +113,7 @@ pub(crate) fn rows_of(
         return Err(Refusal::UnknownQuery);
     }
     let pieces = mem::replace(&mut taken.pieces, Seq::new(alloc));
-    match finish_taken(alloc, &taken.top, pieces) {
+    match finish_taken(rt, alloc, workers, &taken.top, pieces) {
         Ok(rows) => Ok(rows),
         Err(why) => Err(why),
     }

@@ -43,9 +43,9 @@ pub struct Answer {
 
 impl<J: Naming + Send + Sync> Db<J> {
     /// Answers a query: the rows, in order, that its query text means on the tables of the log at s, as far as the session has seen the log
-    /// then. Its parts are scanned by this many workers, from 1 to 64; one is the thread that asks. The clock is read once to choose s, and
-    /// once for each scan. The refusal is the one that ended it: that of its opening, the first of its scans, or that of its end. The query
-    /// is closed then.
+    /// then. Its parts are scanned by this many workers, from 1 to 64; one is the thread that asks. By at most as many the groups of many
+    /// rows are made. The clock is read once to choose s, and once for each scan. The refusal is the one that ended it: that of its opening,
+    /// the first of its scans, or that of its end. The query is closed then.
     pub fn query<R: Threads + Wait + Sync, C: Clock + Sync, G: Gate + Sync>(
         &self,
         rt: &R,
@@ -78,7 +78,7 @@ impl<J: Naming + Send + Sync> Db<J> {
                 };
                 let scanned = self.locks.scan_leaves(rt, clock, gate, &query, workers);
                 let scanned = give_after(plan, scanned);
-                self.end_query(rt, me, text, params, read, opened, scanned)
+                self.end_query(rt, me, text, params, read, opened, scanned, workers)
             }
             Err(why) => Err(why),
         }
@@ -87,7 +87,7 @@ impl<J: Naming + Send + Sync> Db<J> {
 
 impl<J: Naming> Db<J> {
     /// Ends a query: takes the pieces that its scans gave and makes the rows from them. Where it is refused, it is closed.
-    fn end_query<R: Wait>(
+    fn end_query<R: Threads + Wait + Sync>(
         &self,
         rt: &R,
         me: &mut Session<J>,
@@ -96,6 +96,7 @@ impl<J: Naming> Db<J> {
         read: Interval,
         opened: Opened,
         scanned: Result<(), Refusal>,
+        workers: usize,
     ) -> Result<Answer, Refusal>
         requires { IfErr scanned (IsUnscanned J.schema) }
         ensures seen { Sees me.old me.new }
@@ -107,7 +108,7 @@ impl<J: Naming> Db<J> {
     {
         match self
             .locks
-            .finish_scanned(rt, me, text, params, opened, scanned)
+            .finish_scanned(rt, me, text, params, opened, scanned, workers)
         {
             Ok(rows) => Ok(Answer {
                 read,

@@ -12,6 +12,7 @@ use span_value::seq::Seq;
 use span_value::text::Text;
 use span_value::value::Value;
 use std::alloc::{AllocError, Global};
+use std::ops::Range;
 use std::test::Fail;
 
 /// A table of users.
@@ -90,6 +91,23 @@ pub fn insert_all(alloc: Global, schema: &Schema, uids: &[i64]) -> Result<Transa
     let mut mutations = Vec::new(alloc);
     for uid in uids {
         mutations.push(insert_into(alloc, "Users", &[*uid])?)?;
+    }
+    Transaction::new(alloc, schema, mutations)
+}
+
+/// A transaction that inserts a user and their albums of these numbers.
+pub fn insert_with_albums(
+    alloc: Global,
+    schema: &Schema,
+    uid: i64,
+    albums: Range<u32>,
+) -> Result<Transaction, Refusal>
+    ensures { IfOk result (λ t. AreTypedMutations schema.now t) }
+{
+    let mut mutations = Vec::new(alloc);
+    mutations.push(insert_into(alloc, "Users", &[uid])?)?;
+    for aid in albums {
+        mutations.push(insert_into(alloc, "Albums", &[uid, i64::from(aid)])?)?;
     }
     Transaction::new(alloc, schema, mutations)
 }

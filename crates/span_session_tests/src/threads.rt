@@ -1,5 +1,5 @@
 //! Sessions on several threads, and queries that several workers scan.
-use span_thread_checks::{callers, closing, scans, upkeep, workers};
+use span_thread_checks::{callers, closing, groups, scans, upkeep, workers};
 use std::test::Fail;
 
 /// Two workers scan at once; one, two and eight give the same rows; a refusal ends all of them.
@@ -30,4 +30,10 @@ fn two_scans_at_once(rt: HostRuntime) -> Result<(), Fail> {
 #[test]
 fn answers_beside_upkeep(rt: HostRuntime) -> Result<(), Fail> {
     upkeep::answers_beside_upkeep(&rt, rt.alloc())
+}
+
+/// The groups of many rows in sixteen slots, by one worker and by eight.
+#[test]
+fn many_groups(rt: HostRuntime) -> Result<(), Fail> {
+    groups::many_groups(&rt, rt.alloc())
 }

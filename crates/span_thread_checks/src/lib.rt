@@ -5,6 +5,7 @@
 
 pub mod callers;
 pub mod closing;
+pub mod groups;
 pub mod scans;
 pub mod upkeep;
 pub mod workers;

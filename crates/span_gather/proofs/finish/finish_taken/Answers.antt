@@ -11,7 +11,7 @@ use Rattle.span_gather.specs.InPlace.{ArePlacesOf, first_leaf, lists_of}
 use Rattle.span_gather.proofs.finish.finish_taken.Goals as goal
 
 pub returns-in_ok-rows_in_place-in_default-Some : goal.returns-in_ok-rows_in_place-in_default-Some
-returns-in_ok-rows_in_place-in_default-Some c =
+returns-in_ok-rows_in_place-in_default-Some g c =
     let leaves : List (List Piece) = c.args.leaves in
     let places = c.in_default-Some.places.items in
     let top = c.args.top.now in
@@ -24,10 +24,10 @@ returns-in_ok-rows_in_place-in_default-Some c =
     placed.rows ∙ ap (λ (l : List Row). Some l) (sym rows)
 
 pub returns-in_default-None : goal.returns-in_default-None
-returns-in_default-None c =
+returns-in_default-None g c =
     let leaves : List (List Piece) = c.args.leaves in
     let top = c.args.top.now in
-    let given : c.give_after.result ≡ c.finish-rows.result = search rules in
+    let given : c.give_after.result ≡ c.finish_in_threads-rows.result = search rules in
     let same : c.as_slice-in_default-None.result.now ≡ leaves = search rules in
     subst (λ (r : Result Rows Refusal). MatchResult r (λ rows. gathered leaves top ≡ Some rows.rows) (λ why. ((why ≡ ArithmeticFault) × (gathered leaves top ≡ None)) ⊎ (why ≡ OutOfMemory))) (sym given)
-    (subst (λ (ls : List (List Piece)). MatchResult c.finish-rows.result (λ rows. gathered ls top ≡ Some rows.rows) (λ why. ((why ≡ ArithmeticFault) × (gathered ls top ≡ None)) ⊎ (why ≡ OutOfMemory))) same c.finish-rows.ensures)
+    (subst (λ (ls : List (List Piece)). MatchResult c.finish_in_threads-rows.result (λ rows. gathered ls top ≡ Some rows.rows) (λ why. ((why ≡ ArithmeticFault) × (gathered ls top ≡ None)) ⊎ (why ≡ OutOfMemory))) same c.finish_in_threads-rows.ensures)

@@ -1,0 +1,9 @@
+use Rattle.std.proofs.Common.{◌≡◌, Some, drop}
+use Rattle.span_query.specs.Rows.{append_results}
+use Rattle.span_rows.specs.LentRows.{lent_rows}
+use Rattle.span_gather.specs.Gathered.{joined_pieces}
+use Rattle.span_gather.proofs.in_threads.lend_pieces.Given as goal
+
+-- the rows of the pieces so far, and those of the others
+abbrev pub invariant-loop-piece : goal.invariant-loop-piece
+invariant-loop-piece l = joined_pieces l.pieces ≡ append_results (Some (lent_rows l.lent.items)) (joined_pieces (drop l.piece-index l.pieces))
