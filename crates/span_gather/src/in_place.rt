@@ -22,7 +22,7 @@ fn list_of(piece: &Piece, width: usize) -> Option<&RowsWithOrder>
     ensures rows { IfSome result (λ rows. piece.now.rows ≡ Some rows.now) }
     ensures wide { IfSome result (λ rows. have_width width rows.now ≡ true) }
 {
-    let listed = piece.rows()?.listed()?;
+    let listed = piece.rows()?.list_with_order()?;
     if have_width(listed.rows(), width) {
         Some(listed)
     } else {

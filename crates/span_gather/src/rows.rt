@@ -4,7 +4,7 @@ ghost use Rattle.std.specs.Prelude.{◌≡◌, ◌==◌, ◌<◌, length, slice_
 use span_sorting::answer_rows::AnswerRows;
 use span_value::value::Value;
 
-/// The rows of a query, in order. Only `finish` makes them.
+/// The rows of a query, in order. Only `finish` and `finish_taken` make them.
 #[derive(Debug, Drop, PartialEq, Eq)]
 pub struct Rows {
     rows: AnswerRows,

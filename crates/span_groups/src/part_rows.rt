@@ -132,7 +132,7 @@ impl PartRows {
     }
 
     /// The rows, with their order where it was made. None where some are there as groups alone.
-    pub fn listed(&self) -> Option<&RowsWithOrder>
+    pub fn list_with_order(&self) -> Option<&RowsWithOrder>
         ensures { IfSome result (λ rows. rows.now ≡ self.now) }
     {
         match &self.groups {
