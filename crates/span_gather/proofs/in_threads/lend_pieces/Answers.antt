@@ -1,4 +1,4 @@
-use Rattle.std.proofs.Common.{rules, ◌≡◌, ◌++◌, ◌+◌, ◌<◌, ◌≤◌, ◌∙◌, List, length, drop, get_or, Some, ap, sym}
+use Rattle.std.proofs.Common.{rules, ◌≡◌, ◌+◌, ◌<◌, ◌≤◌, ◌∙◌, List, length, drop, get_or, Some, ap, sym}
 use Rattle.std.proofs.lemmas.List.{append-nil, drop_all}
 use Rattle.span_query.specs.Rows.{Row, Rows, append_results}
 use Rattle.span_rows.specs.LentRows.{lent_rows}
