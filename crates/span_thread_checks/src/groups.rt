@@ -40,8 +40,8 @@ const COUNT: usize = 19_200;
 
 const SUM: i64 = 11_945_591_329_600;
 
-/// The groups of 67,200 rows in sixteen slots are those of SQLite, in the order of their first rows, by one worker and by eight; a sum that is too large
-/// refuses the query.
+/// The groups of 67,200 rows in sixteen slots are those of SQLite, in the order of their first rows, by one worker and by eight; a sum that is
+/// too large refuses the query.
 pub fn many_groups<R: Threads + Wait + Sync>(rt: &R, alloc: Global) -> Result<(), Fail> {
     let (opened, kept) = database_of(alloc, TABLES, 1)?;
     by_groups::<Brand, _>(rt, alloc, opened, &kept)
