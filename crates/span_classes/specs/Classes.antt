@@ -1,5 +1,5 @@
 -- Keys in classes by their hash, and the groups of each class.
-use Rattle.std.specs.Prelude.{◌≡◌, ℕ, ◌==◌, ◌/◌, ◌%◌, ◌^◌, ◌<◌, Bool, Err, List, MatchResult, Result, Some, filter, fold, length, map, slice_index_or}
+use Rattle.std.specs.Prelude.{◌≡◌, ℕ, ◌==◌, ◌/◌, ◌%◌, ◌^◌, ◌<◌, Bool, Err, List, [], MatchResult, Result, Some, filter, fold, length, map, slice_index_or}
 use Rattle.std.specs.Hash.FoldHasher as folding
 use denote.Ref.{Bor}
 use Rattle.span_expr.specs.declared.cell.Failure.{Failure}
@@ -29,6 +29,15 @@ rows_of_class places class rows = filter (λ (row : Row). is_in_class class (col
 -- for each key the place of the first row that has it
 abbrev pub first_places : List ℕ → List Row → List Row → List ℕ
 first_places places rows keys = map (place_of (keys_at places rows)) keys
+
+-- the values of the row at a place
+abbrev pub key_at : List ℕ → List Row → ℕ → Row
+key_at places rows at = columns_at places (slice_index_or rows at [])
+
+-- for each row the number of the class of its key
+pub record AreClassNumbers (count : ℕ) (places : List ℕ) (rows : List Row) (numbers : List ℕ) : Type 0 where
+  pub counted : length numbers ≡ length rows
+  pub each : (at : ℕ) (d : ℕ) → at < length rows → slice_index_or numbers at d ≡ class_of count (key_at places rows at)
 
 -- the groups of a class after some of all rows were taken
 pub record HaveTaken (g : Grouping) (class : Class) (all taken keys : List Row) (made : LentGroups) (firsts : List ℕ) : Type 0 where

@@ -2,14 +2,15 @@
 ghost use Rattle.std.specs.Prelude.{◌≡◌, ◌<◌, ◌∷◌, ◌++◌, [], Any, Err, List, MatchResult, None, OnOk, length};
 ghost use Rattle.span_expr.specs.declared.cell.Failure.TheVariants.{Fault};
 ghost use Rattle.span_query.specs.Groups as spec;
+ghost use Rattle.span_query.specs.Groups.{columns_at};
 ghost use Rattle.span_query.specs.Rows.{Row};
 ghost use Rattle.span_rows.specs.Answers.{Gives};
 ghost use Rattle.span_rows.specs.LentRows.{lent_rows};
 ghost use Rattle.span_groups.specs.GroupStates.{CanCountRow};
 ghost use Rattle.span_groups.specs.States.{operand_at};
-ghost use Rattle.span_classes.specs.Classes.{AreGroupsOfClass, HaveTaken};
+ghost use Rattle.span_classes.specs.Classes.{AreClassNumbers, AreGroupsOfClass, HaveTaken, class_of};
 
-use super::class::{Class, is_in_class};
+use super::class::Class;
 use indexmap::IndexSet;
 use span_expr::cell::Failure;
 use span_groups::group::{first_index, push_if, take_row};
@@ -29,7 +30,7 @@ pub(crate) struct ClassGroups {
     pub(crate) firsts: Vec<usize>,
 }
 
-/// One more row, the one at a place among all, for its group where its key is of the class.
+/// One more row, the one at a place among all, for its group where the number of its key's class is this one's.
 fn take_if_in_class<'a>(
     alloc: Global,
     grouping: &'a Grouping,
@@ -39,8 +40,9 @@ fn take_if_in_class<'a>(
     firsts: &mut Vec<usize>,
     place: usize,
     row: &'a [Value],
+    number: usize,
 ) -> Result<(), Failure>
-    requires class { 0 < class.count }
+    requires number { number ≡ class_of class.count (columns_at grouping.now.keys row.now) }
     requires keyed { 0 < length grouping.now.keys }
     requires few { CanCountRow grouping.now index.old.keys groups.old.states.items }
     ensures ok { OnOk result
@@ -51,7 +53,7 @@ fn take_if_in_class<'a>(
         firsts.new.items) }
     ensures fault { result ≡ Err Fault → Any (λ a. operand_at row.now a ≡ None) grouping.now.aggregates }
 {
-    if is_in_class(class, row, grouping.keys.as_slice()) {
+    if number == class.number {
         let is_new = take_row(alloc, grouping, index, &mut groups.states, row)?;
         push_if(is_new, &mut groups.firsts, row)?;
         push_if(is_new, firsts, place)?;
@@ -59,14 +61,16 @@ fn take_if_in_class<'a>(
     Ok(())
 }
 
-/// The groups of some rows whose keys are of one class. The error is an arithmetic error of an aggregate, or out of memory.
+/// The groups of some rows whose keys are of one class; of each row the number of its key's class is known. The error is an arithmetic
+/// error of an aggregate, or out of memory.
 pub(crate) fn groups_of_class(
     alloc: Global,
     grouping: &Grouping,
     class: Class,
     rows: &[&[Value]],
+    numbers: &[usize],
 ) -> Result<ClassGroups, Failure>
-    requires class { 0 < class.count }
+    requires numbers { AreClassNumbers class.count grouping.now.keys (lent_rows rows.now) numbers.now }
     requires keyed { 0 < length grouping.now.keys }
     ensures { MatchResult result
         (AreGroupsOfClass grouping.now class (lent_rows rows.now))
@@ -85,6 +89,7 @@ pub(crate) fn groups_of_class(
             &mut firsts,
             place,
             rows[place],
+            numbers[place],
         )?;
     }
     let rows = rows_of_lent(alloc, grouping, &groups)?;

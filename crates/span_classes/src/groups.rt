@@ -5,9 +5,9 @@ ghost use Rattle.span_query.specs.Groups as spec;
 ghost use Rattle.span_query.specs.Rows.{Row};
 ghost use Rattle.span_rows.specs.Answers.{Gives};
 ghost use Rattle.span_rows.specs.LentRows.{lent_rows};
-ghost use Rattle.span_classes.specs.Classes.{AreAllClasses, AreMade, rows_of};
+ghost use Rattle.span_classes.specs.Classes.{AreAllClasses, AreClassNumbers, AreMade, rows_of};
 
-use super::class::Class;
+use super::class::{Class, class_numbers};
 use super::class_groups::{ClassGroups, groups_of_class};
 use super::merge::merge_classes;
 use span_expr::cell::Failure;
@@ -19,14 +19,16 @@ use std::alloc::{AllocError, Global};
 use std::thread;
 use std::thread::Threads;
 
-/// What each of some threads makes: the groups of one class.
+/// What each of some threads makes: the groups of one class; of each row the number of its key's class is known.
 fn make_classes<R: Threads + Sync>(
     rt: &R,
     alloc: Global,
     count: usize,
     grouping: &Grouping,
     rows: &[&[Value]],
+    numbers: &[usize],
 ) -> Result<Vec<Result<ClassGroups, Failure>>, AllocError>
+    requires numbers { AreClassNumbers count grouping.now.keys (lent_rows rows.now) numbers.now }
     requires keyed { 0 < length grouping.now.keys }
     ensures { IfOk result (λ made. AreMade grouping.now (lent_rows rows.now) count made.items) }
 {
@@ -34,7 +36,7 @@ fn make_classes<R: Threads + Sync>(
         rt,
         alloc,
         count,
-        &|number| groups_of_class(alloc, grouping, Class { number, count }, rows),
+        &|number| groups_of_class(alloc, grouping, Class { number, count }, rows, numbers),
     )
 }
 
@@ -91,7 +93,8 @@ pub fn groups_by_classes<R: Threads + Sync>(
     if threads < 2 || grouping.keys.is_empty() {
         return Ok(None);
     }
-    let made = make_classes(rt, alloc, threads, grouping, rows)?;
+    let numbers = class_numbers(rt, alloc, threads, grouping.keys.as_slice(), rows)?;
+    let made = make_classes(rt, alloc, threads, grouping, rows, numbers.as_slice())?;
     let classes = all_classes(alloc, made)?;
     let places = merge_classes(alloc, classes.as_slice())?;
     let lists = take_rows(alloc, classes)?;

@@ -20,7 +20,7 @@ of_parts-requires g c =
     c.in_ok-classes.ensures by rows (subst (λ (n : ℕ). AreMade by rows n c.in_ok-made.made.items) (sym made.counted) made) in
     let keyed : 0 < length by.keys = not_empty by.keys c.is_empty.result c.is_empty.ensures (search rules) in
     let some : 0 < count = search rules in
-    let seen : c.as_slice.result.now ≡ c.in_ok-classes.classes.items = search rules in
+    let seen : c.as_slice-3.result.now ≡ c.in_ok-classes.classes.items = search rules in
     let merged : AreMerged (firsts_of c.in_ok-classes.classes.items) c.in_ok-places.places.items =
     subst (λ (l : List ClassGroups). AreMerged (firsts_of l) c.in_ok-places.places.items) seen c.in_ok-places.ensures in
     let lists : c.in_ok-lists.lists.items ≡ rows_of c.in_ok-classes.classes.items = search rules in
@@ -37,7 +37,7 @@ returns g c =
     c.in_ok-classes.ensures by rows (subst (λ (n : ℕ). AreMade by rows n c.in_ok-made.made.items) (sym made.counted) made) in
     let keyed : 0 < length by.keys = not_empty by.keys c.is_empty.result c.is_empty.ensures (search rules) in
     let some : 0 < count = search rules in
-    let seen : c.as_slice.result.now ≡ c.in_ok-classes.classes.items = search rules in
+    let seen : c.as_slice-3.result.now ≡ c.in_ok-classes.classes.items = search rules in
     let merged : AreMerged (firsts_of c.in_ok-classes.classes.items) c.in_ok-places.places.items =
     subst (λ (l : List ClassGroups). AreMerged (firsts_of l) c.in_ok-places.places.items) seen c.in_ok-places.ensures in
     let lists : c.in_ok-lists.lists.items ≡ rows_of c.in_ok-classes.classes.items = search rules in
