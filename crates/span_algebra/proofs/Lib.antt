@@ -7,3 +7,4 @@ pub mod SameMeaning
 pub mod Reduced
 pub mod TableOrders
 pub mod GroupAnswers
+pub mod GroupQueries

@@ -4,3 +4,4 @@ pub mod Sources
 pub mod ColumnOrders
 pub mod GroupAnswers
 pub mod SameMeaning
+pub mod GroupQueries

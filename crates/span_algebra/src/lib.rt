@@ -4,6 +4,7 @@
 pub mod block;
 pub mod distinct;
 pub mod group_answer;
+pub mod group_query;
 pub mod ordered;
 pub mod plain;
 pub mod reduction;

@@ -1,7 +1,7 @@
 -- Groups, and further rows that are taken into them one after another.
 use Rattle.std.proofs.Common.{◌≡◌, ℕ, ◌+◌, ◌<◌, ◌≤◌, Bool, true, false, not, List, [], ◌∷◌, ◌++◌, length, get_or, take, drop, Option, None, Err, refl, sym, ap, ◌∙◌, subst, append_assoc, arith}
 use Rattle.std.proofs.lemmas.Grind.{flat_map-append}
-use Rattle.std.proofs.lemmas.List.{append-nil, length-append, length-take-le, take_all, take-append-drop}
+use Rattle.std.proofs.lemmas.List.{append-nil, get_or_append_left, length-append, length-take-le, take_all, take-append-drop}
 use Rattle.std.proofs.Math.Seq.{get_or-append_right}
 use denote.Ref.{Bor}
 use Rattle.span_value.proofs.Lists.{drop_read}
@@ -99,6 +99,19 @@ any_after g front rows found = (
   get_or-append_right front rows (length front + found.0) found.1 (omega arith) ∙ ap (λ (i : ℕ). get_or rows i found.1) (omega arith) ∙ found.3,
   found.4,
 )
+
+pub any_before : (g : Grouping) (rows more : List Row) → AnyFault g rows → AnyFault g (rows ++ more)
+any_before g rows more found = (
+  found.0,
+  found.1,
+  omega (arith, found.2, length-append rows more),
+  get_or_append_left rows more found.1 found.0 found.2 ∙ found.3,
+  found.4,
+)
+
+-- an aggregate is an arithmetic error at one of the rows of a part
+pub any_of_part : (g : Grouping) (before part after all : List Row) → all ≡ before ++ (part ++ after) → AnyFault g part → AnyFault g all
+any_of_part g before part after all is found = subst (AnyFault g) (sym is) (any_after g before (part ++ after) (any_before g part after found))
 
 pub rows_split : (parts : List (Bor (List Row))) (i : ℕ) (x : Bor (List Row)) → i < length parts → x ≡ get_or parts i x → all_rows parts ≡ all_rows (take i parts) ++ (x.now ++ all_rows (drop (i + 1) parts))
 rows_split parts i x within is =

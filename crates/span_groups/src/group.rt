@@ -83,7 +83,8 @@ pub(crate) fn group_of<'a>(
     Ok((at, is_new))
 }
 
-/// One more row for the states of its group, which are added where there was none. Whether they were added.
+/// One more row for the states of its group, which are added where there was none. Whether they were added. The error is an arithmetic error of an
+/// operand, or out of memory.
 pub fn take_row<'a>(
     alloc: Global,
     grouping: &'a Grouping,
@@ -107,7 +108,7 @@ pub fn take_row<'a>(
     Ok(is_new)
 }
 
-/// Adds an item at the end, where this is wanted.
+/// Adds an item at the end, where this is wanted. The only error is out of memory.
 pub fn push_if<T: Copy>(is_wanted: bool, items: &mut Vec<T>, item: T) -> Result<(), AllocError>
     ensures added { is_wanted ≡ true → OnOk result (items.new.items ≡ items.old.items ++ item ∷ []) }
     ensures same { is_wanted ≡ false → items.new.items ≡ items.old.items }
@@ -162,7 +163,7 @@ fn first_groups(alloc: Global, grouping: &Grouping) -> Result<GroupLists, AllocE
     Ok(GroupLists { firsts, states })
 }
 
-/// The index of the groups of no rows.
+/// The index of the groups of no rows. The only error is out of memory.
 pub fn first_index(alloc: Global, grouping: &Grouping) -> Result<IndexSet<LentKey<'_>>, AllocError>
     ensures { IfOk result (λ index. index.keys ≡ spec.group_keys grouping.now.keys []) }
 {

@@ -29,7 +29,7 @@ pub struct LentGroups<'a> {
     pub states: Vec<AggregateState>,
 }
 
-/// The groups of no rows: none, or the one group where there are no key columns.
+/// The groups of no rows: none, or the one group where there are no key columns. The only error is out of memory.
 pub fn no_lent_groups<'a>(alloc: Global, grouping: &Grouping) -> Result<LentGroups<'a>, AllocError>
     ensures states { IfOk result
         (λ groups. AreGroupLists grouping.now [] (spec.group_keys grouping.now.keys []) groups.states.items) }
@@ -92,7 +92,8 @@ pub(crate) fn take_list<'a>(
     Ok(())
 }
 
-/// The row of each of the groups.
+/// The row of each of the groups: the values of its key, and then those of its aggregates. The error is an arithmetic error of an aggregate, or out of
+/// memory.
 pub fn rows_of_lent(
     alloc: Global,
     grouping: &Grouping,

@@ -1,11 +1,9 @@
 //! The groups of parts of some rows put together: those of all the rows, by first appearance.
-ghost use Rattle.std.specs.Prelude.{◌≡◌, ◌*◌, ◌++◌, length, List, Err, IfOk, IsTrue, MatchResult, OnOk};
+ghost use Rattle.std.specs.Prelude.{◌≡◌, ◌*◌, ◌++◌, length, List, Err, IfOk, IsTrue, OnOk};
 ghost use Rattle.std.specs.Option.{option_copied};
 ghost use Rattle.span_expr.specs.declared.cell.Failure.TheVariants.{Fault};
-ghost use Rattle.span_query.specs.Groups as spec;
 ghost use Rattle.span_query.specs.Groups.{columns_at, rows_with};
 ghost use Rattle.span_query.specs.Rows.{Row};
-ghost use Rattle.span_rows.specs.Answers.{Gives};
 ghost use Rattle.span_rows.specs.Keys.{with_new};
 ghost use Rattle.span_rows.specs.LentRows.{lent_rows};
 ghost use Rattle.span_groups.specs.GroupStates.{groups_by, keys_at, AreGroupLists, AreInStep, HaveKeys};
@@ -24,7 +22,7 @@ use indexmap::IndexSet;
 use span_expr::cell::Failure;
 use span_query::query::Grouping;
 use span_rows::key::LentKey;
-use span_rows::row_list::RowList;
+use span_rows::row_list::{RowList, lend_rows};
 use span_value::value::Value;
 use std::alloc::{AllocError, Global};
 
@@ -66,23 +64,25 @@ fn merge_group<'a>(
     )
 }
 
-/// The groups of rows with those of further rows, given by the first row of each and the states. False where they could not be put together.
+/// The groups of rows with those of further rows, given by the first row of each, which is lent, and the states. False where they could not be put
+/// together.
 fn merge_groups<'a>(
     alloc: Global,
     grouping: &'a Grouping,
     index: &mut IndexSet<LentKey<'a>>,
     groups: &mut LentGroups<'a>,
-    firsts: &'a RowList,
+    firsts: &[&'a [Value]],
     more: &[AggregateState],
 ) -> Result<bool, AllocError>
     requires step { AreInStep grouping.now index.old.keys groups.old.states.items }
     requires wide { length more.now ≡ length firsts.now * length grouping.now.aggregates }
+    ensures step { OnOk result (AreInStep grouping.now index.new.keys groups.new.states.items) }
     ensures merged { IfOk result
         (λ done.
         IsTrue done
         → (before next : List Row)
         → AreGroupLists grouping.now before index.old.keys groups.old.states.items
-        → AreGroupsWith grouping.now next firsts.now more.now
+        → AreGroupsWith grouping.now next (lent_rows firsts.now) more.now
         → AreGroupLists grouping.now (before ++ next) index.new.keys groups.new.states.items) }
     ensures firsts { OnOk result
         (HaveKeys grouping.now (lent_rows groups.old.firsts.items) index.old.keys
@@ -90,13 +90,49 @@ fn merge_groups<'a>(
 {
     let width = grouping.aggregates.len();
     for at in 0..firsts.len() {
-        let row = firsts.row(at);
         let states = states_at(more, at, width);
-        if !merge_group(alloc, grouping, index, groups, row, states)? {
+        if !merge_group(alloc, grouping, index, groups, firsts[at], states)? {
             return Ok(false);
         }
     }
     Ok(true)
+}
+
+/// The groups with those of further rows. The only error is out of memory, which is said too where a count of 64 bits does not suffice.
+pub fn take_lent_groups<'a>(
+    alloc: Global,
+    grouping: &'a Grouping,
+    index: &mut IndexSet<LentKey<'a>>,
+    groups: &mut LentGroups<'a>,
+    firsts: &[&'a [Value]],
+    more: &[AggregateState],
+) -> Result<(), AllocError>
+    requires step { AreInStep grouping.now index.old.keys groups.old.states.items }
+    requires wide { length more.now ≡ length firsts.now * length grouping.now.aggregates }
+    ensures step { OnOk result (AreInStep grouping.now index.new.keys groups.new.states.items) }
+    ensures merged { OnOk result
+        ((before next : List Row)
+        → AreGroupLists grouping.now before index.old.keys groups.old.states.items
+        → AreGroupsWith grouping.now next (lent_rows firsts.now) more.now
+        → AreGroupLists grouping.now (before ++ next) index.new.keys groups.new.states.items) }
+    ensures firsts { OnOk result
+        (HaveKeys grouping.now (lent_rows groups.old.firsts.items) index.old.keys
+        → HaveKeys grouping.now (lent_rows groups.new.firsts.items) index.new.keys) }
+{
+    if merge_groups(alloc, grouping, index, groups, firsts, more)? {
+        Ok(())
+    } else {
+        Err(AllocError)
+    }
+}
+
+/// Lends all rows of a list.
+fn lend_all<'a>(alloc: Global, rows: &'a RowList) -> Result<Vec<&'a [Value]>, AllocError>
+    ensures { IfOk result (λ all. lent_rows all.items ≡ rows.now) }
+{
+    let mut all = Vec::new(alloc);
+    lend_rows(rows, &mut all)?;
+    Ok(all)
 }
 
 /// The groups with those of further rows. The error is an arithmetic error of an operand, or out of memory, which is said too where these are by
@@ -119,11 +155,9 @@ fn take_groups<'a>(
     ensures fault { result ≡ Err Fault → AnyFault grouping.now more.now }
 {
     let (firsts, states) = more.groups_by(grouping)?;
-    if merge_groups(alloc, grouping, index, groups, firsts, states)? {
-        Ok(())
-    } else {
-        Err(Failure::OutOfMemory)
-    }
+    let firsts = lend_all(alloc, firsts)?;
+    take_lent_groups(alloc, grouping, index, groups, firsts.as_slice(), states)?;
+    Ok(())
 }
 
 /// The same, where there are further rows.
@@ -173,16 +207,17 @@ fn take_part<'a>(
     take_list(alloc, grouping, index, groups, listed)
 }
 
-/// The groups that a block makes of the rows of all parts. The error is an arithmetic error of an aggregate, or out of memory.
-pub(crate) fn merge_parts<'a>(
+/// The groups that a block makes of the rows of all parts. The error is an arithmetic error of an operand at one of the rows, or out of memory, which
+/// is said too where some of the rows are there as groups by another grouping.
+pub fn merge_parts<'a>(
     alloc: Global,
     grouping: &'a Grouping,
     parts: &[&'a PartRows],
 ) -> Result<LentGroups<'a>, Failure>
-    ensures { MatchResult result
+    ensures ok { IfOk result
         (λ groups. AreGroupLists grouping.now (all_rows parts.now)
-        (keys_at grouping.now.keys (lent_rows groups.firsts.items)) groups.states.items)
-        (λ why. Gives {A = List Row} (Err why) (spec.groups grouping.now (all_rows parts.now))) }
+        (keys_at grouping.now.keys (lent_rows groups.firsts.items)) groups.states.items) }
+    ensures fault { result ≡ Err Fault → AnyFault grouping.now (all_rows parts.now) }
 {
     let mut groups = no_lent_groups(alloc, grouping)?;
     let mut index = first_index(alloc, grouping)?;

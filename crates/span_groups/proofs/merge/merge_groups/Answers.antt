@@ -1,8 +1,10 @@
 use Rattle.std.proofs.Common.{rules, ◌≡◌, ◌∷◌, ◌++◌, ◌+◌, ◌*◌, ◌<◌, ◌≤◌, [], ℕ, IsTrue, List, length, take, ap, sym, subst, ◌∙◌, arith, get_or}
-use Rattle.std.proofs.lemmas.List.{take_more}
+use Rattle.std.proofs.lemmas.List.{get_or-map, length-map, take_more}
+use denote.Ref.{Bor}
 use Rattle.span_query.specs.Rows.{Row}
 use Rattle.span_query.specs.Groups.{columns_at, group_keys, rows_with}
 use Rattle.span_rows.specs.Keys.{with_new}
+use Rattle.span_rows.specs.LentRows.{lent_rows}
 use Rattle.span_groups.specs.declared.aggregate.AggregateState.{AggregateState}
 use Rattle.span_groups.specs.StateLists.{Group, states_from}
 use Rattle.span_groups.specs.GroupStates.{keys_of, keys_at, groups_by, HasTakenRows}
@@ -28,7 +30,7 @@ states_at-states-requires c =
 pub loop-at-init : goal.loop-at-init
 loop-at-init c =
     let g = c.args.grouping.now in
-    let more : List Group = groups_by g (keys_at g.keys c.args.firsts.now) c.args.more.now in
+    let more : List Group = groups_by g (keys_at g.keys (lent_rows c.args.firsts.now)) c.args.more.now in
     record {
       step = c.requires.step;
       merged = λ taken next are held. merged_first g taken next more (groups_by g c.args.index.now.keys c.args.groups.now.states.items) are.are;
@@ -40,13 +42,18 @@ loop-at-preserved c =
     let g = c.args.grouping.now in
     let w : ℕ = length g.aggregates in
     let i : ℕ = c.loop-at.at in
-    let firsts : List Row = c.args.firsts.now in
+    let lent : List (Bor Row) = c.args.firsts.now in
+    let firsts : List Row = lent_rows lent in
     let states : List AggregateState = c.args.more.now in
     let more : List Group = groups_by g (keys_at g.keys firsts) states in
-    let row : Row = c.row-row.result.now in
+    let one : Bor Row = c.index-firsts-at.result in
+    let row : Row = one.now in
     let x : Group = record { key = columns_at g.keys row; states = states_from (i * w) w states } in
-    let within : i < length firsts = search rules in
-    let is : x ≡ get_or more i x = sym (group_by_row g.keys w firsts states i row x within c.row-row.ensures) in
+    let inner : i < length lent = search rules in
+    let within : i < length firsts = omega (arith, inner, length-map lent (λ (r : Bor Row). r.now)) in
+    let found : get_or lent i one ≡ one = search rules in
+    let at_place : get_or firsts i row ≡ row = get_or-map (λ (r : Bor Row). r.now) lent i one row inner ∙ ap (λ (r : Bor Row). r.now) found in
+    let is : x ≡ get_or more i x = sym (group_by_row g.keys w firsts states i row x within (sym at_place)) in
     let inside : i < length more = omega (arith, within, count_by_rows g.keys w firsts states) in
     let key : get_or (keys_of more) i x.key ≡ x.key = key_at more i x x.key inside ∙ ap (λ (y : Group). y.key) (sym is) in
     let front : take (i + 1) (keys_of more) ≡ take i (keys_of more) ++ x.key ∷ [] =
@@ -77,10 +84,12 @@ loop-at-preserved c =
 pub returns-clause-merged : goal.returns-clause-merged
 returns-clause-merged c done taken next are held =
     let g = c.args.grouping.now in
-    let firsts : List Row = c.args.firsts.now in
+    let lent : List (Bor Row) = c.args.firsts.now in
+    let firsts : List Row = lent_rows lent in
     let states : List AggregateState = c.args.more.now in
     let more : List Group = groups_by g (keys_at g.keys firsts) states in
-    let over : length firsts ≤ c.loop-at.at = search rules in
+    let past_lent : length lent ≤ c.loop-at.at = search rules in
+    let over : length firsts ≤ c.loop-at.at = omega (arith, past_lent, length-map lent (λ (r : Bor Row). r.now)) in
     let past : length more ≤ c.loop-at.at = omega (arith, over, count_by_rows g.keys (length g.aggregates) firsts states) in
     record {
       whole = c.loop-at.invariant.step.whole;

@@ -9,7 +9,7 @@ use Rattle.span_groups.proofs.merge.merge_groups.Given as goal
 abbrev pub invariant-loop-at : goal.invariant-loop-at
 invariant-loop-at l = record {
   step : AreInStep l.grouping l.index.keys l.groups.states.items;
-  merged : (before next : List Row) → AreGroupLists l.grouping before l.fn.index.keys l.fn.groups.states.items → AreGroupsWith l.grouping next l.firsts l.more
-      → AreMergedTo l.grouping before next (groups_by l.grouping (keys_at l.grouping.keys l.firsts) l.more) l.at (groups_by l.grouping l.index.keys l.groups.states.items);
+  merged : (before next : List Row) → AreGroupLists l.grouping before l.fn.index.keys l.fn.groups.states.items → AreGroupsWith l.grouping next (lent_rows l.firsts) l.more
+      → AreMergedTo l.grouping before next (groups_by l.grouping (keys_at l.grouping.keys (lent_rows l.firsts)) l.more) l.at (groups_by l.grouping l.index.keys l.groups.states.items);
   firsts : HaveKeys l.grouping (lent_rows l.fn.groups.firsts.items) l.fn.index.keys → HaveKeys l.grouping (lent_rows l.groups.firsts.items) l.index.keys;
 }

@@ -1,13 +1,11 @@
-use Rattle.std.proofs.Common.{rules, ◌≡◌, ◌∙◌, ◌+◌, ◌++◌, ◌<◌, ◌≤◌, [], Err, List, length, get_or, take, drop, ap, sym, subst, arith}
+use Rattle.std.proofs.Common.{rules, ◌≡◌, ◌∙◌, ◌+◌, ◌++◌, ◌<◌, ◌≤◌, [], List, length, get_or, take, drop, ap, sym, subst, arith}
 use Rattle.std.proofs.lemmas.List.{length-append}
 use Rattle.span_query.specs.Rows.{Row}
-use Rattle.span_query.specs.Groups.{groups}
-use Rattle.span_rows.specs.Answers.{Gives}
 use Rattle.span_rows.specs.LentRows.{lent_rows}
 use Rattle.span_groups.specs.declared.aggregate.AggregateState.{AggregateState}
 use Rattle.span_groups.specs.GroupStates.{AreGroupLists, HaveKeys}
 use Rattle.span_groups.specs.Parts.{all_rows}
-use Rattle.span_groups.proofs.KeptGroups.{rows_split, part_fails}
+use Rattle.span_groups.proofs.KeptGroups.{any_of_part, rows_split}
 use Rattle.span_groups.proofs.Parting.{rows_more, rows_all}
 use Rattle.span_groups.proofs.merge.merge_parts.Goals as goal
 
@@ -30,18 +28,16 @@ loop-part-init c =
       counted = search rules;
     }
 
-pub returns-in_err-take_part : goal.returns-in_err-take_part
-returns-in_err-take_part c =
+pub returns-in_err-take_part-clause-fault : goal.returns-in_err-take_part-clause-fault
+returns-in_err-take_part-clause-fault c is_fault =
     let g = c.args.grouping.now in
     let parts = c.args.parts.now in
     let i = c.loop-part.part-index in
     let x = c.part-item.result in
     let within : i < length parts = search rules in
     let is : x ≡ get_or parts i x = search rules in
-    let why = c.in_err-take_part.field-0.0 in
-    let fails : Gives (Err why) (groups g (all_rows parts)) =
-    part_fails g (all_rows (take i parts)) x.now (all_rows (drop (i + 1) parts)) (all_rows parts) why (rows_split parts i x within is) (λ e. c.in_err-take_part.ensures.fault (ap (λ w. Err w) e)) in
-    search (rules, fails)
+    any_of_part g (all_rows (take i parts)) x.now (all_rows (drop (i + 1) parts)) (all_rows parts) (rows_split parts i x within is)
+    (c.in_err-take_part.ensures.fault (search (rules, is_fault)))
 
 pub loop-part-preserved : goal.loop-part-preserved
 loop-part-preserved c =
@@ -61,8 +57,8 @@ loop-part-preserved c =
       counted = ap (λ (l : List Row). length l) more ∙ omega (arith, counted, c.loop-part.invariant.counted, length-append (all_rows (take i parts)) x.now);
     }
 
-pub returns : goal.returns
-returns c =
+pub returns-clause-ok : goal.returns-clause-ok
+returns-clause-ok c =
     let g = c.args.grouping.now in
     let past : length c.args.parts.now ≤ c.loop-part.part-index = search rules in
     let states : List AggregateState = c.loop-part.groups.states.items in
