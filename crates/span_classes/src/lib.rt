@@ -5,3 +5,4 @@ mod class;
 mod class_groups;
 pub mod groups;
 mod merge;
+pub mod ranges;

@@ -1,11 +1,15 @@
 //! The rows of a query from the pieces of its leaves.
-ghost use Rattle.std.specs.Prelude.{◌≡◌, ◌⊎◌, ◌++◌, ◌∷◌, [], map, MatchResult, IfOk, OnOk, Some, None};
+ghost use Rattle.std.specs.Prelude.{◌≡◌, ◌⊎◌, ◌++◌, ◌∷◌, [], map, Err, List, MatchResult, IfOk, IfSome, OnOk, Some, None};
 ghost use Rattle.std.specs.Option.{option_map};
+ghost use Rattle.span_query.specs.Rows.{Row};
+ghost use Rattle.span_rows.specs.Answers.{Gives};
 ghost use Rattle.span_groups.specs.Parts.{all_rows};
 ghost use Rattle.span_gather.specs.Gathered.{joined_pieces, gathered};
 
+use super::drops::drop_each;
 use super::in_place::{places_of_rows, rows_in_place};
-use super::in_threads::groups_in_threads;
+use super::in_threads::{count_listed, groups_in_threads, rows_of_ranges};
+use super::lent_parts::lent_parts;
 use super::rows::Rows;
 use span_algebra::plain::eval_plain;
 use span_algebra::source::Tables;
@@ -14,28 +18,11 @@ use span_fragment::piece::Piece;
 use span_groups::part_rows::PartRows;
 use span_query::query::BoundQuery;
 use span_sorting::answer_rows::AnswerRows;
-use span_value::owned::{give_after, keep_with};
+use span_value::owned::keep_with;
 use span_value::refusal::Refusal;
 use span_value::seq::Seq;
 use std::alloc::{AllocError, Global};
 use std::thread::Threads;
-
-/// The rows of pieces, lent; none where one of the pieces is a fault.
-fn lent_parts<'a>(
-    alloc: Global,
-    pieces: &'a [Piece],
-) -> Result<Option<Vec<&'a PartRows>>, AllocError>
-    ensures { IfOk result (λ parts. joined_pieces pieces.now ≡ option_map (λ lent. all_rows lent.items) parts) }
-{
-    let mut parts = Vec::with_capacity(alloc, pieces.len())?;
-    for piece in pieces {
-        let Some(rows) = piece.rows() else {
-            return Ok(None);
-        };
-        parts.push(rows)?;
-    }
-    Ok(Some(parts))
-}
 
 /// Adds the table of a leaf, whose rows are lent.
 fn add_table<'a>(
@@ -78,6 +65,25 @@ pub fn finish(alloc: Global, top: &BoundQuery, leaves: &[Seq<Piece>]) -> Result<
     }
 }
 
+/// The rows of a query whose groups several threads make. None where it is another query, or where there are too few rows. The error is an arithmetic
+/// error, or out of memory.
+fn rows_in_threads<R: Threads + Sync>(
+    rt: &R,
+    alloc: Global,
+    threads: usize,
+    top: &BoundQuery,
+    leaves: &[Seq<Piece>],
+) -> Result<Option<AnswerRows>, Failure>
+    ensures { MatchResult result
+        (λ found. IfSome found (λ rows. gathered leaves.now top.now ≡ Some rows))
+        (λ why. Gives {A = List Row} (Err why) (gathered leaves.now top.now)) }
+{
+    if let Some(rows) = groups_in_threads(rt, alloc, threads, top, leaves)? {
+        return Ok(Some(rows));
+    }
+    rows_of_ranges(rt, alloc, threads, top, leaves)
+}
+
 /// The same, where at most this many threads may make the groups of many rows.
 fn finish_in_threads<R: Threads + Sync>(
     rt: &R,
@@ -91,11 +97,28 @@ fn finish_in_threads<R: Threads + Sync>(
         (λ why. ((why ≡ Refusal.ArithmeticFault) × (gathered leaves.now top.now ≡ None))
         ⊎ (why ≡ Refusal.OutOfMemory)) }
 {
-    match groups_in_threads(rt, alloc, threads, top, leaves) {
+    match rows_in_threads(rt, alloc, threads, top, leaves) {
         Ok(Some(rows)) => Ok(Rows::new(rows)),
         Ok(None) => finish(alloc, top, leaves),
         Err(Failure::Fault) => Err(Refusal::ArithmeticFault),
         Err(Failure::OutOfMemory) => Err(Refusal::OutOfMemory),
+    }
+}
+
+/// How many rows in lists there are at least for each thread that drops some. To start a thread takes some 0.1 ms, in which one thread drops about
+/// as many rows.
+const ROWS_DROPPED: usize = 16_384;
+
+/// Drops the pieces of leaves, by at most this many threads where they have many rows.
+fn drop_leaves<R: Threads + Sync>(rt: &R, alloc: Global, threads: usize, leaves: Seq<Seq<Piece>>) {
+    for pieces in leaves.into_vec() {
+        let count = count_listed(pieces.as_slice());
+        drop_each(
+            rt,
+            alloc,
+            threads.min(count / ROWS_DROPPED),
+            pieces.into_vec(),
+        );
     }
 }
 
@@ -118,7 +141,8 @@ pub fn finish_taken<R: Threads + Sync>(
         (leaves, Some(places)) => Ok(Rows::new(rows_in_place(alloc, leaves, places)?)),
         (leaves, None) => {
             let rows = finish_in_threads(rt, alloc, threads, top, leaves.as_slice());
-            give_after(leaves, rows)
+            drop_leaves(rt, alloc, threads, leaves);
+            rows
         }
     }
 }

@@ -5,10 +5,14 @@ ghost use Rattle.span_rows.specs.Answers.{Gives};
 ghost use Rattle.span_rows.specs.LentRows.{lent_rows};
 ghost use Rattle.span_gather.specs.Gathered.{gathered, joined_pieces};
 
+use super::lent_parts::lent_parts;
 use span_algebra::group_answer::group_answer;
+use span_algebra::group_query::{rows_of_groups, table_grouping};
 use span_classes::groups::groups_by_classes;
+use span_classes::ranges::groups_by_ranges;
 use span_expr::cell::Failure;
 use span_fragment::piece::Piece;
+use span_groups::part_rows::PartRows;
 use span_query::query::BoundQuery;
 use span_rows::row_list::{RowList, lend_rows};
 use span_sorting::answer_rows::AnswerRows;
@@ -28,7 +32,7 @@ fn list_of(piece: &Piece) -> Option<&RowList>
 }
 
 /// The number of rows of pieces; 0 where those of one of them are in no list.
-fn count_listed(pieces: &[Piece]) -> usize {
+pub(crate) fn count_listed(pieces: &[Piece]) -> usize {
     let mut count: usize = 0;
     for piece in pieces {
         let Some(rows) = list_of(piece) else {
@@ -86,4 +90,48 @@ pub(crate) fn groups_in_threads<R: Threads + Sync>(
         return Ok(None);
     };
     groups_by_classes(rt, alloc, threads, grouping, rows.as_slice())
+}
+
+/// How many groups and rows in lists there are at least for each thread: to put a group together with others takes several times as long as to take a
+/// row into one.
+const ENTRIES_OF_A_THREAD: usize = 2048;
+
+/// The number of groups and of rows in lists of parts.
+fn count_entries(parts: &[&PartRows]) -> usize {
+    let mut count: usize = 0;
+    for part in parts {
+        count = count.saturating_add(part.entry_count());
+    }
+    count
+}
+
+/// The rows of a query of one SELECT that groups all rows of the only leaf: at most this many threads put the groups of its pieces together. None
+/// where it is another query, where a piece is a fault, or where there is too little for two threads. The error is an arithmetic error, or out of
+/// memory.
+pub(crate) fn rows_of_ranges<R: Threads + Sync>(
+    rt: &R,
+    alloc: Global,
+    threads: usize,
+    top: &BoundQuery,
+    leaves: &[Seq<Piece>],
+) -> Result<Option<AnswerRows>, Failure>
+    ensures { MatchResult result
+        (λ found. IfSome found (λ rows. gathered leaves.now top.now ≡ Some rows))
+        (λ why. Gives {A = List Row} (Err why) (gathered leaves.now top.now)) }
+{
+    let [pieces] = leaves else {
+        return Ok(None);
+    };
+    let Some(grouping) = table_grouping(top) else {
+        return Ok(None);
+    };
+    let Some(parts) = lent_parts(alloc, pieces.as_slice())? else {
+        return Ok(None);
+    };
+    let threads = threads.min(count_entries(parts.as_slice()) / ENTRIES_OF_A_THREAD);
+    let Some(groups) = groups_by_ranges(rt, alloc, threads, grouping, parts.as_slice())? else {
+        return Ok(None);
+    };
+    let rows = rows_of_groups(alloc, top, grouping, groups)?;
+    Ok(Some(AnswerRows::of_list(rows)))
 }

@@ -2,8 +2,10 @@
 //! that explains a plan.
 #![tactic(auto)]
 
+mod drops;
 pub mod explain;
 pub mod finish;
 mod in_place;
 mod in_threads;
+mod lent_parts;
 pub mod rows;

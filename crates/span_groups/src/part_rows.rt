@@ -168,6 +168,15 @@ impl PartRows {
         (groups, self.rows.rows())
     }
 
+    /// How many groups there are, and rows in the list: what there is to be put together.
+    pub fn entry_count(&self) -> usize {
+        let listed = self.rows.rows().len();
+        match &self.groups {
+            Some(groups) => listed.saturating_add(groups.group_count()),
+            None => listed,
+        }
+    }
+
     /// A number, and the number of the rows. The only error is that it is none of 64 bits.
     pub(crate) fn count_after(&self, count: usize) -> Result<usize, AllocError>
         ensures { IfOk result (λ sum. sum ≡ count + length self.now) }

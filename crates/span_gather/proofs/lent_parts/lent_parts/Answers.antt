@@ -7,7 +7,7 @@ use Rattle.span_groups.specs.Parts.{all_rows}
 use Rattle.span_rows.proofs.Gathering.{gathered_at, one_more}
 use Rattle.span_fragment.specs.declared.piece.Piece.{Piece}
 use Rattle.span_gather.specs.Gathered.{joined_pieces}
-use Rattle.span_gather.proofs.finish.lent_parts.Goals as goal
+use Rattle.span_gather.proofs.lent_parts.lent_parts.Goals as goal
 
 pub returns-in_default : goal.returns-in_default
 returns-in_default c =
