@@ -10,7 +10,7 @@ pub mod grouped;
 mod kept_groups;
 pub mod lent;
 mod many;
-mod merge;
+pub mod merge;
 mod one_group;
 pub mod part_rows;
 pub mod parts;
