@@ -43,7 +43,7 @@ fn make_ranges<'a, R: Threads + Sync>(
     rt: &R,
     alloc: Global,
     count: usize,
-    grouping: &Grouping,
+    grouping: &'a Grouping,
     size: usize,
     parts: &[&'a PartRows],
 ) -> Result<Vec<Result<LentGroups<'a>, Failure>>, AllocError>
@@ -91,7 +91,7 @@ fn take_range<'a>(
 /// The groups of all ranges, put together: those of the rows of all parts. The error is the first that there is, or out of memory.
 fn merge_ranges<'a>(
     alloc: Global,
-    grouping: &Grouping,
+    grouping: &'a Grouping,
     size: usize,
     parts: &[&'a PartRows],
     made: &[Result<LentGroups<'a>, Failure>],
@@ -111,12 +111,12 @@ fn merge_ranges<'a>(
 
 /// The rows of the groups of parts, by this many threads: of the groups that were made where the rows of each part were read, and of the rows that
 /// are in lists. None where there are fewer than two threads. The error is an arithmetic error of an aggregate, or out of memory.
-pub fn groups_by_ranges<R: Threads + Sync>(
+pub fn groups_by_ranges<'a, R: Threads + Sync>(
     rt: &R,
     alloc: Global,
     threads: usize,
-    grouping: &Grouping,
-    parts: &[&PartRows],
+    grouping: &'a Grouping,
+    parts: &[&'a PartRows],
 ) -> Result<Option<RowList>, Failure>
     ensures { MatchResult result
         (λ found. IfSome found (λ rows. spec.groups grouping.now (all_rows parts.now) ≡ Some rows))
