@@ -5,10 +5,10 @@ ghost use Rattle.span_rows.specs.LentRows.{lent_rows};
 ghost use Rattle.span_classes.specs.Classes.{AreClassNumbers, class_of, key_at};
 
 use span_rows::key::LentKey;
+use span_threads::changes::for_each_mut;
 use span_value::value::Value;
 use std::alloc::{AllocError, Global};
 use std::hash::{FoldHasher, Hash, Hasher};
-use std::thread;
 use std::thread::Threads;
 
 /// One of a number of classes.
@@ -53,7 +53,7 @@ pub(crate) fn class_numbers<R: Threads + Sync>(
     ensures { IfOk result (λ numbers. AreClassNumbers count places.now (lent_rows rows.now) numbers.items) }
 {
     let mut numbers = zeros(alloc, rows.len())?;
-    thread::for_each_mut(
+    for_each_mut(
         rt,
         numbers.as_mut_slice(),
         count,

@@ -14,9 +14,9 @@ use span_expr::cell::Failure;
 use span_query::query::Grouping;
 use span_rows::row_list::RowList;
 use span_sorting::answer_rows::AnswerRows;
+use span_threads::calls::map_indices;
 use span_value::value::Value;
 use std::alloc::{AllocError, Global};
-use std::thread;
 use std::thread::Threads;
 
 /// What each of some threads makes: the groups of one class; of each row the number of its key's class is known.
@@ -32,7 +32,7 @@ fn make_classes<R: Threads + Sync>(
     requires keyed { 0 < length grouping.now.keys }
     ensures { IfOk result (λ made. AreMade grouping.now (lent_rows rows.now) count made.items) }
 {
-    thread::map_indices(
+    map_indices(
         rt,
         alloc,
         count,

@@ -20,8 +20,8 @@ use span_groups::part_rows::PartRows;
 use span_query::query::Grouping;
 use span_rows::key::LentKey;
 use span_rows::row_list::RowList;
+use span_threads::calls::map_indices;
 use std::alloc::{AllocError, Global};
-use std::thread;
 use std::thread::Threads;
 
 /// The parts of the range with a number, where each range has this many, and the last ones what is left.
@@ -49,7 +49,7 @@ fn make_ranges<'a, R: Threads + Sync>(
 ) -> Result<Vec<Result<LentGroups<'a>, Failure>>, AllocError>
     ensures { IfOk result (λ made. AreRangesMade grouping.now size parts.now count made.items) }
 {
-    thread::map_indices(
+    map_indices(
         rt,
         alloc,
         count,

@@ -1,6 +1,6 @@
 //! Values that are dropped by several threads: to release the memory of many rows takes one thread as long as to make their groups takes four.
+use span_threads::changes::for_each_mut;
 use std::alloc::{AllocError, Global};
-use std::thread;
 use std::thread::Threads;
 
 /// The values, each where it can be taken from.
@@ -15,7 +15,7 @@ fn slots_of<T: Drop>(alloc: Global, values: Vec<T>) -> Result<Vec<Option<T>>, Al
 /// Drops what is in each slot.
 fn empty_slots<R: Threads + Sync, T: Send + Drop>(rt: &R, threads: usize, slots: Vec<Option<T>>) {
     let mut slots = slots;
-    thread::for_each_mut(
+    for_each_mut(
         rt,
         slots.as_mut_slice(),
         threads.max(1),

@@ -11,13 +11,13 @@ use span_columns::leaf::{Leaf, Plan};
 use span_journal::journal::Gap;
 use span_params::params::Params;
 use span_query::query::BoundQuery;
+use span_threads::calls::map_indices;
 use span_transactions::slots::MOST_SLOTS;
 use span_truetime::clock::Clock;
 use span_truetime::interval::Interval;
 use span_value::refusal::Refusal;
 use std::alloc::AllocError;
 use std::sync::{Mutex, Wait};
-use std::thread;
 use std::thread::Threads;
 
 /// What is called around a scan. The workers of a query share it.
@@ -120,7 +120,7 @@ impl<J: Naming + Send + Sync> Locks<J> {
     ) -> Result<(), AllocError>
         requires { IsPlanOf J.schema query.now.text.now query.now.params.now query.now.plan.now }
     {
-        thread::map_indices(
+        map_indices(
             rt,
             self.board.alloc,
             threads,
