@@ -6,9 +6,8 @@ ghost use Rattle.span_rows.specs.Answers.{Gives};
 ghost use Rattle.span_groups.specs.Parts.{all_rows};
 ghost use Rattle.span_gather.specs.Gathered.{joined_pieces, gathered};
 
-use super::drops::drop_each;
 use super::in_place::{places_of_rows, rows_in_place};
-use super::in_threads::{count_listed, groups_in_threads, rows_of_ranges};
+use super::in_threads::{groups_in_threads, rows_of_ranges};
 use super::lent_parts::lent_parts;
 use super::rows::Rows;
 use span_algebra::plain::eval_plain;
@@ -18,7 +17,7 @@ use span_fragment::piece::Piece;
 use span_groups::part_rows::PartRows;
 use span_query::query::BoundQuery;
 use span_sorting::answer_rows::AnswerRows;
-use span_value::owned::keep_with;
+use span_value::owned::{give_after, keep_with};
 use span_value::refusal::Refusal;
 use span_value::seq::Seq;
 use std::alloc::{AllocError, Global};
@@ -105,23 +104,6 @@ fn finish_in_threads<R: Threads + Sync>(
     }
 }
 
-/// How many rows in lists there are at least for each thread that drops some. To start a thread takes some 0.1 ms, in which one thread drops about
-/// as many rows.
-const ROWS_DROPPED: usize = 16_384;
-
-/// Drops the pieces of leaves, by at most this many threads where they have many rows.
-fn drop_leaves<R: Threads + Sync>(rt: &R, alloc: Global, threads: usize, leaves: Seq<Seq<Piece>>) {
-    for pieces in leaves.into_vec() {
-        let count = count_listed(pieces.as_slice());
-        drop_each(
-            rt,
-            alloc,
-            threads.min(count / ROWS_DROPPED),
-            pieces.into_vec(),
-        );
-    }
-}
-
 /// The same, where the pieces are given away: rows that a query puts in order and answers as they are stay where they lie in the pieces, and are
 /// not copied.
 pub fn finish_taken<R: Threads + Sync>(
@@ -141,8 +123,7 @@ pub fn finish_taken<R: Threads + Sync>(
         (leaves, Some(places)) => Ok(Rows::new(rows_in_place(alloc, leaves, places)?)),
         (leaves, None) => {
             let rows = finish_in_threads(rt, alloc, threads, top, leaves.as_slice());
-            drop_leaves(rt, alloc, threads, leaves);
-            rows
+            give_after(leaves, rows)
         }
     }
 }

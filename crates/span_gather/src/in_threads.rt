@@ -32,7 +32,7 @@ fn list_of(piece: &Piece) -> Option<&RowList>
 }
 
 /// The number of rows of pieces; 0 where those of one of them are in no list.
-pub(crate) fn count_listed(pieces: &[Piece]) -> usize {
+fn count_listed(pieces: &[Piece]) -> usize {
     let mut count: usize = 0;
     for piece in pieces {
         let Some(rows) = list_of(piece) else {

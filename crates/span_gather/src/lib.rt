@@ -2,7 +2,6 @@
 //! that explains a plan.
 #![tactic(auto)]
 
-mod drops;
 pub mod explain;
 pub mod finish;
 mod in_place;
