@@ -13,3 +13,5 @@ pub mod FirstOfParts
 mod Merging
 mod ItemOrders
 mod PartRests
+mod Cutting
+mod PartRanges

@@ -10,7 +10,7 @@ use Rattle.span_sorting.specs.declared.parts.PartRest.{PartRest}
 use Rattle.span_sorting.specs.declared.parts.PartRests.{PartRests}
 use Rattle.span_sorting.specs.declared.placed.CodedPlace.{CodedPlace}
 use Rattle.span_sorting.specs.Orders.{IsOrderBelow, IsSorted, option_before, item_before}
-use Rattle.span_sorting.specs.PartPlaces.{IsPlaceIn, joined, row_in}
+use Rattle.span_sorting.specs.PartPlaces.{IsPlaceIn, joined, row_in, rows_in}
 use Rattle.span_sorting.specs.PlacesInOrder.{IsCodedPlace, without_codes}
 
 -- the rows that are left, in their order
@@ -67,3 +67,8 @@ part_before keys rests = item_before (row_before keys) (front_at (rows_of_rests 
 -- the lists in the order of their first rows
 abbrev pub IsPartOrder : List SortKey → List PartRest → List ℕ → Type 0
 IsPartOrder keys rests order = IsOrderBelow (length rests) (part_before keys rests) order
+
+-- the places of the rows that are left, in the order of the keys
+pub record AreRestsMerged (keys : List SortKey) (rests : List PartRest) (places : List PartPlace) : Type 0 where
+  pub within : AllByRecursion (IsPlaceIn (lists_of_rests rests)) places
+  pub rows : rows_in (lists_of_rests rests) places ≡ sorted keys (joined (rows_of_rests rests))

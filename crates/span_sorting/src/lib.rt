@@ -9,6 +9,7 @@ mod first_places;
 mod first_rows;
 mod in_order;
 pub mod kept;
+pub mod part_ranges;
 pub mod parts;
 mod placed;
 pub mod rows_with_order;

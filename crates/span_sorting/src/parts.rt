@@ -4,7 +4,7 @@ ghost use Rattle.std.specs.List.{All, AllByRecursion};
 ghost use Rattle.span_query.specs.Sorting.{comes_before};
 ghost use Rattle.span_sorting.specs.Orders.{GoesBefore, IsStrictlySorted, first_put};
 ghost use Rattle.span_sorting.specs.PartPlaces.{AreInOrder, joined, lists};
-ghost use Rattle.span_sorting.specs.PartRests.{AreRestsOf, IsFirstTaken, IsNextOf, IsPartOrder, IsRest, front, part_before, row_before, rows_of_rests};
+ghost use Rattle.span_sorting.specs.PartRests.{AreRestsMerged, AreRestsOf, IsFirstTaken, IsNextOf, IsPartOrder, IsRest, front, part_before, row_before, rows_of_rests};
 ghost use Rattle.span_sorting.specs.PlacesInOrder.{IsCodedPlace};
 
 use super::placed::CodedPlace;
@@ -40,17 +40,17 @@ pub(crate) struct PartRests<'a> {
     pub(crate) are_exact: bool,
 }
 
-/// How many rows there are in lists.
-fn count_rows(parts: &[&RowsWithOrder]) -> usize {
+/// How many rows are left.
+pub(crate) fn count_rows(rests: &[PartRest<'_>]) -> usize {
     let mut count = 0usize;
-    for part in parts {
-        count = count.saturating_add(part.rows().len());
+    for rest in rests {
+        count = count.saturating_add(rest.places.len());
     }
     count
 }
 
 /// All rows of each list, in its order by the keys. None where the order of one was not made.
-fn rests_of<'a>(
+pub(crate) fn rests_of<'a>(
     alloc: Global,
     keys: &[SortKey],
     parts: &[&'a RowsWithOrder],
@@ -74,7 +74,7 @@ fn rests_of<'a>(
 
 /// Whether the row at a place of a list comes before that at a place of another one: by the codes; where these are the same, and not exact,
 /// the rows are looked up.
-fn is_place_before(
+pub(crate) fn is_place_before(
     keys: &[SortKey],
     are_exact: bool,
     rows: &RowList,
@@ -241,6 +241,27 @@ fn take_least(
     Ok(Some(PartPlace { part, place }))
 }
 
+/// The places of the rows that are left, in the order of the keys.
+pub(crate) fn merge_rests(
+    alloc: Global,
+    keys: &[SortKey],
+    all: PartRests<'_>,
+) -> Result<Vec<PartPlace>, AllocError>
+    requires { AllByRecursion (IsRest keys.now all.are_exact) all.rests.items }
+    ensures { IfOk result (λ places. AreRestsMerged keys.now all.entry.rests.items places.items) }
+{
+    let PartRests {
+        mut rests,
+        are_exact,
+    } = all;
+    let mut order = order_rests(alloc, keys, are_exact, rests.as_slice())?;
+    let mut places = Vec::with_capacity(alloc, count_rows(rests.as_slice()))?;
+    while let Some(at) = take_least(keys, are_exact, &mut rests, &mut order)? {
+        places.push(at)?;
+    }
+    Ok(places)
+}
+
 /// Where the rows of lists lie, in the order of the keys; rows with equal keys follow in the order of the lists, and in a list keep theirs. No
 /// row is copied. None where the order of a list by these keys was not made. The only error is out of memory.
 pub fn order_parts(
@@ -250,17 +271,9 @@ pub fn order_parts(
 ) -> Result<Option<Vec<PartPlace>>, AllocError>
     ensures { IfOk result (λ found. IfSome found (λ places. AreInOrder keys.now (lists parts.now) places.items)) }
 {
-    let Some(found) = rests_of(alloc, keys, parts)? else {
+    let Some(rests) = rests_of(alloc, keys, parts)? else {
         return Ok(None);
     };
-    let PartRests {
-        mut rests,
-        are_exact,
-    } = found;
-    let mut order = order_rests(alloc, keys, are_exact, rests.as_slice())?;
-    let mut places = Vec::with_capacity(alloc, count_rows(parts))?;
-    while let Some(at) = take_least(keys, are_exact, &mut rests, &mut order)? {
-        places.push(at)?;
-    }
+    let places = merge_rests(alloc, keys, rests)?;
     Ok(Some(places))
 }
