@@ -118,7 +118,7 @@ pub fn finish_taken<R: Threads + Sync>(
         (λ why. ((why ≡ Refusal.ArithmeticFault) × (gathered leaves top.now ≡ None))
         ⊎ (why ≡ Refusal.OutOfMemory)) }
 {
-    let found = places_of_rows(alloc, top, leaves.as_slice());
+    let found = places_of_rows(rt, alloc, threads, top, leaves.as_slice());
     match keep_with(leaves, found)? {
         (leaves, Some(places)) => Ok(Rows::new(rows_in_place(alloc, leaves, places)?)),
         (leaves, None) => {

@@ -11,11 +11,13 @@ use span_fragment::piece::Piece;
 use span_query::query::BoundQuery;
 use span_rows::row_list::RowList;
 use span_sorting::answer_rows::AnswerRows;
-use span_sorting::parts::{PartPlace, order_parts};
+use span_sorting::part_ranges::order_parts_in_threads;
+use span_sorting::parts::PartPlace;
 use span_sorting::rows_with_order::RowsWithOrder;
 use span_value::owned::keep_with;
 use span_value::seq::Seq;
 use std::alloc::{AllocError, Global};
+use std::thread::Threads;
 
 /// The rows of a piece, where they are in a list and each has a number of values.
 fn list_of(piece: &Piece, width: usize) -> Option<&RowsWithOrder>
@@ -49,9 +51,11 @@ fn lend_lists(
 }
 
 /// The places of the rows in the pieces of the only leaf, in the order of the query, where it puts all rows of this leaf in order and answers
-/// them as they are, and where the order of each piece was made. The only error is out of memory.
-pub(crate) fn places_of_rows(
+/// them as they are, and where the order of each piece was made; at most this many threads find them. The only error is out of memory.
+pub(crate) fn places_of_rows<R: Threads + Sync>(
+    rt: &R,
     alloc: Global,
+    threads: usize,
     top: &BoundQuery,
     leaves: &[Seq<Piece>],
 ) -> Result<Option<Vec<PartPlace>>, AllocError>
@@ -66,7 +70,7 @@ pub(crate) fn places_of_rows(
     let Some(lent) = lend_lists(alloc, order.width, pieces.as_slice())? else {
         return Ok(None);
     };
-    match order_parts(alloc, order.keys.as_slice(), lent.as_slice())? {
+    match order_parts_in_threads(rt, alloc, threads, order.keys.as_slice(), lent.as_slice())? {
         Some(places) => Ok(Some(places)),
         None => Ok(None),
     }

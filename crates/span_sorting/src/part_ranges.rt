@@ -16,8 +16,8 @@ use super::placed::CodedPlace;
 use super::rows_with_order::RowsWithOrder;
 use span_query::query::SortKey;
 use span_rows::row_list::RowList;
+use span_threads::calls::map_indices;
 use std::alloc::{AllocError, Global};
-use std::thread;
 use std::thread::Threads;
 
 /// How many rows each thread is to have at least: for fewer it takes longer to start a thread than to merge them.
@@ -246,7 +246,7 @@ fn merge_ranges<R: Threads + Sync>(
     requires { AllByRecursion (IsRange keys.now) ranges.now }
     ensures { IfOk result (λ made. AreRangesMerged keys.now ranges.now made.items) }
 {
-    thread::map_indices(
+    map_indices(
         rt,
         alloc,
         ranges.len(),

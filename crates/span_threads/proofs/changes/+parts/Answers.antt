@@ -15,7 +15,7 @@ parts_from-both_parts-requires-clause-others g t c κs within k d less p is =
     let long : length first ≡ size = search rules in
     let whole : c.args.items.now ≡ first ++ others = search rules in
     let item : get_or c.args.items.now (size + k) d ≡ get_or others k d =
-        ap (λ l. get_or l (size + k) d) whole ∙ ap (λ (n : ℕ). get_or (first ++ others) (n + k) d) (sym long) ∙ get_or-append-add first others k d in
+    ap (λ l. get_or l (size + k) d) whole ∙ ap (λ (n : ℕ). get_or (first ++ others) (n + k) d) (sym long) ∙ get_or-append-add first others k d in
     subst (λ (n : ℕ). g.F.Fn.pre c.args.f.now (n, (p, tt {0}))) (omega arith)
     (c.requires.accepts (size + k) d (omega (arith, less, long, ap length whole, length-append first others)) p (is ∙ sym item))
 

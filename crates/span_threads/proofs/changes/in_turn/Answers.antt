@@ -13,7 +13,7 @@ loop-at-preserved g c =
     let within : at < length old = search rules in
     let item = c.index-items-at.result in
     let its : (d : g.row.T.Denot) → get_or now at item ≡ get_or old at d = λ d.
-        get_or_default now at item d (omega (arith, within, c.loop-at.invariant.long)) ∙ c.loop-at.invariant.others at d (omega arith) in
+    get_or_default now at item d (omega (arith, within, c.loop-at.invariant.long)) ∙ c.loop-at.invariant.others at d (omega arith) in
     record {
       long = length-set now at y ∙ c.loop-at.invariant.long;
       changed = changes_next g.F.Fn c.args.f.now c.args.base old now at y within c.loop-at.invariant.long c.loop-at.invariant.changed (λ d. subst (λ x. ChangesAt g.F.Fn c.args.f.now (c.args.base + at) x y) (its d) c.change_one.ensures);
