@@ -11,7 +11,7 @@ use span_fragment::piece::Piece;
 use span_query::query::BoundQuery;
 use span_rows::row_list::RowList;
 use span_sorting::answer_rows::AnswerRows;
-use span_sorting::part_ranges::order_parts_in_threads;
+use span_sorting::part_ranges::order_parts;
 use span_sorting::parts::PartPlace;
 use span_sorting::rows_with_order::RowsWithOrder;
 use span_value::owned::keep_with;
@@ -70,7 +70,7 @@ pub(crate) fn places_of_rows<R: Threads + Sync>(
     let Some(lent) = lend_lists(alloc, order.width, pieces.as_slice())? else {
         return Ok(None);
     };
-    match order_parts_in_threads(rt, alloc, threads, order.keys.as_slice(), lent.as_slice())? {
+    match order_parts(rt, alloc, threads, order.keys.as_slice(), lent.as_slice())? {
         Some(places) => Ok(Some(places)),
         None => Ok(None),
     }

@@ -308,9 +308,11 @@ fn merge_in_threads<R: Threads + Sync>(
     join_places(alloc, rows, made)
 }
 
-/// The same as `order_parts`, by at most this many threads: each makes the order of the rows that lie between two boundaries, which cut the list
-/// of which there are most rows into equal parts. For few rows one thread does all.
-pub fn order_parts_in_threads<R: Threads + Sync>(
+/// Where the rows of lists lie, in the order of the keys; rows with equal keys follow in the order of the lists, and in a list keep theirs. No
+/// row is copied. At most this many threads find them: each makes the order of the rows that lie between two boundaries, which cut the list of which
+/// there are most rows into equal parts. For few rows one thread does all. None where the order of a list by these keys was not made. The only
+/// error is out of memory.
+pub fn order_parts<R: Threads + Sync>(
     rt: &R,
     alloc: Global,
     threads: usize,

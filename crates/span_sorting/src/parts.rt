@@ -3,7 +3,7 @@ ghost use Rattle.std.specs.Prelude.{◌≡◌, ◌<◌, ◌≤◌, [], IfNone, I
 ghost use Rattle.std.specs.List.{All, AllByRecursion};
 ghost use Rattle.span_query.specs.Sorting.{comes_before};
 ghost use Rattle.span_sorting.specs.Orders.{GoesBefore, IsStrictlySorted, first_put};
-ghost use Rattle.span_sorting.specs.PartPlaces.{AreInOrder, joined, lists};
+ghost use Rattle.span_sorting.specs.PartPlaces.{joined, lists};
 ghost use Rattle.span_sorting.specs.PartRests.{AreRestsMerged, AreRestsOf, IsFirstTaken, IsNextOf, IsPartOrder, IsRest, front, part_before, row_before, rows_of_rests};
 ghost use Rattle.span_sorting.specs.PlacesInOrder.{IsCodedPlace};
 
@@ -260,20 +260,4 @@ pub(crate) fn merge_rests(
         places.push(at)?;
     }
     Ok(places)
-}
-
-/// Where the rows of lists lie, in the order of the keys; rows with equal keys follow in the order of the lists, and in a list keep theirs. No
-/// row is copied. None where the order of a list by these keys was not made. The only error is out of memory.
-pub fn order_parts(
-    alloc: Global,
-    keys: &[SortKey],
-    parts: &[&RowsWithOrder],
-) -> Result<Option<Vec<PartPlace>>, AllocError>
-    ensures { IfOk result (λ found. IfSome found (λ places. AreInOrder keys.now (lists parts.now) places.items)) }
-{
-    let Some(rests) = rests_of(alloc, keys, parts)? else {
-        return Ok(None);
-    };
-    let places = merge_rests(alloc, keys, rests)?;
-    Ok(Some(places))
 }
