@@ -1,5 +1,5 @@
 -- A query of one SELECT that groups all rows of a table, by the groups of these rows.
-use Rattle.std.proofs.Common.{◌≡◌, ◌∙◌, ℕ, List, [], Some, None, map, refl, ap}
+use Rattle.std.proofs.Common.{◌≡◌, ◌∙◌, List, [], Some, None, map, refl, ap}
 use Rattle.span_query.specs.declared.query.Block.{Block}
 use Rattle.span_query.specs.declared.query.BoundQuery.{BoundQuery}
 use Rattle.span_query.specs.declared.query.BoundQuery.TheOpen.{BoundQuery-F}
@@ -8,7 +8,7 @@ use Rattle.span_query.specs.declared.query.Grouping.{Grouping}
 use Rattle.span_query.specs.Groups.{groups}
 use Rattle.span_query.specs.Layers.{map_block}
 use Rattle.span_query.specs.Meaning.{block_rows, limit_rows, meaning_over}
-use Rattle.span_query.specs.Rows.{Row, Rows, ◌>>=◌, append_results, concat_map}
+use Rattle.span_query.specs.Rows.{Rows, ◌>>=◌, append_results, concat_map}
 use Rattle.span_query.specs.Sorting.{sorted}
 use Rattle.span_query.proofs.Results.{append_results-nil}
 use Rattle.span_algebra.specs.BlockMeaning.{GroupsTable, project_groups}

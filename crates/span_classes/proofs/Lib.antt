@@ -3,4 +3,4 @@ pub mod Firsts
 pub mod Merging
 pub mod Taking
 pub mod Together
-pub mod Ranges
+pub mod InRanges

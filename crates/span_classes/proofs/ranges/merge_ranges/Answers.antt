@@ -1,4 +1,4 @@
-use Rattle.std.proofs.Common.{rules, ◌≡◌, ◌+◌, ◌*◌, ◌≤◌, ◌<◌, ◌++◌, [], Err, IfOk, List, Result, get_or, length, take, ap, sym, subst}
+use Rattle.std.proofs.Common.{rules, ◌≡◌, ◌*◌, ◌≤◌, ◌<◌, [], List, Result, get_or, length, take, sym, subst}
 use Rattle.span_expr.specs.declared.cell.Failure.{Failure}
 use Rattle.span_query.specs.Rows.{Row}
 use Rattle.span_rows.specs.LentRows.{lent_rows}
@@ -8,7 +8,7 @@ use Rattle.span_groups.specs.GroupStates.{AreGroupLists, HaveKeys}
 use Rattle.span_groups.specs.Parts.{all_rows}
 use Rattle.span_groups.proofs.GroupSteps.{in_step}
 use Rattle.span_classes.specs.Ranges.{IsRangeMade, range_at}
-use Rattle.span_classes.proofs.Ranges.{range_fault, range_next, ranges_all, wide_made}
+use Rattle.span_classes.proofs.InRanges.{range_fault, range_next, range_none, ranges_all, wide_made}
 use Rattle.span_classes.proofs.ranges.merge_ranges.Goals as goal
 
 pub loop-range-init : goal.loop-range-init
@@ -16,17 +16,19 @@ loop-range-init c =
     let g = c.args.grouping.now in
     let states : List AggregateState = c.in_ok-groups.groups.states.items in
     record {
-      are = subst (λ (ks : List Row). AreGroupLists g [] ks states) (sym {A = List Row} c.in_ok-index.ensures) c.in_ok-groups.ensures.states;
+      are =
+          subst (λ (l : List Row). AreGroupLists g l c.in_ok-index.index.keys states) (sym (range_none c.args.size c.args.parts.now))
+          (subst (λ (ks : List Row). AreGroupLists g [] ks states) (sym {A = List Row} c.in_ok-index.ensures) c.in_ok-groups.ensures.states);
       firsts = subst (λ (ks : List Row). HaveKeys g (lent_rows c.in_ok-groups.groups.firsts.items) ks) (sym {A = List Row} c.in_ok-index.ensures) c.in_ok-groups.ensures.firsts;
     }
 
-pub take_range-requires-step : goal.take_range-requires-step
-take_range-requires-step c = in_step c.args.grouping.now (all_rows (take (c.loop-range.range-index * c.args.size) c.args.parts.now)) c.loop-range.index.keys c.loop-range.groups.states.items c.loop-range.invariant.are
+pub take_range-requires-clause-step : goal.take_range-requires-clause-step
+take_range-requires-clause-step c = in_step c.args.grouping.now (all_rows (take (c.loop-range.range-index * c.args.size) c.args.parts.now)) c.loop-range.index.keys c.loop-range.groups.states.items c.loop-range.invariant.are
 
-pub take_range-requires-wide : goal.take_range-requires-wide
-take_range-requires-wide c =
+pub take_range-requires-clause-wide : goal.take_range-requires-clause-wide
+take_range-requires-clause-wide c =
     let i = c.loop-range.range-index in
-    let x : Result LentGroups Failure = c.range-item.result.now in
+    let x : Result LentGroups Failure = c.range-item.result in
     let within : i < length c.args.made.now = search rules in
     let is : get_or c.args.made.now i x ≡ x = search rules in
     wide_made c.args.grouping.now (all_rows (range_at c.args.size c.args.parts.now i)) x
@@ -38,7 +40,7 @@ loop-range-preserved c =
     let size = c.args.size in
     let parts = c.args.parts.now in
     let i = c.loop-range.range-index in
-    let x : Result LentGroups Failure = c.range-item.result.now in
+    let x : Result LentGroups Failure = c.range-item.result in
     let within : i < length c.args.made.now = search rules in
     let is : get_or c.args.made.now i x ≡ x = search rules in
     let made : IsRangeMade g (all_rows (range_at size parts i)) x = subst (IsRangeMade g (all_rows (range_at size parts i))) is (c.requires.made.each i x within) in
@@ -55,7 +57,7 @@ returns-in_err-take_range-clause-fault c is_fault =
     let size = c.args.size in
     let parts = c.args.parts.now in
     let i = c.loop-range.range-index in
-    let x : Result LentGroups Failure = c.range-item.result.now in
+    let x : Result LentGroups Failure = c.range-item.result in
     let within : i < length c.args.made.now = search rules in
     let is : get_or c.args.made.now i x ≡ x = search rules in
     let made : IsRangeMade g (all_rows (range_at size parts i)) x = subst (IsRangeMade g (all_rows (range_at size parts i))) is (c.requires.made.each i x within) in

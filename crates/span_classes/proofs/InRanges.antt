@@ -1,5 +1,5 @@
 -- The rows of ranges of parts, one range after another, and the groups of each.
-use Rattle.std.proofs.Common.{◌≡◌, ◌∙◌, ℕ, ◌+◌, ◌*◌, ◌≤◌, ◌<◌, ◌++◌, Err, IfOk, List, Ok, Result, drop, length, map, take, ap, sym, append_assoc, arith}
+use Rattle.std.proofs.Common.{◌≡◌, ◌∙◌, ℕ, ◌+◌, ◌*◌, ◌≤◌, ◌++◌, [], Err, IfOk, List, Ok, Result, drop, length, take, ap, sym, arith}
 use Rattle.span_expr.specs.declared.cell.Failure.{Failure}
 use Rattle.std.proofs.Math.Seq.{take-add}
 use Rattle.std.proofs.lemmas.Grind.{flat_map-append}
@@ -16,6 +16,9 @@ use Rattle.span_groups.proofs.KeptGroups.{any_of_part}
 use Rattle.span_classes.specs.Ranges.{IsGroupsOf, IsRangeMade, range_at}
 
 module _ (size : ℕ) (parts : List (Bor (List Row))) where
+  pub range_none : all_rows (take (0 * size) parts) ≡ []
+  range_none = ap (λ (n : ℕ). all_rows (take n parts)) {y = 0} (omega arith)
+
   pub range_next : (number : ℕ) → all_rows (take ((number + 1) * size) parts) ≡ all_rows (take (number * size) parts) ++ all_rows (range_at size parts number)
   range_next number =
       ap (λ (n : ℕ). all_rows (take n parts)) (omega arith)
