@@ -93,7 +93,7 @@ places_ascend (x ∷ ks) =
 
 -- ---- those of a class
 
--- numbers that stand for keys are of a class as the keys are
+-- the places of keys are of a class as the keys are
 pub places_of_class : (ks : List Row) (of_number : ℕ → ℕ) (of_key : Row → ℕ) (part : ℕ) → ((k : Row) → contains_row ks k ≡ true → of_number (place_of ks k) ≡ of_key k) → (keys : List Row) → AreAmong ks keys
     → filter (λ (n : ℕ). of_number n == part) (map (place_of ks) keys) ≡ map (place_of ks) (filter (λ (k : Row). of_key k == part) keys)
 places_of_class ks of_number of_key part same [] among = refl

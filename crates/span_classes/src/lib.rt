@@ -1,4 +1,4 @@
-//! The groups of many rows, made by several threads: each makes those whose keys are of one class.
+//! The groups of many rows, made by several threads: each makes those whose keys are of one class, or those of some parts of the rows.
 #![tactic(auto)]
 
 mod class;

@@ -1,6 +1,5 @@
-use Rattle.std.proofs.Common.{rules, ◌≡◌, ◌∙◌, ℕ, ◌+◌, ◌<◌, ◌++◌, length, get_or, List, ap, sym, subst, arith}
+use Rattle.std.proofs.Common.{rules, ◌≡◌, ◌∙◌, ℕ, ◌+◌, ◌++◌, length, get_or, ap, sym, subst, arith}
 use Rattle.std.proofs.lemmas.List.{get_or-append-add, length-append}
-use Rattle.std.specs.Fork.{AcceptsAt, ChangesAt}
 use Rattle.span_threads.specs.Parts.{ChangesFrom}
 use Rattle.span_threads.proofs.Parts.{changes_both}
 use Rattle.span_threads.proofs.changes.+parts.Goals as goal
