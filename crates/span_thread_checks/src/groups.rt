@@ -1,5 +1,5 @@
 //! Queries of many groups over all slots, which several workers make.
-ghost use Rattle.std.specs.Prelude.{◌≡◌};
+ghost use Rattle.std.specs.Prelude.{◌≡◌, ◌≤◌};
 
 use span_board::board::Naming;
 use span_board::session::Session;
@@ -7,6 +7,7 @@ use span_gather::rows::Rows;
 use span_schema::schema::Schema;
 use span_session::db::Db;
 use span_session::open::UnnamedDb;
+use span_session::queries::MOST_WORKERS;
 use span_session_fixtures::calls::{ask, split};
 use span_session_fixtures::clock::{OpenGate, SharedClock};
 use span_session_fixtures::expect::expect_eq;
@@ -32,16 +33,30 @@ const STEP: u32 = 1_000;
 
 const GROUPS: &str = "SELECT aid, COUNT(*) FROM Albums GROUP BY aid";
 
+// Groups that HAVING leaves.
+const THREE: &str = "SELECT aid, COUNT(*) FROM Albums GROUP BY aid HAVING COUNT(*) = 3";
+
+// The groups of pairs that are joined above the leaves, of which WHERE leaves some: by a column to the left, many, and by one to the right, few.
+const PAIRS: &str = "SELECT a.aid, COUNT(*) FROM Albums a JOIN Albums b ON b.aid = a.aid \
+WHERE a.uid < 300 AND b.uid > a.uid GROUP BY a.aid";
+
+const FEW: &str =
+    "SELECT b.uid, COUNT(*) FROM Albums a JOIN Albums b ON b.aid = a.aid WHERE a.uid < 300 GROUP BY b.uid";
+
 // Each operand is a number of 64 bits. The sum of two of them is none.
 const SUMS: &str = "SELECT aid, SUM(aid + 9223372036854756608) FROM Albums GROUP BY aid";
 
 // The number of groups that SQLite makes of the same rows, and what `sum_of` is for them in the order of their first rows.
-const COUNT: usize = 19_200;
+const SUM_OF_GROUPS: (usize, i64) = (19_200, 11_945_591_329_600);
 
-const SUM: i64 = 11_945_591_329_600;
+const SUM_OF_THREE: (usize, i64) = (2_000, 122_758_663_000);
 
-/// The groups of 67,200 rows in sixteen slots are those of SQLite, in the order of their first rows, by one worker and by eight; a sum that is
-/// too large refuses the query.
+const SUM_OF_PAIRS: (usize, i64) = (5_200, 2_050_278_286_200);
+
+const SUM_OF_FEW: (usize, i64) = (7, 225_800);
+
+/// The groups of 67,200 rows in sixteen slots, and of pairs of them, are those of SQLite, in the order of their first rows, by one worker and by
+/// eight; a sum that is too large refuses the query.
 pub fn many_groups<R: Threads + Wait + Sync>(rt: &R, alloc: Global) -> Result<(), Fail> {
     let (opened, kept) = database_of(alloc, TABLES, 1)?;
     by_groups::<Brand, _>(rt, alloc, opened, &kept)
@@ -88,7 +103,8 @@ fn check_queries<J: Naming + Send + Sync, R: Threads + Wait + Sync>(
     let clock = SharedClock::new();
     commit_albums(rt, alloc, db, schema, &clock, me)?;
     cut_all(rt, db, me)?;
-    check_workers(rt, alloc, db, &clock, me)
+    check_answers(rt, alloc, db, &clock, me, 1)?;
+    check_answers(rt, alloc, db, &clock, me, 8)
 }
 
 // A user for each slot, with their albums.
@@ -123,35 +139,41 @@ fn uid_of(slot: u32) -> i64 {
     i64::from(slot) * 100
 }
 
-// The groups, and sums that are too large, by one worker and by eight.
-fn check_workers<J: Naming + Send + Sync, R: Threads + Wait + Sync>(
+// The groups, and sums that are too large, by some workers.
+fn check_answers<J: Naming + Send + Sync, R: Threads + Wait + Sync>(
     rt: &R,
     alloc: Global,
     db: &Db<J>,
     clock: &SharedClock,
     me: &mut Session<J>,
-) -> Result<(), Fail> {
-    let one = ask(rt, alloc, db, clock, &OpenGate, me, GROUPS, 1);
-    expect_eq(group_sum(one), Ok((COUNT, SUM)), "the groups by one worker")?;
-    let eight = ask(rt, alloc, db, clock, &OpenGate, me, GROUPS, 8);
-    expect_eq(
-        group_sum(eight),
-        Ok((COUNT, SUM)),
-        "the groups by eight workers",
-    )?;
-    let sums = ask(rt, alloc, db, clock, &OpenGate, me, SUMS, 1);
+    workers: usize,
+) -> Result<(), Fail>
+    requires { (1 ≤ workers) × (workers ≤ MOST_WORKERS) }
+{
+    check_sum(rt, alloc, db, clock, me, GROUPS, workers, SUM_OF_GROUPS)?;
+    check_sum(rt, alloc, db, clock, me, THREE, workers, SUM_OF_THREE)?;
+    check_sum(rt, alloc, db, clock, me, PAIRS, workers, SUM_OF_PAIRS)?;
+    check_sum(rt, alloc, db, clock, me, FEW, workers, SUM_OF_FEW)?;
+    let sums = ask(rt, alloc, db, clock, &OpenGate, me, SUMS, workers);
     let refused = Err(Refusal::ArithmeticFault);
-    expect_eq(
-        group_sum(sums),
-        refused,
-        "sums that are too large by one worker",
-    )?;
-    let sums = ask(rt, alloc, db, clock, &OpenGate, me, SUMS, 8);
-    expect_eq(
-        group_sum(sums),
-        refused,
-        "sums that are too large by eight workers",
-    )
+    expect_eq(group_sum(sums), refused, "sums that are too large")
+}
+
+// That a query by some workers has so many groups, with this sum.
+fn check_sum<J: Naming + Send + Sync, R: Threads + Wait + Sync>(
+    rt: &R,
+    alloc: Global,
+    db: &Db<J>,
+    clock: &SharedClock,
+    me: &mut Session<J>,
+    text: &str,
+    workers: usize,
+    wanted: (usize, i64),
+) -> Result<(), Fail>
+    requires { (1 ≤ workers) × (workers ≤ MOST_WORKERS) }
+{
+    let found = ask(rt, alloc, db, clock, &OpenGate, me, text, workers);
+    expect_eq(group_sum(found), Ok(wanted), text)
 }
 
 // The number of rows, and their sum, or why there are none. It takes the rows, so that the caller drops none.
