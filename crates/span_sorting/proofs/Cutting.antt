@@ -10,7 +10,7 @@ use Rattle.span_query.specs.Sorting.{insert_sorted, insertion_sort}
 use Rattle.span_sorting.specs.Orders.{IsSorted}
 use Rattle.span_sorting.proofs.Sorting.{all_in_order, none_before}
 
--- what does not pass a test passes the other one
+-- items that pass the opposite of a test do not pass it
 others : {A : Type 0} (test : A → Bool) (xs : List A) → AllByRecursion (λ x. test x ≡ false) (filter (λ x. not (test x)) xs)
 others test [] = tt
 others {A} test (x ∷ xs) = elim (test x) as (λ b. test x ≡ b → AllByRecursion (λ y. test y ≡ false) (cond (not b) (x ∷ filter (λ y. not (test y)) xs) (filter (λ y. not (test y)) xs))) [
@@ -18,6 +18,7 @@ others {A} test (x ∷ xs) = elim (test x) as (λ b. test x ≡ b → AllByRecur
   | false ↦ λ e. (e, others test xs)
 ] refl
 
+-- items that are left by a test pass it
 passing : {A : Type 0} (test : A → Bool) (xs : List A) → AllByRecursion (λ x. test x ≡ true) (filter test xs)
 passing test [] = tt
 passing {A} test (x ∷ xs) = elim (test x) as (λ b. test x ≡ b → AllByRecursion (λ y. test y ≡ true) (cond b (x ∷ filter test xs) (filter test xs))) [
@@ -26,7 +27,7 @@ passing {A} test (x ∷ xs) = elim (test x) as (λ b. test x ≡ b → AllByRecu
 ] refl
 
 module _ {A : Type 0} (lt : A → A → Bool) (o : IsStrictWeakOrder lt) (h : A) where
-  -- what an item before h is not before, or ties with, is before h too
+  -- what does not come after an item before h is before h too
   less_through : (x y : A) → lt y x ≡ false → lt y h ≡ true → lt x h ≡ true
   less_through x y not_less less = elim (lt x h) as (λ b. lt x h ≡ b → b ≡ true) [
     | true ↦ λ e. refl

@@ -20,8 +20,8 @@ use span_threads::calls::map_indices;
 use std::alloc::{AllocError, Global};
 use std::thread::Threads;
 
-/// How many rows each thread is to have at least: for fewer it takes longer to start a thread than to merge them.
-const LEAST_ROWS_OF_A_THREAD: usize = 8192;
+/// How many rows there are for each thread at least. To start a thread takes some 0.1 ms, in which one thread merges a few thousand rows.
+const LEAST_ROWS_OF_A_THREAD: usize = 16_384;
 
 /// What is left of a list, cut in two at a row.
 #[derive(Drop)]
@@ -263,8 +263,17 @@ fn add_places(places: &mut Vec<PartPlace>, more: Vec<PartPlace>) -> Result<(), A
     Ok(())
 }
 
-/// The places of the rows of all ranges, one range after another, of which there are this many. The error is that memory ran out in a thread, or
-/// here.
+/// Whether one of some ranges has more than half of the rows, of which there are this many.
+fn has_one_most(ranges: &[PartRests<'_>], rows: usize) -> bool {
+    for range in ranges {
+        if count_rows(range.rests.as_slice()) > rows / 2 {
+            return true;
+        }
+    }
+    false
+}
+
+/// The places of the rows of all ranges, which are this many rows, one range after another. The error is that memory ran out in a thread, or here.
 fn join_places(
     alloc: Global,
     count: usize,
@@ -282,7 +291,8 @@ fn join_places(
     Ok(places)
 }
 
-/// The places of the rows that are left, in the order of the keys, by at most this many threads.
+/// The places of the rows that are left, in the order of the keys, by at most this many threads. Where most rows are in one range, as when the
+/// lists follow one another in the order, one thread does all: such lists take little time to merge.
 fn merge_in_threads<R: Threads + Sync>(
     rt: &R,
     alloc: Global,
@@ -304,6 +314,9 @@ fn merge_in_threads<R: Threads + Sync>(
     };
     let places = equal_distances(alloc, longest.places.len(), count)?;
     let ranges = cut_in_ranges(alloc, keys, &all, longest, places.as_slice())?;
+    if has_one_most(ranges.as_slice(), rows) {
+        return merge_rests(alloc, keys, all);
+    }
     let made = merge_ranges(rt, alloc, keys, ranges.as_slice())?;
     join_places(alloc, rows, made)
 }
