@@ -263,10 +263,10 @@ fn add_places(places: &mut Vec<PartPlace>, more: Vec<PartPlace>) -> Result<(), A
     Ok(())
 }
 
-/// Whether one of some ranges has more than half of the rows, of which there are this many.
+/// Whether one of some ranges has more than three quarters of the rows, of which there are this many.
 fn has_one_most(ranges: &[PartRests<'_>], rows: usize) -> bool {
     for range in ranges {
-        if count_rows(range.rests.as_slice()) > rows / 2 {
+        if count_rows(range.rests.as_slice()) > rows - rows / 4 {
             return true;
         }
     }
