@@ -1,4 +1,4 @@
-//! Queries of many groups over all slots, which several workers make.
+//! Queries of many rows over all slots: groups, groups of pairs, and rows in order, which several workers make.
 ghost use Rattle.std.specs.Prelude.{◌≡◌, ◌≤◌};
 
 use span_board::board::Naming;
@@ -43,10 +43,13 @@ WHERE a.uid < 300 AND b.uid > a.uid GROUP BY a.aid";
 const FEW: &str =
     "SELECT b.uid, COUNT(*) FROM Albums a JOIN Albums b ON b.aid = a.aid WHERE a.uid < 300 GROUP BY b.uid";
 
+// All rows in an order in which those of a slot are not together.
+const IN_ORDER: &str = "SELECT uid, aid FROM Albums ORDER BY aid DESC, uid";
+
 // Each operand is a number of 64 bits. The sum of two of them is none.
 const SUMS: &str = "SELECT aid, SUM(aid + 9223372036854756608) FROM Albums GROUP BY aid";
 
-// The number of groups that SQLite makes of the same rows, and what `sum_of` is for them in the order of their first rows.
+// How many rows SQLite gives, and what `sum_of` is for them: groups in the order of their first rows.
 const SUM_OF_GROUPS: (usize, i64) = (19_200, 11_945_591_329_600);
 
 const SUM_OF_THREE: (usize, i64) = (2_000, 122_758_663_000);
@@ -55,8 +58,10 @@ const SUM_OF_PAIRS: (usize, i64) = (5_200, 2_050_278_286_200);
 
 const SUM_OF_FEW: (usize, i64) = (7, 225_800);
 
-/// The groups of 67,200 rows in sixteen slots, and of pairs of them, are those of SQLite, in the order of their first rows, by one worker and by
-/// eight; a sum that is too large refuses the query.
+const SUM_IN_ORDER: (usize, i64) = (67_200, 38_227_051_271_600);
+
+/// The groups of 67,200 rows in sixteen slots, and of pairs of them, are those of SQLite, in the order of their first rows, and so are the rows in
+/// order, by one worker and by eight; a sum that is too large refuses the query.
 pub fn many_groups<R: Threads + Wait + Sync>(rt: &R, alloc: Global) -> Result<(), Fail> {
     let (opened, kept) = database_of(alloc, TABLES, 1)?;
     by_groups::<Brand, _>(rt, alloc, opened, &kept)
@@ -154,12 +159,13 @@ fn check_answers<J: Naming + Send + Sync, R: Threads + Wait + Sync>(
     check_sum(rt, alloc, db, clock, me, THREE, workers, SUM_OF_THREE)?;
     check_sum(rt, alloc, db, clock, me, PAIRS, workers, SUM_OF_PAIRS)?;
     check_sum(rt, alloc, db, clock, me, FEW, workers, SUM_OF_FEW)?;
+    check_sum(rt, alloc, db, clock, me, IN_ORDER, workers, SUM_IN_ORDER)?;
     let sums = ask(rt, alloc, db, clock, &OpenGate, me, SUMS, workers);
     let refused = Err(Refusal::ArithmeticFault);
     expect_eq(group_sum(sums), refused, "sums that are too large")
 }
 
-// That a query by some workers has so many groups, with this sum.
+// That a query by some workers gives so many rows, with this sum.
 fn check_sum<J: Naming + Send + Sync, R: Threads + Wait + Sync>(
     rt: &R,
     alloc: Global,
@@ -195,7 +201,7 @@ fn sum_of(rows: &Rows) -> i64 {
     sum
 }
 
-// What a row of a group counts for: ten times its key, and its count.
+// What a row counts for: ten times its first number, and its second.
 fn weight_of(row: &[Value]) -> i64 {
     match row {
         [Value::Int(key), Value::Int(count)] => key.wrapping_mul(10).wrapping_add(*count),
