@@ -5,7 +5,7 @@ mod directory;
 mod front;
 mod joined;
 mod kept;
-mod leaf_rows;
+pub mod leaf_rows;
 mod lent;
 pub mod piece;
 mod rooted;

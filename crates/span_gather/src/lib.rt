@@ -6,4 +6,5 @@ pub mod explain;
 pub mod finish;
 mod in_place;
 mod in_threads;
+mod joined;
 pub mod rows;
