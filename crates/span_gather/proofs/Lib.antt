@@ -1,2 +1,4 @@
 mod InPlace
 mod InThreads
+mod JoinedParts
+mod Crosses

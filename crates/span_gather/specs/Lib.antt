@@ -1,3 +1,4 @@
 pub mod Gathered
 pub mod Explained
 pub mod InPlace
+pub mod JoinedParts

@@ -22,7 +22,7 @@ use std::alloc::{AllocError, Global};
 use std::thread::Threads;
 
 /// How many rows there are at least for each thread. To start a thread takes some 0.1 ms, in which one thread groups about a thousand rows.
-const ROWS_OF_A_THREAD: usize = 8192;
+pub(crate) const ROWS_OF_A_THREAD: usize = 8192;
 
 /// The rows of a piece, where they are in a list.
 fn list_of(piece: &Piece) -> Option<&RowList>
@@ -32,7 +32,7 @@ fn list_of(piece: &Piece) -> Option<&RowList>
 }
 
 /// The number of rows of pieces; 0 where those of one of them are in no list.
-fn count_listed(pieces: &[Piece]) -> usize {
+pub(crate) fn count_listed(pieces: &[Piece]) -> usize {
     let mut count: usize = 0;
     for piece in pieces {
         let Some(rows) = list_of(piece) else {
@@ -44,7 +44,7 @@ fn count_listed(pieces: &[Piece]) -> usize {
 }
 
 /// The rows of pieces, one piece after another, each lent, where those of all pieces are in lists. The only error is out of memory.
-fn lend_pieces(
+pub(crate) fn lend_pieces(
     alloc: Global,
     count: usize,
     pieces: &[Piece],

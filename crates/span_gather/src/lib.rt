@@ -6,5 +6,6 @@ pub mod explain;
 pub mod finish;
 mod in_place;
 mod in_threads;
+mod joined;
 mod lent_parts;
 pub mod rows;
