@@ -8,6 +8,7 @@ ghost use Rattle.span_gather.specs.Gathered.{joined_pieces, gathered};
 
 use super::in_place::{places_of_rows, rows_in_place};
 use super::in_threads::{groups_in_threads, rows_of_ranges};
+use super::joined::rows_of_pairs;
 use super::lent_parts::lent_parts;
 use super::rows::Rows;
 use span_algebra::plain::eval_plain;
@@ -80,7 +81,10 @@ fn rows_in_threads<R: Threads + Sync>(
     if let Some(rows) = groups_in_threads(rt, alloc, threads, top, leaves)? {
         return Ok(Some(rows));
     }
-    rows_of_ranges(rt, alloc, threads, top, leaves)
+    if let Some(rows) = rows_of_ranges(rt, alloc, threads, top, leaves)? {
+        return Ok(Some(rows));
+    }
+    rows_of_pairs(rt, alloc, threads, top, leaves)
 }
 
 /// The same, where at most this many threads may make the groups of many rows.
