@@ -7,7 +7,7 @@ use Rattle.span_gather.proofs.InPlace.{one_item, placed_of}
 use Rattle.span_gather.proofs.in_place.places_of_rows.Goals as goal
 
 pub returns-in-Some-3 : goal.returns-in-Some-3
-returns-in-Some-3 c =
+returns-in-Some-3 g c =
     let leaves : List (List Piece) = c.args.leaves.now in
     let pieces : List Piece = c.pieces-item.result in
     let order = c.in-Some.order in

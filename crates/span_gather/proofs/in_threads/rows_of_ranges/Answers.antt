@@ -1,5 +1,4 @@
-use Rattle.std.proofs.Common.{rules, ◌≡◌, ◌∙◌, ◌∷◌, [], List, Err, Some, ap, get_or, length, subst, sym}
-use denote.Ref.{Bor}
+use Rattle.std.proofs.Common.{rules, ◌≡◌, ◌∷◌, [], List, Err, Some, get_or, length, subst, sym}
 use Rattle.span_query.specs.declared.query.BoundQuery.TheViews.{out-BoundQuery}
 use Rattle.span_query.specs.Groups.{groups}
 use Rattle.span_query.specs.Rows.{Row, Rows, ◌>>=◌}
@@ -13,8 +12,8 @@ use Rattle.span_gather.proofs.InPlace.{one_item}
 use Rattle.span_gather.proofs.InThreads.{gathered_by_groups}
 use Rattle.span_gather.proofs.in_threads.rows_of_ranges.Goals as goal
 
-pub returns-in_err-groups_by_ranges : goal.returns-in_err-groups_by_ranges
-returns-in_err-groups_by_ranges g c =
+pub returns-in_err-groups : goal.returns-in_err-groups
+returns-in_err-groups g c =
     let leaves : List (List Piece) = c.args.leaves.now in
     let pieces : List Piece = c.pieces-item.result in
     let top = c.args.top.now in
@@ -26,7 +25,7 @@ returns-in_err-groups_by_ranges g c =
     let first : GroupsFirstTable top by = search rules in
     let all : joined_pieces pieces ≡ Some rows = search rules in
     let means : gathered leaves top ≡ (groups by rows >>= rows_of_groups (out-BoundQuery top) by) = gathered_by_groups leaves pieces top by rows one first all in
-    let why = c.in_err-groups_by_ranges.field-0.0 in
+    let why = c.in_err-groups.field-0.0 in
     let gives : Gives {A = List Row} (Err why) (groups by rows) = search rules in
     let fails : Gives {A = List Row} (Err why) (gathered leaves top) = subst (λ (o : Rows). Gives {A = List Row} (Err why) o) (sym means) (then_fails why (groups by rows) (rows_of_groups (out-BoundQuery top) by) gives) in
     search (rules, fails)
