@@ -1,7 +1,8 @@
 //! Reading one cell of a packed row.
-ghost use Rattle.std.specs.Prelude.{◌≡◌, ◌≤◌, ◌+◌, ◌++◌, List, ℕ, IfOk, MatchOption, drop, take, length};
+ghost use Rattle.std.specs.Prelude.{◌≡◌, ◌≤◌, ◌+◌, ◌++◌, List, ℕ, IfOk, IfSome, MatchOption, drop, take, length};
 ghost use Rattle.std.specs.Int.{from_be_bytes, to_be_bytes, w32, w64};
 ghost use Rattle.span_value.specs.declared.value.Kind.TheVariants as kind;
+ghost use Rattle.span_value.specs.declared.value.Value.TheVariants as value;
 ghost use Rattle.span_rowcode.specs.Rows.{IsCell, IsNoCell, IsCellSkip};
 ghost use Rattle.span_rowcode.specs.Cells.{IsNoBody, IsBody, HasBytes, HasNoBytes};
 
@@ -128,17 +129,47 @@ fn bytes_body(alloc: Global, rest: &[u8]) -> Result<Option<(Value, usize)>, Allo
     }
 }
 
+/// The text at the front of bytes, which is its length in four bytes and then its bytes, and how many bytes these are. None if there is no text.
+fn text_at(rest: &[u8]) -> Option<(&str, usize)>
+    requires { length rest.now ≤ LONGEST_ROW }
+    ensures { MatchOption result
+        (IsNoBody kind.Str rest.now)
+        (λ r. IsBody kind.Str rest.now (value.Str r.0.now) r.1) }
+{
+    match bytes_at(rest) {
+        None => None,
+        Some(bytes) => match str::from_utf8(bytes) {
+            Err(_wrong) => None,
+            Ok(text) => Some((text, bytes.len() + 4)),
+        },
+    }
+}
+
+/// The text of the cell at the front of bytes, lent, and how many bytes code the cell. None where it is NULL, or no cell of a text is coded there.
+pub fn lent_text(bytes: &[u8]) -> Option<(&str, usize)>
+    requires { length bytes.now ≤ LONGEST_ROW }
+    ensures { IfSome result (λ r. IsCell kind.Str bytes.now (value.Str r.0.now) r.1) }
+{
+    if bytes.len() == 0 {
+        return None;
+    }
+    if bytes[0] != 1 {
+        return None;
+    }
+    match text_at(after(bytes, 1)) {
+        None => None,
+        Some((text, width)) => Some((text, width + 1)),
+    }
+}
+
 fn text_body(alloc: Global, rest: &[u8]) -> Result<Option<(Value, usize)>, AllocError>
     requires { length rest.now ≤ LONGEST_ROW }
     ensures { IfOk result
         (λ found. MatchOption found (IsNoBody kind.Str rest.now) (λ r. IsBody kind.Str rest.now r.0 r.1)) }
 {
-    match bytes_at(rest) {
+    match text_at(rest) {
         None => Ok(None),
-        Some(bytes) => match str::from_utf8(bytes) {
-            Err(_wrong) => Ok(None),
-            Ok(text) => Ok(Some((Value::Str(Text::from_str(alloc, text)?), bytes.len() + 4))),
-        },
+        Some((text, width)) => Ok(Some((Value::Str(Text::from_str(alloc, text)?), width))),
     }
 }
 

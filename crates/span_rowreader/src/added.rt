@@ -10,7 +10,7 @@ ghost use Rattle.span_rowreader.specs.Placed.{is_wanted, wants_none};
 use super::key_numbers::KeyNumbers;
 use super::number::{cell_number, number_at};
 use super::place::is_among;
-use span_rowcode::cell::{after, read_cell, skip_cell};
+use span_rowcode::cell::{after, lent_text, read_cell, skip_cell};
 use span_rowcode::pack::LONGEST_ROW;
 use span_rows::row_list::RowList;
 use span_value::value::Kind;
@@ -72,6 +72,12 @@ fn put_last_cell(
         ((rows.new ≡ rows.old) × IsNoCell kind bytes.now)
         (λ n. IsCellPutInLast wanted.now kind place bytes.now rows.old rows.new n)) }
 {
+    if let Kind::Str = kind {
+        if let Some((text, width)) = lent_text(bytes) {
+            rows.put_text(alloc, wanted.len(), place, text)?;
+            return Ok(Some(width));
+        }
+    }
     match read_cell(alloc, kind, bytes)? {
         None => Ok(None),
         Some((value, width)) => {

@@ -2,7 +2,7 @@
 ghost use Rattle.std.specs.Prelude.{◌≡◌, ◌==◌, ◌<◌, ◌≤◌, ◌+◌, ◌-◌, ◌++◌, ◌∷◌, [], IfOk, OnOk, OnErr, drop, length, map, replicate, slice_index_or, slice_set, MatchOption, take, vec_len, vec_capacity};
 ghost use Rattle.std.specs.Cmp.Lexicographic.{pointwise};
 ghost use Rattle.std.specs.List.{All};
-ghost use Rattle.span_value.specs.declared.value.Value.TheVariants.{Int, Null};
+ghost use Rattle.span_value.specs.declared.value.Value.TheVariants.{Int, Null, Str};
 ghost use Rattle.span_query.specs.Groups.{are_equal};
 ghost use Rattle.span_rows.specs.Cuts.{AreEnds, cut_at, shift, start_at};
 ghost use Rattle.span_rows.specs.LastRows.{IsPutInLast, IsPlaceInLast, IsNoPlaceInLast};
@@ -130,6 +130,26 @@ impl RowList {
         ensures { IsPutInLast width place value self.old self.new }
     {
         put_value_in_last(&mut self.values, self.ends.as_slice(), width, place, value);
+    }
+
+    /// The same of a text, which is copied to where it is to be. The only error is out of memory; it leaves a text of no bytes there.
+    pub fn put_text(
+        &mut self,
+        alloc: Global,
+        width: usize,
+        place: usize,
+        text: &str,
+    ) -> Result<(), AllocError>
+        ensures { OnOk result (IsPutInLast width place (Str text.now) self.old self.new) }
+    {
+        put_text_in_last(
+            alloc,
+            &mut self.values,
+            self.ends.as_slice(),
+            width,
+            place,
+            text,
+        )
     }
 
     /// The same of a number. Where NULL is at the place, nothing is dropped.
@@ -456,6 +476,40 @@ fn put_number_in_last(
     if let Some(at) = place_in_last(values.as_slice(), width, place) {
         put_number_at(values, at, number);
     }
+}
+
+#[tactic(auto, using(crate::proofs::LastRow::put_in_last, crate::proofs::LastRow::not_put_in_last, crate::proofs::LastRow::same_ends))]
+fn put_text_in_last(
+    alloc: Global,
+    values: &mut Vec<Value>,
+    ends: &[usize],
+    width: usize,
+    place: usize,
+    text: &str,
+) -> Result<(), AllocError>
+    requires { AreEnds 0 ends.now (length values.old.items) }
+    ensures whole { AreEnds 0 ends.now (length values.new.items) }
+    ensures put { OnOk result
+        (IsPutInLast width place (Str text.now) (cut_at 0 ends.now values.old.items)
+        (cut_at 0 ends.now values.new.items)) }
+{
+    match place_in_last(values.as_slice(), width, place) {
+        Some(at) => put_text_at(alloc, values, at, text),
+        None => Ok(()),
+    }
+}
+
+fn put_text_at(
+    alloc: Global,
+    values: &mut Vec<Value>,
+    at: usize,
+    text: &str,
+) -> Result<(), AllocError>
+    requires { at < length values.old.items }
+    ensures items { OnOk result (values.new.items ≡ slice_set values.old.items at (Str text.now)) }
+    ensures len { length values.new.items ≡ length values.old.items }
+{
+    values[at].set_text(alloc, text)
 }
 
 fn put_at(values: &mut Vec<Value>, at: usize, value: Value)

@@ -6,6 +6,7 @@ pub mod order;
 pub mod owned;
 pub mod refusal;
 pub mod seq;
+mod short_text;
 pub mod text;
 pub mod truth;
 pub mod value;

@@ -1,16 +1,13 @@
 //! Strings that contracts see as their UTF-8 bytes.
-ghost use Rattle.span_value.specs.declared.text.TheConstants.{INLINE_TEXT_BYTES};
-ghost use Rattle.std.specs.Prelude.{◌≡◌, ◌<◌, length, string_bytes, IfOk, OnErr};
+ghost use Rattle.span_value.specs.declared.short_text.TheConstants.{SHORT_TEXT_BYTES};
+ghost use Rattle.std.specs.Prelude.{◌≡◌, ◌≤◌, ◌<◌, [], length, string_bytes, IfOk, OnErr, OnOk};
 
-use arrayvec::ArrayString;
+use super::short_text::{SHORT_TEXT_BYTES, ShortText};
 use std::alloc::{AllocError, Global};
 use std::fmt;
 use std::marker::Model;
 
-/// How many bytes of a text lie in the value itself: names and short texts take no memory.
-pub const INLINE_TEXT_BYTES: usize = 16;
-
-/// A string in UTF-8, whose model is its bytes. A copy of up to 16 bytes takes no memory.
+/// A string in UTF-8, whose model is its bytes. A copy of up to 30 bytes takes no memory.
 #[derive(Drop)]
 pub struct Text {
     stored: Stored,
@@ -19,7 +16,7 @@ pub struct Text {
 /// Where a text has its bytes.
 #[derive(Drop)]
 enum Stored {
-    Inline(ArrayString<INLINE_TEXT_BYTES>),
+    Inline(ShortText),
     Heap(String),
 }
 
@@ -42,16 +39,65 @@ impl Text {
         }
     }
 
-    /// A copy of a string. Memory is taken, and may run out, only for more than 16 bytes.
+    /// No bytes. It takes no memory.
+    pub fn empty() -> Text
+        ensures { result ≡ [] }
+    {
+        Text {
+            stored: Stored::Inline(ShortText::empty()),
+        }
+    }
+
+    /// A copy of a string. Memory is taken, and may run out, only for more than 30 bytes.
     pub fn from_str(alloc: Global, text: &str) -> Result<Text, AllocError>
         ensures bytes { IfOk result (λ t. t ≡ text.now) }
-        ensures memory { OnErr result (INLINE_TEXT_BYTES < length text.now) }
+        ensures memory { OnErr result (SHORT_TEXT_BYTES < length text.now) }
     {
-        let stored = match ArrayString::from(text) {
-            Ok(inline) => Stored::Inline(inline),
-            Err(_) => Stored::Heap(String::from_str(alloc, text)?),
-        };
-        Ok(Text { stored })
+        let mut copy = Text::empty();
+        copy.set(alloc, text)?;
+        Ok(copy)
+    }
+
+    /// Becomes a copy of a string. Memory is taken, and may run out, only for more than 30 bytes; an error leaves the text as it was.
+    pub fn set(&mut self, alloc: Global, text: &str) -> Result<(), AllocError>
+        ensures bytes { OnOk result (self.new ≡ text.now) }
+        ensures memory { OnErr result (SHORT_TEXT_BYTES < length text.now) }
+        ensures kept { OnErr result (self.new ≡ self.old) }
+    {
+        if text.len() > SHORT_TEXT_BYTES {
+            self.stored = Stored::Heap(String::from_str(alloc, text)?);
+            return Ok(());
+        }
+        self.set_short(text);
+        Ok(())
+    }
+
+    /// Becomes a copy of a short string, where it is a short one without a move.
+    fn set_short(&mut self, text: &str)
+        requires { length text.now ≤ SHORT_TEXT_BYTES }
+        ensures { self.new ≡ text.now }
+    {
+        match &mut self.stored {
+            Stored::Inline(short) => short.set(text),
+            Stored::Heap(_) => {
+                let mut short = ShortText::empty();
+                short.set(text);
+                self.stored = Stored::Inline(short);
+            }
+        }
+    }
+
+    /// The same text. Memory is taken, and may run out, only for more than 30 bytes.
+    pub fn copy(&self, alloc: Global) -> Result<Text, AllocError>
+        ensures bytes { IfOk result (λ t. t ≡ self.now) }
+        ensures memory { OnErr result (SHORT_TEXT_BYTES < length self.now) }
+    {
+        match &self.stored {
+            Stored::Inline(short) => Ok(Text {
+                stored: Stored::Inline(short.copy()),
+            }),
+            Stored::Heap(text) => Text::from_str(alloc, text.as_str()),
+        }
     }
 
     /// The string.

@@ -1,10 +1,10 @@
 //! Values of columns, and the types that they have.
-ghost use Rattle.std.specs.Prelude.{◌≡◌, ◌↔◌, IsTrue, IfOk, IsErrOf, IsOkUnless};
+ghost use Rattle.std.specs.Prelude.{◌≡◌, ◌↔◌, IsTrue, IfOk, IsErrOf, IsOkUnless, OnOk};
 
 use super::refusal::Refusal;
 use super::seq::Seq;
 use super::text::Text;
-use std::alloc::Global;
+use std::alloc::{AllocError, Global};
 
 /// A value of a column.
 #[derive(Debug, Drop, PartialEq, Eq)]
@@ -46,10 +46,22 @@ impl Value {
         Ok(match self {
             Value::Null => Value::Null,
             Value::Int(n) => Value::Int(*n),
-            Value::Str(text) => Value::Str(Text::from_str(alloc, text.as_str())?),
+            Value::Str(text) => Value::Str(text.copy(alloc)?),
             Value::Bytes(bytes) => Value::Bytes(copy_bytes(alloc, bytes)?),
             Value::Bool(b) => Value::Bool(*b),
         })
+    }
+
+    /// Becomes a copy of a text, written where it is to be: who moves what was just written waits for it. The only error is out of memory; it leaves
+    /// a text of no bytes.
+    pub fn set_text(&mut self, alloc: Global, text: &str) -> Result<(), AllocError>
+        ensures { OnOk result (self.new ≡ Value.Str text.now) }
+    {
+        *self = Value::Str(Text::empty());
+        match self {
+            Value::Str(copy) => copy.set(alloc, text),
+            _ => Ok(()),
+        }
     }
 
     /// Whether the two are the same value; NULL is the same as NULL here.

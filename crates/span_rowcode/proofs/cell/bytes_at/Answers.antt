@@ -1,4 +1,4 @@
-use Rattle.std.proofs.Common.{◌≡◌, ◌-◌, ◌<◌, ◌≤◌, ◌^◌, arith, sym, ◌∙◌, ap, take, drop, length}
+use Rattle.std.proofs.Common.{arith, ◌∙◌, ap, take}
 use Rattle.span_rowcode.proofs.RowReads.{are_bytes, bytes_read}
 use Rattle.span_rowcode.proofs.cell.bytes_at.Goals as goal
 

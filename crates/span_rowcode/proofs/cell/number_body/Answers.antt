@@ -1,4 +1,4 @@
-use Rattle.std.proofs.Common.{◌≡◌, ◌<◌, ◌≤◌, ◌^◌, ℕ, ℤ, List, ◌∷◌, ◌++◌, arith, rules, sym, ◌∙◌, ap, subst, take, drop}
+use Rattle.std.proofs.Common.{◌≡◌, ℕ, ℤ, List, ◌∷◌, ◌++◌, arith, rules, sym, ◌∙◌, ap, subst, drop}
 use Rattle.std.specs.Prelude.{FitsSigned}
 use Rattle.std.specs.Int.{to_be_bytes, from_be_bytes, cast_unsigned, w64}
 use Rattle.std.proofs.lemmas.Int.{to_z-of_z, of_z-to_z}
