@@ -66,6 +66,7 @@ impl MadeRows {
         ensures set { OnOk result (IsSetAt key (Some row) self.old self.new) }
     {
         let row = MadeRow { row, near };
+        order_if_crowded(&mut self.by_hash, &mut self.ordered)?;
         if let Some(rows) = &mut self.by_hash {
             return rows.insert(key, row);
         }
@@ -115,6 +116,23 @@ impl MadeRows {
             None => Ok(ordered.into_left()),
         }
     }
+}
+
+// Moves rows that are kept by hash into an ordered map where some class of keys has too many of them.
+fn order_if_crowded(
+    by_hash: &mut Option<HashedRows>,
+    ordered: &mut OrderedRows,
+) -> Result<(), AllocError>
+    ensures { OnOk result (rows_of by_hash.new ordered.new ≡ rows_of by_hash.old ordered.old) }
+{
+    let is_crowded = match by_hash {
+        Some(rows) => rows.is_crowded(),
+        None => false,
+    };
+    if is_crowded {
+        order_rows(ordered.allocator(), by_hash, ordered)?;
+    }
+    Ok(())
 }
 
 // Moves rows that are kept by hash into an ordered map.

@@ -1,0 +1,95 @@
+//! Links between rows whose keys are in one class, from each to the one that came before it.
+ghost use Rattle.std.specs.Prelude.{◌≡◌, ◌<◌, ◌++◌, ◌∷◌, [], length, List, ℕ, true, IfNone, IfOk, IfSome, None, OnErr, OnOk};
+ghost use Rattle.std.specs.Map.{keys_of};
+ghost use Rattle.span_keycode.specs.Order.{is_same};
+ghost use Rattle.span_maderows.specs.Linked.{class_of, key_at, AreLinked};
+ghost use Rattle.span_maderows.specs.Made.{made_at};
+
+use super::class::class_of;
+use super::made_row::MadeRow;
+use span_keycode::key::Key;
+use std::alloc::{AllocError, Global};
+
+/// For each class of keys which row is its last, and for each row which one of its class came before it.
+#[derive(Drop)]
+pub(crate) struct Links {
+    /// For each class one more than the place of its last row, or 0 where it has none.
+    pub(crate) lasts: Vec<usize>,
+    /// For each row one more than the place of the row before it in its class, or 0 where there is none.
+    pub(crate) befores: Vec<usize>,
+}
+
+/// What a search has found.
+#[derive(Clone, Copy)]
+pub(crate) struct Search {
+    /// The place of the row at the key.
+    pub(crate) place: Option<usize>,
+    /// With how many keys it was compared.
+    pub(crate) compared: usize,
+}
+
+impl Links {
+    /// No row, and a number of classes.
+    pub(crate) fn new(alloc: Global, count: usize) -> Result<Links, AllocError>
+        requires { 0 < count }
+        ensures { IfOk result (λ links. AreLinked [] links.lasts.items links.befores.items) }
+    {
+        let mut lasts = Vec::with_capacity(alloc, count)?;
+        for _ in 0..count {
+            lasts.push(0)?;
+        }
+        Ok(Links {
+            lasts,
+            befores: Vec::with_capacity(alloc, count)?,
+        })
+    }
+
+    /// The number of the class of a key.
+    pub(crate) fn class_of(&self, key: &Key) -> usize
+        requires { 0 < length self.now.lasts.items }
+        ensures class { result ≡ class_of (length self.now.lasts.items) key.now }
+        ensures within { result < length self.now.lasts.items }
+    {
+        class_of(self.lasts.len(), key)
+    }
+
+    /// Links one more row, whose key is in a class.
+    pub(crate) fn push(&mut self, class: usize) -> Result<(), AllocError>
+        requires { class < length self.old.lasts.items }
+        ensures linked { OnOk result
+            ((keys : List (List ℕ)) (key : List ℕ)
+            → AreLinked keys self.old.lasts.items self.old.befores.items
+            → class ≡ class_of (length self.old.lasts.items) key
+            → AreLinked (keys ++ key ∷ []) self.new.lasts.items self.new.befores.items) }
+        ensures lasts { OnErr result (self.new.lasts.items ≡ self.old.lasts.items) }
+        ensures befores { OnErr result (self.new.befores.items ≡ self.old.befores.items) }
+    {
+        self.befores.push(self.lasts[class])?;
+        self.lasts[class] = self.befores.len();
+        Ok(())
+    }
+
+    /// Looks for the row at a key, among those whose keys are in its class.
+    pub(crate) fn search(&self, rows: &[(Key, MadeRow)], class: usize, key: &Key) -> Search
+        requires linked { AreLinked (keys_of rows.now) self.now.lasts.items self.now.befores.items }
+        requires class { class ≡ class_of (length self.now.lasts.items) key.now }
+        requires within { class < length self.now.lasts.items }
+        ensures within { IfSome result.place (λ place. place < length rows.now) }
+        ensures found { IfSome result.place (λ place. is_same key.now (key_at (keys_of rows.now) place) ≡ true) }
+        ensures none { IfNone result.place (made_at rows.now key.now ≡ None) }
+    {
+        let mut left = self.lasts[class];
+        let mut compared: usize = 0;
+        while left > 0 {
+            let place = left - 1;
+            if key.cmp(&rows[place].0).is_eq() {
+                let place = Some(place);
+                return Search { place, compared };
+            }
+            compared = compared.saturating_add(1);
+            left = self.befores[place];
+        }
+        let place = None;
+        Search { place, compared }
+    }
+}
