@@ -11,13 +11,12 @@ use Rattle.std.proofs.lemmas.Cmp.{eq_by_cmp_equiv}
 use Rattle.std.proofs.lemmas.List.Sorted.{Contains-permutation, IsPermutation-sym, IsPermutation-map}
 use Rattle.std.proofs.lemmas.Map.Keys.{IsDistinct-IsPermutation}
 use Rattle.std.proofs.lemmas.Map.Views.{Contains-from_lookup, lookup-from_Contains}
-use Rattle.span_value.proofs.Lists.{all_weaker}
 use Rattle.span_keycode.specs.Order.{byte_order, is_same}
 use Rattle.span_keycode.proofs.Order.{same_bytes, bytes_same}
-use Rattle.span_maderows.specs.Made.{made_at, AreInKeyOrder, HaveDistinctKeys, HasSameRows, IsAfterAll, IsBeforeAll, IsSetAt, in_key_order}
+use Rattle.span_maderows.specs.Made.{made_at, AreInKeyOrder, HaveDistinctKeys, HasSameRows, IsBeforeAll, IsSetAt, in_key_order}
 use Rattle.span_maderows.proofs.Bytes.{bytes_total, turned}
 use Rattle.span_maderows.proofs.Pushing.{Made}
-use Rattle.span_maderows.proofs.MadeRows.{order_apart, not_same, back_all, front_all, both_all, not_in_first, not_in_second}
+use Rattle.span_maderows.proofs.MadeRows.{back_all, front_all, both_all, not_in_first, not_in_second}
 
 -- ---- a row is put into a list in the order of the keys
 

@@ -1,15 +1,15 @@
 -- Rows in classes by a hash of their keys: a search in a class, and one row more.
-use Rattle.std.proofs.Common.{◌≡◌, ◌⊎◌, inl, inr, ℕ, zero, suc, ◌+◌, ◌-◌, ◌<◌, ◌≤◌, Bool, true, false, cond, List, [], ◌∷◌, ◌++◌, Option, Some, None, is_some, get_or, set, length, slice_get, slice_index, replicate, refl, sym, ap, subst, ◌∙◌, length-append, arith}
-use Rattle.std.specs.List.{IsDistinct, list_any}
+use Rattle.std.proofs.Common.{◌≡◌, inl, inr, ℕ, zero, suc, ◌+◌, ◌<◌, ◌≤◌, Bool, true, false, cond, List, [], ◌∷◌, ◌++◌, Option, Some, None, is_some, get_or, set, length, slice_get, slice_index, refl, sym, ap, subst, ◌∙◌, arith}
+use Rattle.std.specs.List.{IsDistinct}
 use Rattle.std.specs.Map.{keys_of}
 use Rattle.std.proofs.lemmas.Bool.{cases_eq, cases_lt}
 use Rattle.std.proofs.lemmas.Cmp.{eq_by_cmp_equiv}
-use Rattle.std.proofs.lemmas.List.{get_or_append_left, get_or-append_right, get_or-replicate, get_or-set_same, get_or-set_other, length-replicate, length-set, map-append, map-set, set-get_or}
-use Rattle.std.proofs.lemmas.Map.Entries.{length-keys_of, lookup_from_place}
+use Rattle.std.proofs.lemmas.List.{map-append, map-set, set-get_or}
+use Rattle.std.proofs.lemmas.Map.Entries.{lookup_from_place}
 use Rattle.std.proofs.lemmas.Map.Keys.{IsDistinct-push}
 use Rattle.std.proofs.lemmas.Map.Made.{is_some-lookup}
-use Rattle.span_keycode.specs.Order.{byte_order, is_same}
-use Rattle.span_keycode.proofs.Order.{same_bytes, bytes_same}
+use Rattle.span_keycode.specs.Order.{is_same}
+use Rattle.span_keycode.proofs.Order.{same_bytes}
 use Rattle.span_maderows.specs.Linked.{class_of, key_at, AreHashed, AreLinked, IsLast}
 use Rattle.span_maderows.specs.Made.{made_at, HaveDistinctKeys, IsSetAt}
 use Rattle.span_maderows.proofs.Bytes.{bytes_total, turned}

@@ -1,8 +1,9 @@
 //! Rows that mutations made, in classes by a hash of their keys.
 //!
-//! A search goes through the rows of a class alone, from the last one back, which mostly are one or none: there are as many
-//! classes as rows. Whoever picks the keys can make them fall into one class; so, as soon as a class has more rows than a
-//! few, the rows are crowded, and the caller is to keep them otherwise. So no search compares more keys than these, and one.
+//! They are a list, as they came, and a search goes through the rows of one class, from the last one back: with about as many
+//! classes as rows, that is one row or two. The hash has a fixed seed, so that keys can be picked which all fall into one
+//! class. So, once a class has a few more rows than chance gives it, the rows count as crowded, and the caller is to move them
+//! into a map: no search goes through more rows than these.
 ghost use Rattle.std.specs.Prelude.{◌≡◌, ◌<◌, is_none, IfOk, OnOk, Some};
 ghost use Rattle.std.specs.Map.{keys_of};
 ghost use Rattle.std.specs.Option.{option_copied};
@@ -18,18 +19,12 @@ use std::alloc::{AllocError, Global};
 use std::collections::BTreeMap;
 use std::marker::Model;
 
-/// How many rows of a class are not too many. With as many classes as rows, one key in 10^35 finds so many in its class by
-/// chance.
-const MOST_OF_A_CLASS: usize = 32;
-
 /// By coded keys, rows that mutations made.
 #[derive(Drop)]
 pub(crate) struct HashedRows {
     /// The rows as they came.
     rows: Vec<(Key, MadeRow)>,
     links: Links,
-    /// Whether some class has too many rows.
-    is_crowded: bool,
 }
 
 // Contracts see the rows in the order of their keys.
@@ -53,16 +48,13 @@ impl HashedRows {
     {
         let count = class_count(list.capacity());
         let links = links_of(*list.allocator(), list.as_slice(), count)?;
-        Ok(HashedRows {
-            rows: list,
-            links,
-            is_crowded: false,
-        })
+        Ok(HashedRows { rows: list, links })
     }
 
-    /// Whether there are so many rows in some class that a search is to be made otherwise. No contract speaks of it.
+    /// Whether the rows are to be moved into a map, since a search may go through too many. No contract speaks of it: it is
+    /// for speed alone.
     pub(crate) fn is_crowded(&self) -> bool {
-        self.is_crowded
+        self.links.is_crowded
     }
 
     /// The row at a key.
@@ -70,7 +62,7 @@ impl HashedRows {
         ensures { option_copied result ≡ made_at self.now key.now }
     {
         let class = self.links.class_of(key);
-        match self.links.search(self.rows.as_slice(), class, key).place {
+        match self.links.search(self.rows.as_slice(), class, key) {
             Some(place) => Some(&self.rows[place].1),
             None => None,
         }
@@ -82,12 +74,10 @@ impl HashedRows {
         ensures set { OnOk result (IsSetAt key (Some row) self.old self.new) }
     {
         let class = self.links.class_of(&key);
-        let search = self.links.search(self.rows.as_slice(), class, &key);
-        if let Some(place) = search.place {
+        if let Some(place) = self.links.search(self.rows.as_slice(), class, &key) {
             self.rows[place].1 = row;
             return Ok(false);
         }
-        self.is_crowded = self.is_crowded || search.compared >= MOST_OF_A_CLASS;
         self.rows.reserve(1)?;
         self.links.push(class)?;
         self.rows.push_reserved((key, row));
@@ -114,7 +104,7 @@ impl HashedRows {
     }
 }
 
-// How many classes of keys are for a number of rows: a power of two, so that each is a hash's for about as many.
+// How many classes of keys there are for a number of rows: a power of two, so that the lower bits of a hash name one.
 fn class_count(rows: usize) -> usize
     ensures { 0 < result }
 {

@@ -10,6 +10,10 @@ use super::made_row::MadeRow;
 use span_keycode::key::Key;
 use std::alloc::{AllocError, Global};
 
+/// The most rows that a class has while none is crowded. With as many classes as rows, one class in some 10^35 has more by
+/// chance.
+const MOST_OF_A_CLASS: usize = 32;
+
 /// For each class of keys which row is its last, and for each row which one of its class came before it.
 #[derive(Drop)]
 pub(crate) struct Links {
@@ -17,15 +21,8 @@ pub(crate) struct Links {
     pub(crate) lasts: Vec<usize>,
     /// For each row one more than the place of the row before it in its class, or 0 where there is none.
     pub(crate) befores: Vec<usize>,
-}
-
-/// What a search has found.
-#[derive(Clone, Copy)]
-pub(crate) struct Search {
-    /// The place of the row at the key.
-    pub(crate) place: Option<usize>,
-    /// With how many keys it was compared.
-    pub(crate) compared: usize,
+    /// Whether some class has more rows than it should.
+    pub(crate) is_crowded: bool,
 }
 
 impl Links {
@@ -41,6 +38,7 @@ impl Links {
         Ok(Links {
             lasts,
             befores: Vec::with_capacity(alloc, count)?,
+            is_crowded: false,
         })
     }
 
@@ -64,32 +62,41 @@ impl Links {
         ensures lasts { OnErr result (self.new.lasts.items ≡ self.old.lasts.items) }
         ensures befores { OnErr result (self.new.befores.items ≡ self.old.befores.items) }
     {
+        self.is_crowded = self.is_crowded || self.is_full(self.lasts[class]);
         self.befores.push(self.lasts[class])?;
         self.lasts[class] = self.befores.len();
         Ok(())
     }
 
-    /// Looks for the row at a key, among those whose keys are in its class.
-    pub(crate) fn search(&self, rows: &[(Key, MadeRow)], class: usize, key: &Key) -> Search
+    // Whether a class has the most rows that it should. Its last one is before the place `left`. No contract speaks of it.
+    fn is_full(&self, left: usize) -> bool {
+        let mut left = left;
+        for _ in 0..MOST_OF_A_CLASS {
+            let Some(before) = self.befores.get(left.wrapping_sub(1)) else {
+                return false;
+            };
+            left = *before;
+        }
+        true
+    }
+
+    /// The place of the row at a key, which is looked for among those whose keys are in its class.
+    pub(crate) fn search(&self, rows: &[(Key, MadeRow)], class: usize, key: &Key) -> Option<usize>
         requires linked { AreLinked (keys_of rows.now) self.now.lasts.items self.now.befores.items }
         requires class { class ≡ class_of (length self.now.lasts.items) key.now }
         requires within { class < length self.now.lasts.items }
-        ensures within { IfSome result.place (λ place. place < length rows.now) }
-        ensures found { IfSome result.place (λ place. is_same key.now (key_at (keys_of rows.now) place) ≡ true) }
-        ensures none { IfNone result.place (made_at rows.now key.now ≡ None) }
+        ensures within { IfSome result (λ place. place < length rows.now) }
+        ensures found { IfSome result (λ place. is_same key.now (key_at (keys_of rows.now) place) ≡ true) }
+        ensures none { IfNone result (made_at rows.now key.now ≡ None) }
     {
         let mut left = self.lasts[class];
-        let mut compared: usize = 0;
         while left > 0 {
             let place = left - 1;
             if key.cmp(&rows[place].0).is_eq() {
-                let place = Some(place);
-                return Search { place, compared };
+                return Some(place);
             }
-            compared = compared.saturating_add(1);
             left = self.befores[place];
         }
-        let place = None;
-        Search { place, compared }
+        None
     }
 }
