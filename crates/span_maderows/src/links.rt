@@ -31,12 +31,8 @@ impl Links {
         requires { 0 < count }
         ensures { IfOk result (λ links. AreLinked [] links.lasts.items links.befores.items) }
     {
-        let mut lasts = Vec::with_capacity(alloc, count)?;
-        for _ in 0..count {
-            lasts.push(0)?;
-        }
         Ok(Links {
-            lasts,
+            lasts: vec![in alloc; 0; count]?,
             befores: Vec::with_capacity(alloc, count)?,
             is_crowded: false,
         })
