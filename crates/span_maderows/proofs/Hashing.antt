@@ -11,14 +11,12 @@ use Rattle.std.proofs.lemmas.Cmp.{eq_by_cmp_equiv}
 use Rattle.std.proofs.lemmas.List.Sorted.{Contains-permutation, IsPermutation-sym, IsPermutation-map}
 use Rattle.std.proofs.lemmas.Map.Keys.{IsDistinct-IsPermutation}
 use Rattle.std.proofs.lemmas.Map.Views.{Contains-from_lookup, lookup-from_Contains}
-use Rattle.indexmap.specs.IndexMap as hash
-use Rattle.span_value.proofs.Lists.{all_weaker}
 use Rattle.span_keycode.specs.Order.{byte_order, is_same}
 use Rattle.span_keycode.proofs.Order.{same_bytes, bytes_same}
-use Rattle.span_maderows.specs.Made.{made_at, AreInKeyOrder, HaveDistinctKeys, HasSameRows, IsAfterAll, IsBeforeAll, IsSetAt, in_key_order}
+use Rattle.span_maderows.specs.Made.{made_at, AreInKeyOrder, HaveDistinctKeys, HasSameRows, IsBeforeAll, IsSetAt, in_key_order}
 use Rattle.span_maderows.proofs.Bytes.{bytes_total, turned}
 use Rattle.span_maderows.proofs.Pushing.{Made}
-use Rattle.span_maderows.proofs.MadeRows.{order_apart, not_same, back_all, front_all, both_all, not_in_first, not_in_second}
+use Rattle.span_maderows.proofs.MadeRows.{back_all, front_all, both_all, not_in_first, not_in_second}
 
 -- ---- a row is put into a list in the order of the keys
 
@@ -98,22 +96,6 @@ hashed_absent old key o b is none = cases o b none ∙ ap (λ (p : Option (List 
     cases None false e = absurd (let f : false ≡ true = e in cc)
     cases (Some row) true e = absurd (let f : true ≡ false = e in cc)
     cases (Some row) false e = refl
-
--- ---- a list moves to the index by hash
-
-hashed_end : (made : Made) (key row : List ℕ) → IsAfterAll key made → hash.insert_entry is_same made key row ≡ made ++ (key, row) ∷ []
-hashed_end [] key row after = refl
-hashed_end (e ∷ es) key row after =
-    ap (λ (b : Bool). cond b ((e.0, row) ∷ es) (e ∷ hash.insert_entry is_same es key row)) (turned key e.0 ∙ not_same e.0 key after.0)
-    ∙ ap (λ (l : Made). e ∷ l) (hashed_end es key row after.1)
-
--- one row is moved
-pub hashed_next : (whole made next left rest : Made) (key row : List ℕ) → AreInKeyOrder whole → made ++ left ≡ whole → left ≡ (key, row) ∷ rest → next ≡ hash.insert_entry is_same made key row → next ++ rest ≡ whole
-hashed_next whole made next left rest key row order parts is put =
-    let ordered : AreInKeyOrder (made ++ (key, row) ∷ rest) = subst AreInKeyOrder (sym parts ∙ ap (λ (l : Made). made ++ l) is) order in
-    let after : IsAfterAll key made =
-    all_weaker (λ (k : List ℕ). IsBeforeAll k ((key, row) ∷ rest)) (λ (k : List ℕ). byte_order k key ≡ Less) (λ k h. h.0) (keys_of made) (order_apart made ((key, row) ∷ rest) ordered) in
-    ap (λ (l : Made). l ++ rest) (put ∙ hashed_end made key row after) ∙ append_assoc made ((key, row) ∷ []) rest ∙ ap (λ (l : Made). made ++ l) (sym is) ∙ parts
 
 -- ---- the same rows in another order
 

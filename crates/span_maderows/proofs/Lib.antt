@@ -3,3 +3,4 @@ pub mod Lists
 pub mod Pushing
 pub mod MadeRows
 pub mod Hashing
+pub mod Linking

@@ -95,7 +95,7 @@ abbrev pub first_of : Option (List ℕ) → Option (List ℕ) → Option (List �
 first_of (Some row) o = Some row
 first_of None o = o
 
-first_alone : (o : Option (List ℕ)) → first_of o None ≡ o
+pub first_alone : (o : Option (List ℕ)) → first_of o None ≡ o
 first_alone (Some row) = refl
 first_alone None = refl
 

@@ -1,11 +1,12 @@
 //! The rows that mutations made, by their keys.
 //!
 //! While each comes at a key after all others, they are a list in the order of their keys, and a row takes one comparison.
-//! Once a key comes among theirs, they are kept by hash: a search in an ordered map reads a node of keys at each level, most
-//! of which wait for memory where the rows are many, and a search by hash reads two or three lines of memory. Only where
-//! keys under a front are asked for, when a row is deleted with those below it, are they moved into an ordered map, and
-//! they stay there. So each row is moved to the index by hash once at most, and from there to the map once at most. At
-//! the end, rows by hash are sorted by their keys: what is written in the order of keys is written faster.
+//! Once a key comes among theirs, they are linked by a hash of their keys: a search in an ordered map reads a node of keys at
+//! each level, most of which wait for memory where the rows are many, and a search by hash reads two or three lines of
+//! memory. They are moved into an ordered map, and stay there, where many keys have one hash, which whoever picks the keys can
+//! bring about, and where keys under a front are asked for, when a row is deleted with those below it. So a search takes some
+//! log n comparisons whatever the keys are, and each row is moved once at most. At the end, rows by hash are sorted by their
+//! keys: what is written in the order of keys is written faster.
 ghost use Rattle.std.specs.Prelude.{◌≡◌, [], is_none, IfOk, OnOk, None, Some};
 ghost use Rattle.std.specs.Option.{option_copied};
 ghost use Rattle.span_maderows.specs.Made.{made_at, AddsMade, HasSameRows, IsSetAt, rows_of};
@@ -66,20 +67,16 @@ impl MadeRows {
         ensures set { OnOk result (IsSetAt key (Some row) self.old self.new) }
     {
         let row = MadeRow { row, near };
-        if let Some(rows) = &mut self.by_hash {
-            return rows.insert(key, row);
-        }
-        if self.ordered.is_after_all(&key) {
+        if self.by_hash.is_none() && self.ordered.is_after_all(&key) {
             self.ordered.push(key, row)?;
             return Ok(true);
         }
-        let Some(list) = self.ordered.take_list() else {
-            return self.ordered.insert(key, row);
-        };
-        let mut rows = HashedRows::from_list(list)?;
-        let is_absent = rows.insert(key, row)?;
-        self.by_hash = Some(rows);
-        Ok(is_absent)
+        hash_list(&mut self.by_hash, &mut self.ordered)?;
+        order_if_crowded(&mut self.by_hash, &mut self.ordered)?;
+        match &mut self.by_hash {
+            Some(rows) => rows.insert(key, row),
+            None => self.ordered.insert(key, row),
+        }
     }
 
     /// Leaves no row at a key. `AllocError`: memory ran out.
@@ -115,6 +112,36 @@ impl MadeRows {
             None => Ok(ordered.into_left()),
         }
     }
+}
+
+// Keeps rows by hash that are a list in the order of their keys.
+fn hash_list(by_hash: &mut Option<HashedRows>, ordered: &mut OrderedRows) -> Result<(), AllocError>
+    ensures { OnOk result (rows_of by_hash.new ordered.new ≡ rows_of by_hash.old ordered.old) }
+{
+    if by_hash.is_some() {
+        return Ok(());
+    }
+    if let Some(list) = ordered.take_list() {
+        *by_hash = Some(HashedRows::from_list(list)?);
+    }
+    Ok(())
+}
+
+// Moves rows that are kept by hash into an ordered map where some class of keys has too many of them.
+fn order_if_crowded(
+    by_hash: &mut Option<HashedRows>,
+    ordered: &mut OrderedRows,
+) -> Result<(), AllocError>
+    ensures { OnOk result (rows_of by_hash.new ordered.new ≡ rows_of by_hash.old ordered.old) }
+{
+    let is_crowded = match by_hash {
+        Some(rows) => rows.is_crowded(),
+        None => false,
+    };
+    if is_crowded {
+        order_rows(ordered.allocator(), by_hash, ordered)?;
+    }
+    Ok(())
 }
 
 // Moves rows that are kept by hash into an ordered map.

@@ -48,6 +48,11 @@ impl OrderedRows {
         })
     }
 
+    /// Where memory for more rows comes from.
+    pub(crate) fn allocator(&self) -> Global {
+        *self.tail.allocator()
+    }
+
     /// These rows. It takes no memory.
     pub(crate) fn from_map(alloc: Global, map: BTreeMap<Key, MadeRow>) -> OrderedRows
         requires { AreInKeyOrder map.entries }
