@@ -204,4 +204,3 @@ module _ (lists : List (List ℕ)) (taken : List ℕ) (places : List PartPlace) 
 
     pub merged_all : AreMerged lists places
     merged_all = record { within = so_far.within; numbers = all_numbers }
-

@@ -156,7 +156,7 @@ module _ (g : Grouping) (rows : List Row) (count : ℕ) (classes : List ClassGro
 
     rows_few : AllByRecursion (λ (n : ℕ). n < length rows) (first_places g.keys rows keys)
     rows_few = all_mapped (place_of ks) (λ (k : Row). contains_row ks k ≡ true) (λ (n : ℕ). n < length rows)
-      (λ k there. omega (arith, place_known ks k there, length-map rows (columns_at g.keys))) keys among
+        (λ k there. omega (arith, place_known ks k there, length-map rows (columns_at g.keys))) keys among
 
     few_classes : (n : ℕ) → n < length rows → class_at_place numbers n < length (firsts_of classes)
     few_classes n less = omega (arith, number_at n less, counted, class_few count (get_or ks n []) some)

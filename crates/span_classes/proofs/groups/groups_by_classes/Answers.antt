@@ -20,11 +20,15 @@ merge_classes-requires g c =
     c.in_ok-classes.ensures by rows (subst (λ (n : ℕ). AreMade by rows n c.in_ok-made.made.items) (sym made.counted) made) in
     let keyed : 0 < length by.keys = not_empty by.keys c.is_empty.result c.is_empty.ensures (search rules) in
     let some : 0 < count = search rules in
+    let numbered : AreClassNumbers c.args.threads by.keys rows c.in_ok-numbers.numbers.items = search rules in
     let known : AreClassNumbers count by.keys rows c.in_ok-numbers.numbers.items =
-    subst (λ (n : ℕ). AreClassNumbers n by.keys rows c.in_ok-numbers.numbers.items) (sym made.counted) c.in_ok-numbers.ensures in
+    subst (λ (n : ℕ). AreClassNumbers n by.keys rows c.in_ok-numbers.numbers.items) (sym made.counted) numbered in
     let ready : AreByClass c.in_ok-numbers.numbers.items (firsts_of c.in_ok-classes.classes.items) =
     by_class by rows count c.in_ok-classes.classes.items keyed some all c.in_ok-numbers.numbers.items known in
-    ?
+    let seen : c.as_slice-3.result.now ≡ c.in_ok-classes.classes.items = search rules in
+    let seen_numbers : c.as_slice-4.result.now ≡ c.in_ok-numbers.numbers.items = search rules in
+    subst (λ (l : List ClassGroups). AreByClass c.as_slice-4.result.now (firsts_of l)) (sym seen)
+    (subst (λ (l : List ℕ). AreByClass l (firsts_of c.in_ok-classes.classes.items)) (sym seen_numbers) ready)
 
 pub of_parts-requires : goal.of_parts-requires
 of_parts-requires g c =
