@@ -323,12 +323,10 @@ pub(crate) fn find_short(
     ensures none { result.goes_on ≡ false → result.batch ≡ []
         → walked_in arena.now.cells nexts.now result.left result.at stop ≡ [] }
 {
-    if most >= u16::MAX as usize {
-        return find_by_links(arena, nexts, most, number, stop, left, keys);
+    if most < u16::MAX as usize {
+        if is_in_order(nexts, number) {
+            return find_in_order(arena, nexts, most, number, stop, left, keys);
+        }
     }
-    if is_in_order(nexts, number) {
-        find_in_order(arena, nexts, most, number, stop, left, keys)
-    } else {
-        find_by_links(arena, nexts, most, number, stop, left, keys)
-    }
+    find_by_links(arena, nexts, most, number, stop, left, keys)
 }
