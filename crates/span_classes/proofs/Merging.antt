@@ -6,8 +6,7 @@ use Rattle.std.proofs.lemmas.Bool.{cases_eq, eqb-true, eq-eqb}
 use Rattle.std.proofs.lemmas.List.{map-append, append_assoc, append-nil, get_or-set_same, get_or-set_other, length-replicate, length-set}
 use Rattle.std.proofs.lemmas.Option.{same_Some}
 use Rattle.span_sorting.specs.declared.parts.PartPlace.{PartPlace}
-use Rattle.span_classes.specs.declared.merge.Head.{Head}
-use Rattle.span_classes.specs.Merging.{list_at, number_in, numbers_in, IsNumberIn, IsAscending, of_class, AreParted, AreMerged, taken_at, next_at, HasLeft, IsHead, IsLeastOf, IsLeast, IsLesserOf, IsLesser, AreLeft, HasRest, AreMergedTo}
+use Rattle.span_classes.specs.Merging.{list_at, number_in, numbers_in, IsNumberIn, IsAscending, of_class, AreParted, AreMerged, taken_at, next_at, Head, HasLeft, IsHead, IsLeastOf, AreLeft, HasRest, AreMergedTo}
 
 -- ---- lists from a place on
 
@@ -17,12 +16,12 @@ any_default (x ∷ xs) zero d e less = refl
 any_default (x ∷ xs) (suc i) d e less = any_default xs i d e (omega arith)
 
 -- what a list has from a place on begins with the item there
-record BeginsAt {X : Type 0} (n : ℕ) (xs : List X) (d x : X) (ys : List X) : Type 0 where
-  within : n < length xs
-  item : get_or xs n d ≡ x
-  rest : drop (suc n) xs ≡ ys
+pub record BeginsAt {X : Type 0} (n : ℕ) (xs : List X) (d x : X) (ys : List X) : Type 0 where
+  pub within : n < length xs
+  pub item : get_or xs n d ≡ x
+  pub rest : drop (suc n) xs ≡ ys
 
-begins_at : {X : Type 0} (n : ℕ) (xs : List X) (d x : X) (ys : List X) → drop n xs ≡ x ∷ ys → BeginsAt n xs d x ys
+pub begins_at : {X : Type 0} (n : ℕ) (xs : List X) (d x : X) (ys : List X) → drop n xs ≡ x ∷ ys → BeginsAt n xs d x ys
 begins_at zero [] d x ys e = absurd cc
 begins_at {X = X} zero (z ∷ xs) d x ys e =
     let head : z ≡ x = cc in
@@ -34,23 +33,23 @@ begins_at (suc n) (z ∷ xs) d x ys e =
     record { within = omega (arith, rec.within); item = rec.item; rest = rec.rest }
 
 -- and there is one where the place is within it
-record HasItem {X : Type 0} (n : ℕ) (xs : List X) : Type 0 where
-  item : X
-  others : List X
-  is : drop n xs ≡ item ∷ others
+pub record HasItem {X : Type 0} (n : ℕ) (xs : List X) : Type 0 where
+  pub item : X
+  pub others : List X
+  pub is : drop n xs ≡ item ∷ others
 
-has_item : {X : Type 0} (n : ℕ) (xs : List X) → n < length xs → HasItem n xs
+pub has_item : {X : Type 0} (n : ℕ) (xs : List X) → n < length xs → HasItem n xs
 has_item n [] less = absurd (omega arith)
 has_item zero (x ∷ xs) less = record { item = x; others = xs; is = refl }
 has_item (suc n) (x ∷ xs) less = let rec = has_item n xs (omega arith) in record { item = rec.item; others = rec.others; is = rec.is }
 
 -- ---- numbers that ascend
 
-ascending_end : (xs ys : List ℕ) → IsAscending (xs ++ ys) → IsAscending ys
+pub ascending_end : (xs ys : List ℕ) → IsAscending (xs ++ ys) → IsAscending ys
 ascending_end [] ys a = a
 ascending_end (x ∷ xs) ys a = ascending_end xs ys a.1
 
-all_end : {X : Type 0} (P : X → Type 0) (xs ys : List X) → AllByRecursion P (xs ++ ys) → AllByRecursion P ys
+pub all_end : {X : Type 0} (P : X → Type 0) (xs ys : List X) → AllByRecursion P (xs ++ ys) → AllByRecursion P ys
 all_end P [] ys a = a
 all_end P (x ∷ xs) ys a = all_end P xs ys a.1
 
@@ -62,7 +61,7 @@ later_first class_of part n (k ∷ ns) m ms all e = elim (class_of k == part) as
   | false ↦ λ h. later_first class_of part n ns m ms all.1 h
 ] e
 
-of_its_class : (class_of : ℕ → ℕ) (n : ℕ) (ns : List ℕ) → of_class class_of (class_of n) (n ∷ ns) ≡ n ∷ of_class class_of (class_of n) ns
+pub of_its_class : (class_of : ℕ → ℕ) (n : ℕ) (ns : List ℕ) → of_class class_of (class_of n) (n ∷ ns) ≡ n ∷ of_class class_of (class_of n) ns
 of_its_class class_of n ns = ap (λ b. cond b (n ∷ of_class class_of (class_of n) ns) (of_class class_of (class_of n) ns)) (eq-eqb (class_of n) (class_of n) refl)
 
 of_other_class : (class_of : ℕ → ℕ) (part n : ℕ) (ns : List ℕ) → part ≢ class_of n → of_class class_of part (n ∷ ns) ≡ of_class class_of part ns
@@ -91,7 +90,7 @@ module _ (lists : List (List ℕ)) (taken : List ℕ) (class_of : ℕ → ℕ) w
       let begins = begins_at (taken_at taken (class_of n)) (list_at lists (class_of n)) 0 n (of_class class_of (class_of n) rest) (left (class_of n) few.0 ∙ of_its_class class_of n rest) in
       absurd (omega (arith, begins.within, ends (class_of n) few.0))
 
-  module _ (head : Head) (least : IsLeastOf lists taken (length lists) head) where
+  module _ (head : Head) (least : IsLeastOf lists taken head) where
     abbrev own : List ℕ
     own = list_at lists head.part
 
@@ -169,7 +168,7 @@ all_added P [] x all its = (its, tt)
 all_added P (y ∷ xs) x all its = (all.0, all_added P xs x all.1 its)
 
 module _ (lists : List (List ℕ)) (taken : List ℕ) (places : List PartPlace) (so_far : AreMergedTo lists taken places) where
-  module _ (head : Head) (least : IsLeastOf lists taken (length lists) head) where
+  module _ (head : Head) (least : IsLeastOf lists taken head) where
     abbrev its_place : PartPlace
     its_place = place_of_head taken head
 
@@ -205,54 +204,3 @@ module _ (lists : List (List ℕ)) (taken : List ℕ) (places : List PartPlace) 
 
     pub merged_all : AreMerged lists places
     merged_all = record { within = so_far.within; numbers = all_numbers }
-
--- ---- the least of the next
-
-module _ (lists : List (List ℕ)) (taken : List ℕ) (part : ℕ) (within : part < length lists) where
-  -- the next of one list, where it has one left
-  abbrev pub IsNextOf : Option Head → Type 0
-  IsNextOf next = MatchOption next (length (list_at lists part) ≤ taken_at taken part) (λ (h : Head). (h.part ≡ part) × (HasLeft lists taken part × (h.first ≡ next_at lists taken part)))
-
-  as_head : (h : Head) → (h.part ≡ part) × (HasLeft lists taken part × (h.first ≡ next_at lists taken part)) → IsHead lists taken h
-  as_head h is = record {
-    part = omega (arith, is.0, within);
-    left = subst (λ (p : ℕ). HasLeft lists taken p) (sym is.0) is.1.0;
-    first = is.1.1 ∙ ap (next_at lists taken) (sym is.0);
-  }
-
-  pub least_more : (least next new : Option Head) → IsLeast lists taken part least → IsNextOf next → IsLesser least next new → IsLeast lists taken (part + 1) new
-  least_more None None None before none is = λ p less. elim (cases_eq p part) [
-    | inl same ↦ subst (λ (q : ℕ). length (list_at lists q) ≤ taken_at taken q) (sym same) none
-    | inr other ↦ before p (omega (arith, less, other))
-  ]
-  least_more None None (Some h) before none is = absurd (elim is.is [ inl e ↦ cc | inr e ↦ cc ])
-  least_more None (Some n) None before next is = absurd (let clash : Some n ≡ None = is.1 in cc)
-  least_more None (Some n) (Some h) before next is =
-      let same : n ≡ h = elim is.is [ inl e ↦ absurd cc | inr e ↦ same_Some n h e ] in
-      record {
-        is = subst (λ (x : Head). IsHead lists taken x) same (as_head n next);
-        least = λ p less left. elim (cases_eq p part) [
-          | inl at ↦ omega (arith, is.least_other, next.1.1, ap (next_at lists taken) at)
-          | inr other ↦ absurd (omega (arith, before p (omega (arith, less, other)), left))
-        ];
-      }
-  least_more (Some l) next None before after is = absurd (let clash : Some l ≡ None = is.0 in cc)
-  least_more (Some l) None (Some h) before none is =
-      let same : l ≡ h = elim is.is [ inl e ↦ same_Some l h e | inr e ↦ absurd cc ] in
-      record {
-        is = subst (λ (x : Head). IsHead lists taken x) same before.is;
-        least = λ p less left. elim (cases_eq p part) [
-          | inl at ↦ absurd (omega (arith, none, subst (λ (q : ℕ). HasLeft lists taken q) at left))
-          | inr other ↦ omega (arith, is.least_one, before.least p (omega (arith, less, other)) left)
-        ];
-      }
-  least_more (Some l) (Some n) (Some h) before next is = record {
-    is = elim is.is [
-      | inl e ↦ subst (λ (x : Head). IsHead lists taken x) (same_Some l h e) before.is
-      | inr e ↦ subst (λ (x : Head). IsHead lists taken x) (same_Some n h e) (as_head n next)
-    ];
-    least = λ p less left. elim (cases_eq p part) [
-      | inl at ↦ omega (arith, is.least_other, next.1.1, ap (next_at lists taken) at)
-      | inr other ↦ omega (arith, is.least_one, before.least p (omega (arith, less, other)) left)
-    ];
-  }

@@ -1,19 +1,20 @@
 -- The groups of all classes, in the order of their first rows, are the groups of all rows.
-use Rattle.std.proofs.Common.{◌≡◌, ◌↔◌, IsTrue, ℕ, ◌<◌, ◌==◌, zero, suc, Bool, true, false, List, [], ◌∷◌, length, get_or, map, Ok, Result, Some, refl, sym, ap, ◌∙◌, subst, arith}
+use Rattle.std.proofs.Common.{◌≡◌, ◌↔◌, IsTrue, ℕ, ◌<◌, ◌==◌, zero, suc, Bool, true, false, cond, List, [], ◌∷◌, length, get_or, map, Ok, Result, Some, refl, sym, ap, ◌∙◌, subst, arith}
 use Rattle.std.specs.List.{AllByRecursion, filter}
 use Rattle.std.proofs.lemmas.List.{get_or-map, length-map}
 use Rattle.std.proofs.lemmas.Nat.{mod_below}
 use Rattle.span_expr.specs.declared.cell.Failure.{Failure}
 use Rattle.span_query.specs.declared.query.Grouping.{Grouping}
 use Rattle.span_query.specs.Rows.{Row, each}
-use Rattle.span_query.specs.Groups.{distinct, group_keys, group_row, groups}
+use Rattle.span_query.specs.Groups.{columns_at, distinct, group_keys, group_row, groups}
 use Rattle.span_rows.specs.Keys.{contains_row, place_of}
+use Rattle.span_rows.proofs.Places.{place_known}
 use Rattle.span_groups.specs.GroupStates.{keys_at}
 use Rattle.span_sorting.specs.declared.parts.PartPlace.{PartPlace}
 use Rattle.span_sorting.specs.PartPlaces.{IsPlaceIn, row_in, rows_in}
 use Rattle.span_classes.specs.declared.class_groups.ClassGroups.{ClassGroups}
-use Rattle.span_classes.specs.Classes.{AreAllClasses, AreGroupsOfClass, AreMade, IsMade, class_at, class_of, first_places, is_in_class, rows_of, rows_of_class}
-use Rattle.span_classes.specs.Merging.{AreMerged, AreParted, IsAscending, IsNumberIn, firsts_of, list_at, number_in, numbers_in, of_class}
+use Rattle.span_classes.specs.Classes.{AreAllClasses, AreClassNumbers, AreGroupsOfClass, AreMade, IsMade, class_at, class_of, first_places, is_in_class, rows_of, rows_of_class}
+use Rattle.span_classes.specs.Merging.{AreByClass, AreMerged, AreParted, IsAscending, IsNumberIn, class_at_place, firsts_of, list_at, number_in, numbers_in, of_class}
 use Rattle.span_classes.proofs.Firsts.{AreAmong, all_kept, distinct_among, key_found, places_ascend, places_of_class}
 use Rattle.span_classes.proofs.Keys.{all_more, each-get, each-length, each-map, each-same, each_alike, groups_of_kind, keys_of_kind}
 use Rattle.span_classes.proofs.Taking.{distinct_keys}
@@ -45,6 +46,17 @@ all_at P (x ∷ xs) (suc i) d all less = all_at P xs i d all.1 (omega arith)
 all_of : {X : Type 0} (P : X → Type 0) (xs : List X) → ((x : X) → P x) → AllByRecursion P xs
 all_of P [] each = tt
 all_of P (x ∷ xs) each = (each x, all_of P xs each)
+
+all_mapped : {X : Type 0} (f : X → ℕ) (P : X → Type 0) (Q : ℕ → Type 0) → ((x : X) → P x → Q (f x)) → (xs : List X) → AllByRecursion P xs → AllByRecursion Q (map f xs)
+all_mapped f P Q more [] all = tt
+all_mapped f P Q more (x ∷ xs) all = (more x all.0, all_mapped f P Q more xs all.1)
+
+-- those of a class are the same by two numberings that agree at all of them
+same_of_class : (f h : ℕ → ℕ) (part : ℕ) (ns : List ℕ) → AllByRecursion (λ (n : ℕ). f n ≡ h n) ns → of_class f part ns ≡ of_class h part ns
+same_of_class f h part [] all = refl
+same_of_class f h part (n ∷ ns) all =
+    ap (λ (m : ℕ). cond (m == part) (n ∷ of_class f part ns) (of_class f part ns)) all.0
+    ∙ ap (λ (l : List ℕ). cond (h n == part) (n ∷ l) l) (same_of_class f h part ns all.1)
 
 -- what was made of each class, where nothing failed
 pub classes_made : (g : Grouping) (rows : List Row) (made : List (Result ClassGroups Failure)) (classes : List ClassGroups) → made ≡ map (λ (x : ClassGroups). Ok x) classes
@@ -135,6 +147,34 @@ module _ (g : Grouping) (rows : List Row) (count : ℕ) (classes : List ClassGro
     few = all_of (λ (n : ℕ). of_number n < length (firsts_of classes)) (first_places g.keys rows keys) (λ n. omega (arith, counted, class_few count (get_or ks n []) some));
     each = λ part within. numbers_there part (omega (arith, within, counted));
   }
+
+  -- ---- by the numbers of the rows' classes
+
+  module _ (numbers : List ℕ) (known : AreClassNumbers count g.keys rows numbers) where
+    number_at : (n : ℕ) → n < length rows → class_at_place numbers n ≡ of_number n
+    number_at n less = known.each n 0 less ∙ ap (class_of count) (sym (get_or-map (columns_at g.keys) rows n [] [] less))
+
+    rows_few : AllByRecursion (λ (n : ℕ). n < length rows) (first_places g.keys rows keys)
+    rows_few = all_mapped (place_of ks) (λ (k : Row). contains_row ks k ≡ true) (λ (n : ℕ). n < length rows)
+        (λ k there. omega (arith, place_known ks k there, length-map rows (columns_at g.keys))) keys among
+
+    few_classes : (n : ℕ) → n < length rows → class_at_place numbers n < length (firsts_of classes)
+    few_classes n less = omega (arith, number_at n less, counted, class_few count (get_or ks n []) some)
+
+    pub by_class : AreByClass numbers (firsts_of classes)
+    by_class = record {
+      numbers = first_places g.keys rows keys;
+      parted = record {
+        ascending = parted.ascending;
+        few = all_more (λ (n : ℕ). n < length rows) (λ (n : ℕ). class_at_place numbers n < length (firsts_of classes)) few_classes (first_places g.keys rows keys) rows_few;
+        each = λ part within.
+            parted.each part within
+            ∙ sym (same_of_class (class_at_place numbers) of_number part (first_places g.keys rows keys)
+            (all_more (λ (n : ℕ). n < length rows) (λ (n : ℕ). class_at_place numbers n ≡ of_number n) number_at (first_places g.keys rows keys) rows_few));
+      };
+      within = subst (λ (m : ℕ). AllByRecursion (λ (n : ℕ). n < m) (first_places g.keys rows keys)) (sym known.counted) rows_few;
+      few = λ n less. few_classes n (omega (arith, less, known.counted));
+    }
 
   module _ (places : List PartPlace) (merged : AreMerged (firsts_of classes) places) where
     row_at : (p : PartPlace) → IsNumberIn (firsts_of classes) p → group_row g rows (get_or ks (number_in (firsts_of classes) p) []) ≡ Some (row_in (rows_of classes) p)

@@ -1,9 +1,8 @@
 -- Numbers that are in several lists, each of which has those of its class, in ascending order.
-use Rattle.std.specs.Prelude.{◌≡◌, ◌⊎◌, ℕ, ◌==◌, ◌<◌, ◌≤◌, List, [], ◌∷◌, ◌++◌, None, Option, Some, IfSome, MatchOption, drop, filter, length, map, slice_index_or}
+use Rattle.std.specs.Prelude.{◌≡◌, ℕ, ◌==◌, ◌<◌, ◌≤◌, List, [], ◌∷◌, ◌++◌, drop, filter, length, map, slice_index_or}
 use Rattle.std.specs.List.{AllByRecursion}
 use Rattle.span_sorting.specs.declared.parts.PartPlace.{PartPlace}
 use Rattle.span_classes.specs.declared.class_groups.ClassGroups.{ClassGroups}
-use Rattle.span_classes.specs.declared.merge.Head.{Head}
 
 -- for each class the places of the first rows of its groups
 abbrev pub firsts_of : List ClassGroups → List (List ℕ)
@@ -54,30 +53,20 @@ next_at lists taken part = slice_index_or (list_at lists part) (taken_at taken p
 abbrev pub HasLeft : List (List ℕ) → List ℕ → ℕ → Type 0
 HasLeft lists taken part = taken_at taken part < length (list_at lists part)
 
--- the next number of a list
+-- the next number of a list: which list it is, and the number
+pub record Head : Type 0 where
+  pub part : ℕ
+  pub first : ℕ
+
 pub record IsHead (lists : List (List ℕ)) (taken : List ℕ) (head : Head) : Type 0 where
   pub part : head.part < length lists
   pub left : HasLeft lists taken head.part
   pub first : head.first ≡ next_at lists taken head.part
 
--- the next of one of the first `count` lists, and none of these has a lesser one
-pub record IsLeastOf (lists : List (List ℕ)) (taken : List ℕ) (count : ℕ) (head : Head) : Type 0 where
+-- the next of one list, and none of the lists has a lesser one
+pub record IsLeastOf (lists : List (List ℕ)) (taken : List ℕ) (head : Head) : Type 0 where
   pub is : IsHead lists taken head
-  pub least : (part : ℕ) → part < count → HasLeft lists taken part → head.first ≤ next_at lists taken part
-
--- the least of the next numbers of the first `count` lists, or none where they have none left
-abbrev pub IsLeast : List (List ℕ) → List ℕ → ℕ → Option Head → Type 0
-IsLeast lists taken count head =
-    MatchOption head ((part : ℕ) → part < count → length (list_at lists part) ≤ taken_at taken part) (IsLeastOf lists taken count)
-
--- one of two, and none of them is less
-pub record IsLesserOf (one other : Option Head) (head : Head) : Type 0 where
-  pub is : (one ≡ Some head) ⊎ (other ≡ Some head)
-  pub least_one : IfSome one (λ (x : Head). head.first ≤ x.first)
-  pub least_other : IfSome other (λ (x : Head). head.first ≤ x.first)
-
-abbrev pub IsLesser : Option Head → Option Head → Option Head → Type 0
-IsLesser one other head = MatchOption head ((one ≡ None) × (other ≡ None)) (IsLesserOf one other)
+  pub least : (part : ℕ) → part < length lists → HasLeft lists taken part → head.first ≤ next_at lists taken part
 
 -- what is left of each list
 abbrev pub AreLeft : (ℕ → ℕ) → List ℕ → List (List ℕ) → List ℕ → Type 0
@@ -95,3 +84,31 @@ pub record AreMergedTo (lists : List (List ℕ)) (taken : List ℕ) (places : Li
   pub counted : length taken ≡ length lists
   pub within : AllByRecursion (IsNumberIn lists) places
   pub rests : (class_of : ℕ → ℕ) (numbers : List ℕ) → AreParted class_of numbers lists → HasRest class_of numbers lists taken places
+
+-- ---- row by row
+
+-- the class of each row, by its place
+abbrev pub class_at_place : List ℕ → ℕ → ℕ
+class_at_place classes row = slice_index_or classes row 0
+
+-- each list has the rows of its class, of some rows in ascending order
+pub record AreByClass (classes : List ℕ) (lists : List (List ℕ)) : Type 0 where
+  pub numbers : List ℕ
+  pub parted : AreParted (class_at_place classes) numbers lists
+  pub within : AllByRecursion (λ (n : ℕ). n < length classes) numbers
+  pub few : (row : ℕ) → row < length classes → class_at_place classes row < length lists
+
+-- a number is the one that is next of a list, of which some were taken
+pub record IsNext (list : List ℕ) (taken n : ℕ) : Type 0 where
+  pub left : taken < length list
+  pub is : slice_index_or list taken 0 ≡ n
+
+-- what is left is from a row on
+pub record HasRestFrom (classes : List ℕ) (numbers : List ℕ) (lists : List (List ℕ)) (taken : List ℕ) (places : List PartPlace) (row : ℕ) : Type 0 where
+  pub has : HasRest (class_at_place classes) numbers lists taken places
+  pub from : AllByRecursion (λ (n : ℕ). row ≤ n) has.rest
+
+-- the places of the numbers before a row
+pub record AreMergedBefore (classes : List ℕ) (lists : List (List ℕ)) (taken : List ℕ) (places : List PartPlace) (row : ℕ) : Type 0 where
+  pub to : AreMergedTo lists taken places
+  pub from : (numbers : List ℕ) → AreParted (class_at_place classes) numbers lists → HasRestFrom classes numbers lists taken places row

@@ -96,7 +96,7 @@ pub fn groups_by_classes<R: Threads + Sync>(
     let numbers = class_numbers(rt, alloc, threads, grouping.keys.as_slice(), rows)?;
     let made = make_classes(rt, alloc, threads, grouping, rows, numbers.as_slice())?;
     let classes = all_classes(alloc, made)?;
-    let places = merge_classes(alloc, classes.as_slice())?;
+    let places = merge_classes(alloc, classes.as_slice(), numbers.as_slice())?;
     let lists = take_rows(alloc, classes)?;
     Ok(Some(AnswerRows::of_parts(lists, places)))
 }

@@ -1,60 +1,46 @@
-//! The groups of all classes in the order of their first rows: at each step the least of the places of first rows is taken that are next of
-//! their class.
-ghost use Rattle.std.specs.Prelude.{◌≡◌, ◌≤◌, ◌<◌, IfOk, List, MatchOption, Some, length, replicate, slice_index_or};
-ghost use Rattle.span_classes.specs.Merging.{AreMerged, IsLeast, IsLesser, IsLesserOf, firsts_of};
+//! The groups of all classes in the order of their first rows: each row is asked whether it is the first of the group that is next of its class.
+ghost use Rattle.std.specs.Prelude.{◌≡◌, ◌≢◌, ◌<◌, ◌+◌, IfOk, List, ℕ, OnOk, false, length, replicate, slice_index_or, true};
+ghost use Rattle.span_classes.specs.Merging.{AreMerged, AreMergedBefore, AreParted, AreByClass, IsNext, firsts_of};
 
 use super::class_groups::ClassGroups;
 use span_sorting::parts::PartPlace;
 use std::alloc::{AllocError, Global};
 
-/// The place of the first row of a group that is next of its class.
-#[derive(Clone, Copy, Debug)]
-struct Head {
-    /// The number of the class.
+/// Whether a row is the first of the group that is next of a class, of which some were taken.
+fn is_next(class: &ClassGroups, taken: usize, row: usize) -> bool
+    ensures next { result ≡ true → IsNext class.now.firsts.items taken row }
+    ensures other { result ≡ false → taken < length class.now.firsts.items → slice_index_or class.now.firsts.items taken 0 ≢ row }
+{
+    match class.firsts.get(taken) {
+        Some(first) => *first == row,
+        None => false,
+    }
+}
+
+/// Takes the next group of the class of a row where the row is its first one.
+fn take_where_next(
+    classes: &[ClassGroups],
     part: usize,
-    /// The place of the row among all rows.
-    first: usize,
-}
-
-/// The next of a class, of which some were taken.
-fn head_of(class: &ClassGroups, part: usize, taken: usize) -> Option<Head>
-    ensures { MatchOption result
-        (length class.now.firsts.items ≤ taken)
-        (λ head. (head.part ≡ part) × (taken < length class.now.firsts.items)
-        × (head.first ≡ slice_index_or class.now.firsts.items taken 0)) }
+    row: usize,
+    taken: &mut Vec<usize>,
+    places: &mut Vec<PartPlace>,
+) -> Result<(), AllocError>
+    requires part { part < length classes.now }
+    requires counted { length taken.old.items ≡ length classes.now }
+    ensures { OnOk result
+        ((numbers : List ℕ)
+        → slice_index_or numbers row 0 ≡ part
+        → row < length numbers
+        → AreByClass numbers (firsts_of classes.now)
+        → AreMergedBefore numbers (firsts_of classes.now) taken.old.items places.old.items row
+        → AreMergedBefore numbers (firsts_of classes.now) taken.new.items places.new.items (row + 1)) }
 {
-    let first = *class.firsts.get(taken)?;
-    Some(Head { part, first })
-}
-
-/// The one of two with the lesser place.
-fn lesser_of(one: Head, other: Head) -> Head
-    ensures { IsLesserOf (Some one) (Some other) result }
-{
-    if one.first <= other.first { one } else { other }
-}
-
-/// The same, where there may be none.
-fn lesser(one: Option<Head>, other: Option<Head>) -> Option<Head>
-    ensures { IsLesser one other result }
-{
-    match (one, other) {
-        (Some(one), Some(other)) => Some(lesser_of(one, other)),
-        (Some(one), None) => Some(one),
-        (None, _) => other,
+    let place = taken[part];
+    if is_next(&classes[part], place, row) {
+        places.push(PartPlace { part, place })?;
+        taken[part] = place + 1;
     }
-}
-
-/// The least of the next of all classes, where one is left.
-fn least_head(classes: &[ClassGroups], taken: &[usize]) -> Option<Head>
-    requires { length taken.now ≡ length classes.now }
-    ensures { IsLeast (firsts_of classes.now) taken.now (length classes.now) result }
-{
-    let mut least = None;
-    for part in 0..classes.len() {
-        least = lesser(least, head_of(&classes[part], part, taken[part]));
-    }
-    least
+    Ok(())
 }
 
 /// No groups taken of each class.
@@ -77,22 +63,19 @@ fn count_groups(classes: &[ClassGroups]) -> usize {
     count
 }
 
-/// Where the groups of all classes lie, in the order of their first rows.
+/// Where the groups of all classes lie, in the order of their first rows; of each row the number of its key's class is known.
 pub(crate) fn merge_classes(
     alloc: Global,
     classes: &[ClassGroups],
+    numbers: &[usize],
 ) -> Result<Vec<PartPlace>, AllocError>
+    requires { AreByClass numbers.now (firsts_of classes.now) }
     ensures { IfOk result (λ places. AreMerged (firsts_of classes.now) places.items) }
 {
     let mut places = Vec::with_capacity(alloc, count_groups(classes))?;
     let mut taken = none_taken(alloc, classes.len())?;
-    while let Some(head) = least_head(classes, taken.as_slice()) {
-        let place = taken[head.part];
-        places.push(PartPlace {
-            part: head.part,
-            place,
-        })?;
-        taken[head.part] = place + 1;
+    for row in 0..numbers.len() {
+        take_where_next(classes, numbers[row], row, &mut taken, &mut places)?;
     }
     Ok(places)
 }

@@ -1,5 +1,5 @@
 -- Keys in a run of chains, found one by one.
-use Rattle.std.proofs.Common.{◌≡◌, ◌≢◌, ℕ, ◌+◌, ◌-◌, ◌<◌, ◌≤◌, List, refl, sym, ◌∙◌, ap, arith, length, take, map, set, get_or, true, false, Option, Some, None, subst}
+use Rattle.std.proofs.Common.{◌≡◌, ◌≢◌, ℕ, ◌+◌, ◌-◌, ◌<◌, ◌≤◌, List, ◌∷◌, refl, sym, ◌∙◌, ap, arith, length, take, map, set, get_or, true, false, Option, Some, None, subst}
 use Rattle.std.specs.Prelude.{IfSome, Bool, nat_eq, nat_le, min}
 use Rattle.std.proofs.lemmas.Bool.Decides.{nat_tests}
 use Rattle.std.proofs.lemmas.List.{get_or-map, length-map}
@@ -7,10 +7,11 @@ use Rattle.span_arena.specs.declared.cell.Cell.{Cell}
 use Rattle.span_arena.specs.Cells.{cell_at, kept_length, blank}
 use Rattle.span_arena.specs.Limits.{most_chains}
 use Rattle.span_keytree.specs.Entries.{KeyEntry}
+use Rattle.span_keytree.specs.Items.{entry}
 use Rattle.span_keytree.specs.Nexts.{Nexts, link_to, next_of}
-use Rattle.span_keywalk.specs.Walks.{is_stop, AreShortOf, IsRun}
+use Rattle.span_keywalk.specs.Walks.{is_stop, walked_in, AreBelow, AreShortOf, IsRun}
 use Rattle.span_keywalk.proofs.Batches.{found_step}
-use Rattle.span_keywalk.proofs.Walking.{other_eq}
+use Rattle.span_keywalk.proofs.Walking.{other_eq, walked_more}
 use mir.Val.{bool_byte}
 
 capped : (m most : ℕ) → most < 65535 → nat_le (min m 65535) most ≡ nat_le m most
@@ -33,6 +34,18 @@ next_kept links ns n is within few next =
 pub goes_past : (stop : Option ℕ) (i end : ℕ) → IfSome stop (λ (j : ℕ). end ≡ j) → i ≢ end → is_stop i stop ≡ false
 goes_past None i end is apart = refl
 goes_past (Some j) i end is apart = other_eq i j (λ (same : j ≡ i). apart (sym same ∙ sym is))
+
+-- a walk that comes to a chain ends there where this is its end, or is none where it has no end
+pub ends_there : (cs : List Cell) (ns : Nexts) (n i : ℕ) (stop : Option ℕ) (end : ℕ) → IfSome stop (λ (j : ℕ). end ≡ j) → (stop ≡ None → end ≡ most_chains) → length cs ≤ most_chains → 0 < n
+    → AreBelow (length cs) (walked_in cs ns n (Some i) stop) → nat_eq i end ≡ is_stop i stop
+ends_there cs ns n i None end is none few some below =
+    let walk : walked_in cs ns n (Some i) None ≡ entry (cell_at cs i).key i ∷ walked_in cs ns (n - 1) (next_of ns i) None = walked_more (cell_at cs) (next_of ns) n i None some refl in
+    let both : AreBelow (length cs) (entry (cell_at cs i).key i ∷ walked_in cs ns (n - 1) (next_of ns i) None) = subst (AreBelow (length cs)) walk below in
+    let less : i < length cs = both.0 in
+    let at : end ≡ most_chains = none refl in
+    let apart : nat_eq i end ≡ false = grind (arith, nat_tests) in
+    apart
+ends_there cs ns n i (Some j) end is none few some below = ap (λ (m : ℕ). nat_eq i m) is
 
 -- there are as many links as cells
 pub links_length : (links : List ℕ) (ns : Nexts) (n : ℕ) → map link_to links ≡ ns.next → length ns.next ≡ n → length links ≡ n

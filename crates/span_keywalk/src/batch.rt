@@ -3,7 +3,7 @@ ghost use Rattle.std.specs.Prelude.{◌≡◌, ◌+◌, ◌<◌, ◌≤◌, [], 
 ghost use Rattle.span_keytree.specs.Entries.{KeyEntry};
 ghost use Rattle.span_keywalk.specs.Walks.{is_stop, walked_in, AreBelow, AreShortOf};
 
-use crate::run::{RUN_KEYS, end_of, has_run, is_try_due, pass_run};
+use crate::run::{RUN_KEYS, end_of, has_run, is_end, is_short_length, is_try_due, pass_run};
 use crate::walk::is_stop;
 use span_arena::arena::Arena;
 use span_arena::token::NO_CHAIN;
@@ -126,12 +126,12 @@ struct Passed {
     left: usize,
 }
 
-/// Goes on from a chain to at most `keys` by their links, with fewer tests for each than `find_by_links`: there is room for all of them.
-/// Each number is put, and that of a short key stays.
+/// Goes on from a chain to at most `keys` by their links, with fewer tests for each than `find_by_links`: there is room for all of them, and keys
+/// are not so long that a length is not kept. Each number is put, and that of a short key stays.
 fn pass_links(
     arena: &Arena,
     nexts: &NextLinks,
-    most: usize,
+    most: u16,
     number: u32,
     stop: Option<u32>,
     mut left: usize,
@@ -145,16 +145,20 @@ fn pass_links(
     requires keys { 0 < keys }
     requires left { keys ≤ left }
     requires room { count + keys ≤ 32 }
+    requires most { most < 65535 }
     ensures room { result.count ≤ 32 }
     ensures left { result.left < left }
     ensures short { (es : List KeyEntry) → let cells = arena.now.cells in
         AreShortOf cells nexts.now most stop es (take count numbers.old) left (Some number)
         → AreShortOf cells nexts.now most stop es (take result.count numbers.new) result.left result.at }
 {
+    let _numbers = arena.numbers();
+    let lengths = arena.key_lengths();
+    let end = end_of(stop);
     let last = left - keys;
     let mut here = number;
     while left > last {
-        if is_stop(here, stop) {
+        if is_end(here, end, stop) {
             return Passed {
                 count,
                 at: Some(here),
@@ -162,7 +166,7 @@ fn pass_links(
             };
         }
         numbers[count] = here;
-        count += arena.has_short_key(here, most) as usize;
+        count += is_short_length(arena, lengths, here, most) as usize;
         left -= 1;
         let Some(next) = nexts.after(here) else {
             return Passed {
@@ -194,6 +198,7 @@ fn find_in_order(
     requires below { AreBelow (length arena.now.cells) (walked_in arena.now.cells nexts.now left (Some number) stop) }
     requires places { length nexts.now.next ≡ length arena.now.cells }
     requires keys { 0 < keys }
+    requires most { most < 65535 }
     ensures short { let all = walked_in arena.now.cells nexts.now left (Some number) stop in
         AreShortOf arena.now.cells nexts.now most stop all result.batch result.left result.at }
     ensures more { IsTrue result.goes_on → result.left < left }
@@ -226,7 +231,7 @@ fn find_in_order(
         let passed = pass_links(
             arena,
             nexts,
-            most,
+            most as u16,
             at,
             stop,
             left,
@@ -318,9 +323,10 @@ pub(crate) fn find_short(
     ensures none { result.goes_on ≡ false → result.batch ≡ []
         → walked_in arena.now.cells nexts.now result.left result.at stop ≡ [] }
 {
-    if is_in_order(nexts, number) {
-        find_in_order(arena, nexts, most, number, stop, left, keys)
-    } else {
-        find_by_links(arena, nexts, most, number, stop, left, keys)
+    if most < u16::MAX as usize {
+        if is_in_order(nexts, number) {
+            return find_in_order(arena, nexts, most, number, stop, left, keys);
+        }
     }
+    find_by_links(arena, nexts, most, number, stop, left, keys)
 }

@@ -1,6 +1,8 @@
 //! Chains whose numbers follow one another, as those have that were put in order: a walk passes over eight of them at once.
-ghost use Rattle.std.specs.Prelude.{◌≡◌, ◌≢◌, ℕ, Option, ◌+◌, ◌^◌, ◌<◌, ◌≤◌, true, get_or, length, take, IfSome};
+ghost use Rattle.std.specs.Prelude.{◌≡◌, ◌≢◌, ℕ, Option, ◌+◌, ◌^◌, ◌<◌, ◌≤◌, true, get_or, length, map, nat_eq, nat_le, take, IfSome, None};
+ghost use Rattle.span_arena.specs.Cells.{cell_at, kept_length};
 ghost use Rattle.span_arena.specs.Limits.{most_chains};
+ghost use Rattle.span_keywalk.specs.Walks as spec;
 ghost use Rattle.span_keywalk.specs.Walks.{IsPassed, IsRun};
 
 use crate::batch::BATCH_KEYS;
@@ -13,12 +15,34 @@ pub(crate) const RUN_KEYS: usize = 8;
 
 /// The number of the chain where a walk ends; that of no chain where it has no such end.
 pub(crate) fn end_of(stop: Option<u32>) -> u32
-    ensures { IfSome stop (λ number. result ≡ number) }
+    ensures end { IfSome stop (λ number. result ≡ number) }
+    ensures none { stop ≡ None → result ≡ most_chains }
 {
     match stop {
         None => NO_CHAIN,
         Some(number) => number,
     }
+}
+
+/// Whether a walk ends at a chain, where `end` is the number of the chain where it ends, or that of no chain: one comparison.
+#[inline(always)]
+pub(crate) fn is_end(number: u32, end: u32, stop: Option<u32>) -> bool
+    requires { nat_eq number end ≡ spec.is_stop number stop }
+    ensures { result ≡ spec.is_stop number stop }
+{
+    let _ = stop;
+    number == end
+}
+
+/// Whether the key of a chain is short, by the lengths of the keys of all chains.
+#[inline(always)]
+pub(crate) fn is_short_length(arena: &Arena, lengths: &[u16], number: u32, most: u16) -> bool
+    requires lengths { lengths.now ≡ map kept_length arena.now.cells }
+    requires within { number < length arena.now.cells }
+    requires most { most < 65535 }
+    ensures { result ≡ nat_le (length (cell_at arena.now.cells number).key) most }
+{
+    lengths[number as usize] <= most
 }
 
 /// Whether a number is none of eight, from a number on.

@@ -4,11 +4,31 @@ use Rattle.span_query.specs.Rows.{Row}
 use Rattle.span_rows.specs.LentRows.{lent_rows}
 use Rattle.span_sorting.specs.declared.parts.PartPlace.{PartPlace}
 use Rattle.span_sorting.specs.PartPlaces.{IsPlaceIn, rows_in}
-use Rattle.span_classes.specs.Classes.{AreAllClasses, AreMade, rows_of}
+use Rattle.span_classes.specs.Classes.{AreAllClasses, AreClassNumbers, AreMade, rows_of}
 use Rattle.span_classes.specs.declared.class_groups.ClassGroups.{ClassGroups}
-use Rattle.span_classes.specs.Merging.{AreMerged, firsts_of}
-use Rattle.span_classes.proofs.Together.{groups_together, not_empty, places_within}
+use Rattle.span_classes.specs.Merging.{AreByClass, AreMerged, firsts_of}
+use Rattle.span_classes.proofs.Together.{by_class, groups_together, not_empty, places_within}
 use Rattle.span_classes.proofs.groups.groups_by_classes.Goals as goal
+
+pub merge_classes-requires : goal.merge_classes-requires
+merge_classes-requires g c =
+    let by = c.args.grouping.now in
+    let rows : List Row = lent_rows c.args.rows.now in
+    let count : ℕ = length c.in_ok-made.made.items in
+    let made : AreMade by rows c.args.threads c.in_ok-made.made.items = c.in_ok-made.ensures in
+    let all : AreAllClasses by rows count c.in_ok-classes.classes.items =
+    c.in_ok-classes.ensures by rows (subst (λ (n : ℕ). AreMade by rows n c.in_ok-made.made.items) (sym made.counted) made) in
+    let keyed : 0 < length by.keys = not_empty by.keys c.is_empty.result c.is_empty.ensures (search rules) in
+    let some : 0 < count = search rules in
+    let numbered : AreClassNumbers c.args.threads by.keys rows c.in_ok-numbers.numbers.items = search rules in
+    let known : AreClassNumbers count by.keys rows c.in_ok-numbers.numbers.items =
+    subst (λ (n : ℕ). AreClassNumbers n by.keys rows c.in_ok-numbers.numbers.items) (sym made.counted) numbered in
+    let ready : AreByClass c.in_ok-numbers.numbers.items (firsts_of c.in_ok-classes.classes.items) =
+    by_class by rows count c.in_ok-classes.classes.items keyed some all c.in_ok-numbers.numbers.items known in
+    let seen : c.as_slice-3.result.now ≡ c.in_ok-classes.classes.items = search rules in
+    let seen_numbers : c.as_slice-4.result.now ≡ c.in_ok-numbers.numbers.items = search rules in
+    subst (λ (l : List ClassGroups). AreByClass c.as_slice-4.result.now (firsts_of l)) (sym seen)
+    (subst (λ (l : List ℕ). AreByClass l (firsts_of c.in_ok-classes.classes.items)) (sym seen_numbers) ready)
 
 pub of_parts-requires : goal.of_parts-requires
 of_parts-requires g c =
