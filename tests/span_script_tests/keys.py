@@ -2,7 +2,8 @@
 """Runs, by the proved program, the scripts that are too long for files: 10,000 keys that rise or fall, and 100,000 in no order. Every second key
 is removed, and all come again the other way round; the answers are those of a sorted list (computed.py). Groups of 21,500 rows, with all queries of
 grouped.py three times, and all rows of a large table in order. Then transactions that are aborted, few and many, after which as much memory is taken; and many rows, of which a query
-that groups them takes little memory beside that which they have, alone and joined with others.
+that groups them takes little memory beside that which they have, alone and joined with others. At last the rows of a transaction whose keys were
+picked to have one hash, which takes little longer than other keys.
 """
 import os
 import random
@@ -23,6 +24,10 @@ FEW_ABORTS, MANY_ABORTS, MOST_TIMES = 20, 400, 1.25
 # Numbers of rows that are grouped, and of those of a transaction; and how many kilobytes the groups of all may take. Their columns would take 48 bytes
 # for each value.
 GROUPED_ROWS, ROWS_OF_A_TRANSACTION, MOST_KILOBYTES = 200_000, 1_000, 5_000
+# The number of keys that have one hash, and how many times as long as other keys they may take. The hash multiplies eight bytes of a key by the eight
+# after them and these: where those are these, whatever comes before them is lost.
+PICKED_KEYS, MOST_TIMES_AS_LONG = 40_000, 10
+LOST_AFTER = bytes.fromhex("157c4a7fb979379e")
 SUMS = "SELECT COUNT(n), SUM(n), MIN(n), MAX(n) FROM T"
 GROUPS = "SELECT n, COUNT(*), SUM(k) FROM T GROUP BY n"
 OF_EXPRESSIONS = "SELECT n, COUNT(*), SUM(k * 2 - n) FROM T GROUP BY n"
@@ -107,6 +112,25 @@ def query_rows(query, rows):
     return [(n, len(keys), sum(keys)) for n, keys in groups.items()]
 
 
+def picked_keys(middle):
+    """A script of one transaction whose keys, in no order, differ in six bytes before those of `middle` alone."""
+    chance, script = random.Random("picked"), computed.Script("CREATE TABLE T (k BYTES(MAX) NOT NULL) PRIMARY KEY (k)\n")
+    fronts = {bytes(chance.randrange(1, 255) for _ in range(6)) for _ in range(PICKED_KEYS)}
+    lines = ["\\x" + (front + middle + b"fourteen bytes").hex() for front in chance.sample(sorted(fronts), len(fronts))]
+    script.ask("\n".join(["load T *", *lines, "end"]), f"loaded {len(lines)}")
+    script.commit(100, 1)
+    script.rows(100, "SELECT COUNT(*) FROM T", [(len(lines),)])
+    return script
+
+
+def seconds_of(folder, script):
+    """The processor time that the program takes for the script; None where it does not answer it as wanted."""
+    before = os.times()
+    is_right = answers_of(folder, script) == script.answers
+    after = os.times()
+    return after.children_user - before.children_user + after.children_system - before.children_system if is_right else None
+
+
 def answers_of(folder, script):
     """What the program answers to the script."""
     schema, path = os.path.join(folder, "schema"), os.path.join(folder, "script")
@@ -164,6 +188,10 @@ def main():
             is_right = without is not None and both is not None and both <= without + MOST_KILOBYTES
             print(f"keys: {GROUPED_ROWS} {title} without and with their groups: {without} and {both} KB, {'as wanted' if is_right else 'not as wanted'}")
             wrong += not is_right
+        others, picked = (seconds_of(folder, picked_keys(middle)) for middle in (bytes(range(1, 9)), LOST_AFTER))
+        is_right = others is not None and picked is not None and picked <= MOST_TIMES_AS_LONG * others
+        print(f"keys: {PICKED_KEYS} keys in no order, and as many of one hash: {others} and {picked} s, {'as wanted' if is_right else 'not as wanted'}")
+        wrong += not is_right
     return int(wrong > 0)
 
 
