@@ -1,5 +1,5 @@
 -- What leaves a leaf of the rows that it gives.
-use Rattle.std.proofs.Common.{◌≡◌, ◌∙◌, Bool, true, false, List, [], ◌∷◌, ◌++◌, map, Some, None, Result, Ok, Err, refl, ap, sym, subst}
+use Rattle.std.proofs.Common.{◌≡◌, ◌∙◌, Bool, true, List, [], ◌++◌, map, Some, Result, Ok, Err, ap, sym, subst}
 use Rattle.std.specs.Option.{option_map}
 use Rattle.span_schema.specs.declared.table.Table.{Table}
 use Rattle.span_shard.specs.Shard.{KeyRow}
