@@ -1,5 +1,5 @@
 -- What leaves a leaf of the rows that it gives.
-use Rattle.std.proofs.Common.{◌≡◌, ◌∙◌, Bool, true, false, List, [], ◌∷◌, ◌++◌, map, Some, None, Result, Ok, Err, refl, ap, sym, subst}
+use Rattle.std.proofs.Common.{◌≡◌, ◌∙◌, Bool, true, List, [], ◌++◌, map, Some, Result, Ok, Err, ap, sym, subst}
 use Rattle.std.specs.Option.{option_map}
 use Rattle.span_schema.specs.declared.table.Table.{Table}
 use Rattle.span_shard.specs.Shard.{KeyRow}
@@ -10,25 +10,10 @@ use Rattle.span_query.proofs.Results.{nil-append_results}
 use Rattle.span_rows.specs.Answers.{Adds}
 use Rattle.span_rows.specs.Masks.{values_where}
 use Rattle.span_columns.specs.declared.leaf.Leaf.{Leaf}
-use Rattle.span_columns.specs.Picks.{picked, mask_among, pick_rows}
+use Rattle.span_columns.specs.Picks.{mask_among, pick_rows}
 use Rattle.span_columns.specs.Reads.{is_part}
-use Rattle.span_leaves.proofs.Parts.{part_all}
 use Rattle.span_tablescan.specs.Given.{rows_given, picked_given, IsAddedOn, AreKeptAdded}
-
-where_picked : (ms : List Bool) (row : Row) → values_where ms row ≡ picked ms row
-where_picked [] row = refl
-where_picked (m ∷ ms) [] = refl
-where_picked (true ∷ ms) (v ∷ row) = ap (λ (l : Row). v ∷ l) (where_picked ms row)
-where_picked (false ∷ ms) (v ∷ row) = where_picked ms row
-
-all_where : (ms : List Bool) (rows : List Row) → map (values_where ms) rows ≡ map (picked ms) rows
-all_where ms [] = refl
-all_where ms (row ∷ rows) = ap (λ (l : Row). l ∷ map (values_where ms) rows) (where_picked ms row) ∙ ap (λ (ls : List Row). picked ms row ∷ ls) (all_where ms rows)
-
--- what leaves the leaf is a part of what it gives
-kept_moved : (ks rs : List Bool) → is_part ks rs ≡ true → (o : Rows) → pick_rows ks o ≡ option_map (map (values_where (mask_among rs ks))) (pick_rows rs o)
-kept_moved ks rs part None = refl
-kept_moved ks rs part (Some rows) = ap (λ (l : List Row). Some l) (sym (all_where (mask_among rs ks) (map (picked rs) rows) ∙ part_all ks rs part rows))
+use Rattle.span_onepass.proofs.Picked.{kept_moved}
 
 module _ (schema : List Table) (leaf : Leaf) (entries : List KeyRow) where
   pub moved_added : (part : is_part leaf.kept leaf.reads ≡ true) (rows old new : List Row) → IsAddedOn schema leaf entries (Ok tt) [] rows

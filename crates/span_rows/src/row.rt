@@ -354,7 +354,7 @@ pub fn copy_of(alloc: Global, value: &Value) -> Result<Value, AllocError>
 
 /// Adds a copy of a value at the end, where it has capacity for it. What owns no memory is copied without a call. An error leaves the
 /// values as they were.
-fn add_copy(alloc: Global, row: &mut Vec<Value>, value: &Value) -> Result<(), AllocError>
+pub(crate) fn add_copy(alloc: Global, row: &mut Vec<Value>, value: &Value) -> Result<(), AllocError>
     requires { vec_len row.old < vec_capacity row.old }
     ensures ok { OnOk result (row.new.items ≡ row.old.items ++ value.now ∷ []) }
     ensures err { OnErr result (row.new.items ≡ row.old.items) }

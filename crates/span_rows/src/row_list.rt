@@ -11,7 +11,7 @@ ghost use Rattle.span_rows.specs.Masks.{values_where};
 ghost use Rattle.span_rows.specs.RowPlaces.{rows_at};
 
 use super::distinct::are_equal;
-use super::masked::add_rows_where;
+use super::masked::{add_rows_where, push_copies_where};
 use super::row::extend_row;
 use span_value::value::{Row, Value};
 use std::alloc::{AllocError, Global};
@@ -208,6 +208,20 @@ impl RowList {
             &mut values,
             ends.as_slice(),
         )
+    }
+
+    /// Adds a row of those copies of the values of two rows, the one after the other, where a mask is TRUE. An error leaves the rows as they were.
+    pub fn push_pair_where(
+        &mut self,
+        alloc: Global,
+        left: &[Value],
+        right: &[Value],
+        mask: &[bool],
+    ) -> Result<(), AllocError>
+        ensures ok { OnOk result (self.new ≡ self.old ++ values_where mask.now (left.now ++ right.now) ∷ []) }
+        ensures err { OnErr result (self.new ≡ self.old) }
+    {
+        push_copies_where(alloc, &mut self.values, &mut self.ends, left, right, mask)
     }
 
     /// Adds rows of the values where a mask is TRUE, which are moved; the other list is left without rows, and its memory is used again. The only error is
