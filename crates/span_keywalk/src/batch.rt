@@ -126,8 +126,8 @@ struct Passed {
     left: usize,
 }
 
-/// Goes on from a chain to at most `keys` by their links, with fewer tests for each than `find_by_links`: there is room for all of them, and keys
-/// are not so long that a length is not kept. Each number is put, and that of a short key stays.
+/// Goes on from a chain to at most `keys` by their links, with fewer tests for each than `find_by_links`: there is capacity for all of them, and
+/// `most` is less than the greatest length that is kept. Each number is put, and that of a short key stays.
 fn pass_links(
     arena: &Arena,
     nexts: &NextLinks,
@@ -152,6 +152,7 @@ fn pass_links(
         AreShortOf cells nexts.now most stop es (take count numbers.old) left (Some number)
         → AreShortOf cells nexts.now most stop es (take result.count numbers.new) result.left result.at }
 {
+    // What it says is for the proof: no chain has the number that means none. The lengths are lent once, since a number is written at each turn.
     let _numbers = arena.numbers();
     let lengths = arena.key_lengths();
     let end = end_of(stop);

@@ -30,6 +30,7 @@ pub(crate) fn is_end(number: u32, end: u32, stop: Option<u32>) -> bool
     requires { nat_eq number end ≡ spec.is_stop number stop }
     ensures { result ≡ spec.is_stop number stop }
 {
+    // The contract alone speaks of it.
     let _ = stop;
     number == end
 }

@@ -10,8 +10,8 @@ use super::made_row::MadeRow;
 use span_keycode::key::Key;
 use std::alloc::{AllocError, Global};
 
-/// The most rows that a class has while none is crowded. With as many classes as rows, one class in some 10^35 has more by
-/// chance.
+/// The most rows that a class has while none is crowded. With as many classes as rows, fewer than one class in 10^37 has
+/// more by chance.
 const MOST_OF_A_CLASS: usize = 32;
 
 /// For each class of keys which row is its last, and for each row which one of its class came before it.
