@@ -3,7 +3,7 @@ use Rattle.std.proofs.Common.{◌≡◌, ◌≢◌, ℕ, ◌+◌, ◌<◌, ◌�
 use Rattle.std.specs.List.{AllByRecursion}
 use Rattle.std.proofs.lemmas.Bool.{cases_eq}
 use Rattle.std.proofs.lemmas.List.{map-append}
-use Rattle.span_sorting.specs.declared.parts.PartPlace.{PartPlace}
+use Rattle.span_merging.specs.declared.parts.PartPlace.{PartPlace}
 use Rattle.span_classes.specs.Merging.{list_at, number_in, numbers_in, IsAscending, of_class, AreParted, AreMerged, taken_at, next_at, Head, HasLeft, IsLeastOf, AreMergedTo, HasRest, class_at_place, AreByClass, IsNext, HasRestFrom, AreMergedBefore}
 use Rattle.span_classes.proofs.Merging.{BeginsAt, HasItem, all_end, ascending_end, begins_at, has_item, merged_all, merged_next, merged_start, of_its_class}
 

@@ -5,7 +5,7 @@ use Rattle.std.specs.Option.{MatchOption}
 use Rattle.std.proofs.lemmas.Bool.{cases_eq, eqb-true, eq-eqb}
 use Rattle.std.proofs.lemmas.List.{map-append, append_assoc, append-nil, get_or-set_same, get_or-set_other, length-replicate, length-set}
 use Rattle.std.proofs.lemmas.Option.{same_Some}
-use Rattle.span_sorting.specs.declared.parts.PartPlace.{PartPlace}
+use Rattle.span_merging.specs.declared.parts.PartPlace.{PartPlace}
 use Rattle.span_classes.specs.Merging.{list_at, number_in, numbers_in, IsNumberIn, IsAscending, of_class, AreParted, AreMerged, taken_at, next_at, Head, HasLeft, IsHead, IsLeastOf, AreLeft, HasRest, AreMergedTo}
 
 -- ---- lists from a place on

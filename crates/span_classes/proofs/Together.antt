@@ -10,8 +10,8 @@ use Rattle.span_query.specs.Groups.{columns_at, distinct, group_keys, group_row,
 use Rattle.span_rows.specs.Keys.{contains_row, place_of}
 use Rattle.span_rows.proofs.Places.{place_known}
 use Rattle.span_groups.specs.GroupStates.{keys_at}
-use Rattle.span_sorting.specs.declared.parts.PartPlace.{PartPlace}
-use Rattle.span_sorting.specs.PartPlaces.{IsPlaceIn, row_in, rows_in}
+use Rattle.span_merging.specs.declared.parts.PartPlace.{PartPlace}
+use Rattle.span_merging.specs.PartPlaces.{IsPlaceIn, row_in, rows_in}
 use Rattle.span_classes.specs.declared.class_groups.ClassGroups.{ClassGroups}
 use Rattle.span_classes.specs.Classes.{AreAllClasses, AreClassNumbers, AreGroupsOfClass, AreMade, IsMade, class_at, class_of, first_places, is_in_class, rows_of, rows_of_class}
 use Rattle.span_classes.specs.Merging.{AreByClass, AreMerged, AreParted, IsAscending, IsNumberIn, class_at_place, firsts_of, list_at, number_in, numbers_in, of_class}

@@ -1,7 +1,7 @@
 -- Numbers that are in several lists, each of which has those of its class, in ascending order.
 use Rattle.std.specs.Prelude.{◌≡◌, ℕ, ◌==◌, ◌<◌, ◌≤◌, List, [], ◌∷◌, ◌++◌, drop, filter, length, map, slice_index_or}
 use Rattle.std.specs.List.{AllByRecursion}
-use Rattle.span_sorting.specs.declared.parts.PartPlace.{PartPlace}
+use Rattle.span_merging.specs.declared.parts.PartPlace.{PartPlace}
 use Rattle.span_classes.specs.declared.class_groups.ClassGroups.{ClassGroups}
 
 -- for each class the places of the first rows of its groups

@@ -13,7 +13,7 @@ use super::merge::merge_classes;
 use span_expr::cell::Failure;
 use span_query::query::Grouping;
 use span_rows::row_list::RowList;
-use span_sorting::answer_rows::AnswerRows;
+use span_merging::answer_rows::AnswerRows;
 use span_threads::calls::map_indices;
 use span_value::value::Value;
 use std::alloc::{AllocError, Global};

@@ -3,7 +3,7 @@ ghost use Rattle.std.specs.Prelude.{◌≡◌, ◌≢◌, ◌<◌, ◌+◌, IfOk
 ghost use Rattle.span_classes.specs.Merging.{AreMerged, AreMergedBefore, AreParted, AreByClass, IsNext, firsts_of};
 
 use super::class_groups::ClassGroups;
-use span_sorting::parts::PartPlace;
+use span_merging::parts::PartPlace;
 use std::alloc::{AllocError, Global};
 
 /// Whether a row is the first of the group that is next of a class, of which some were taken.

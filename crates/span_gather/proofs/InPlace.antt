@@ -9,8 +9,8 @@ use Rattle.span_query.specs.declared.query.BoundQuery.{BoundQuery}
 use Rattle.span_query.specs.Meaning.{given}
 use Rattle.span_query.specs.Rows.{Row}
 use Rattle.span_query.specs.Sorting.{sorted}
-use Rattle.span_sorting.specs.declared.parts.PartPlace.{PartPlace}
-use Rattle.span_sorting.specs.PartPlaces.{AreInOrder, IsPlaceIn, joined, lists, rows_in}
+use Rattle.span_merging.specs.declared.parts.PartPlace.{PartPlace}
+use Rattle.span_merging.specs.PartPlaces.{AreInOrder, IsPlaceIn, joined, lists, rows_in}
 use Rattle.span_algebra.specs.declared.ordered.TableOrder.{TableOrder}
 use Rattle.span_algebra.specs.ColumnOrders.{IsTableOrder, have_width}
 use Rattle.span_fragment.specs.declared.piece.Piece.{Piece}

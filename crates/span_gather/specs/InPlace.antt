@@ -4,8 +4,8 @@ use Rattle.std.specs.List.{AllByRecursion}
 use denote.Ref.{Bor}
 use Rattle.span_query.specs.declared.query.BoundQuery.{BoundQuery}
 use Rattle.span_query.specs.Rows.{Row, Rows}
-use Rattle.span_sorting.specs.declared.parts.PartPlace.{PartPlace}
-use Rattle.span_sorting.specs.PartPlaces.{IsPlaceIn, joined, lists, rows_in}
+use Rattle.span_merging.specs.declared.parts.PartPlace.{PartPlace}
+use Rattle.span_merging.specs.PartPlaces.{IsPlaceIn, joined, lists, rows_in}
 use Rattle.span_algebra.specs.ColumnOrders.{have_width}
 use Rattle.span_fragment.specs.declared.piece.Piece.{Piece}
 use Rattle.span_gather.specs.Gathered.{gathered, joined_pieces}

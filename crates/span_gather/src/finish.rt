@@ -17,7 +17,7 @@ use span_expr::cell::Failure;
 use span_fragment::piece::Piece;
 use span_groups::part_rows::PartRows;
 use span_query::query::BoundQuery;
-use span_sorting::answer_rows::AnswerRows;
+use span_merging::answer_rows::AnswerRows;
 use span_value::owned::{give_after, keep_with};
 use span_value::refusal::Refusal;
 use span_value::seq::Seq;

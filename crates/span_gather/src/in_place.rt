@@ -2,7 +2,7 @@
 ghost use Rattle.std.specs.Prelude.{◌≡◌, ◌∷◌, [], IfOk, IfSome, Some, true};
 ghost use Rattle.std.specs.List.{AllByRecursion};
 ghost use Rattle.span_algebra.specs.ColumnOrders.{have_width};
-ghost use Rattle.span_sorting.specs.PartPlaces.{IsPlaceIn, rows_in};
+ghost use Rattle.span_merging.specs.PartPlaces.{IsPlaceIn, rows_in};
 ghost use Rattle.span_gather.specs.InPlace.{AreListsOf, ArePlacesOf, first_leaf, lists_of, rows_or_none};
 
 use span_algebra::block::have_width;
@@ -10,9 +10,9 @@ use span_algebra::ordered::table_order;
 use span_fragment::piece::Piece;
 use span_query::query::BoundQuery;
 use span_rows::row_list::RowList;
-use span_sorting::answer_rows::AnswerRows;
-use span_sorting::part_ranges::order_parts;
-use span_sorting::parts::PartPlace;
+use span_merging::answer_rows::AnswerRows;
+use span_merging::part_ranges::order_parts;
+use span_merging::parts::PartPlace;
 use span_sorting::rows_with_order::RowsWithOrder;
 use span_value::owned::keep_with;
 use span_value::seq::Seq;

@@ -15,7 +15,7 @@ use span_fragment::piece::Piece;
 use span_groups::part_rows::PartRows;
 use span_query::query::BoundQuery;
 use span_rows::row_list::{RowList, lend_rows};
-use span_sorting::answer_rows::AnswerRows;
+use span_merging::answer_rows::AnswerRows;
 use span_value::seq::Seq;
 use span_value::value::Value;
 use std::alloc::{AllocError, Global};

@@ -1,7 +1,7 @@
 //! The rows of a query.
 ghost use Rattle.std.specs.Prelude.{◌≡◌, ◌==◌, ◌<◌, length, slice_index_or};
 
-use span_sorting::answer_rows::AnswerRows;
+use span_merging::answer_rows::AnswerRows;
 use span_value::value::Value;
 
 /// The rows of a query, in order. Only `finish` and `finish_taken` make them.

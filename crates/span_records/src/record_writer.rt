@@ -6,7 +6,7 @@ ghost use Rattle.span_records.specs.Record.{row_records};
 
 use csv::{StringRecord, WriterBuilder};
 use itoa::Buffer;
-use span_sorting::answer_rows::AnswerRows;
+use span_merging::answer_rows::AnswerRows;
 use span_value::cell::cell_text;
 use span_value::refusal::Refusal;
 use span_value::value::Value;

@@ -8,10 +8,4 @@ pub mod CodedRows
 pub mod TakenColumns
 pub mod Placing
 mod InTurn
-mod PartPlaces
 pub mod FirstOfParts
-mod Merging
-mod ItemOrders
-mod PartRests
-mod Cutting
-mod PartRanges

@@ -19,10 +19,12 @@ pub(crate) struct PlacedRow<'a> {
 
 /// A place of a list, with the codes of the row there.
 #[derive(Debug, Drop)]
-pub(crate) struct CodedPlace {
-    pub(crate) first: u128,
-    pub(crate) second: u128,
-    pub(crate) place: usize,
+pub struct CodedPlace {
+    /// The code of the row's value by the first key.
+    pub first: u128,
+    /// The code of its value by the second key.
+    pub second: u128,
+    pub place: usize,
 }
 
 /// Places of a list, with the codes of the rows there.

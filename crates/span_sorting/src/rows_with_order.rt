@@ -122,7 +122,7 @@ impl RowsWithOrder {
     }
 
     /// The places of the rows in the order of the keys, where this was made, and whether their codes are exact.
-    pub(crate) fn places_by(&self, keys: &[SortKey]) -> Option<(&[CodedPlace], bool)>
+    pub fn places_by(&self, keys: &[SortKey]) -> Option<(&[CodedPlace], bool)>
         ensures { IfSome result (λ found. ArePlacesBy keys.now None self.now found.1 found.0.now) }
     {
         let Some(order) = &self.order else {

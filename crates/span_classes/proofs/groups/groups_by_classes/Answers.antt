@@ -2,8 +2,8 @@ use Rattle.std.proofs.Common.{rules, ◌≡◌, ◌∙◌, ◌<◌, ℕ, List, S
 use Rattle.std.specs.List.{AllByRecursion}
 use Rattle.span_query.specs.Rows.{Row}
 use Rattle.span_rows.specs.LentRows.{lent_rows}
-use Rattle.span_sorting.specs.declared.parts.PartPlace.{PartPlace}
-use Rattle.span_sorting.specs.PartPlaces.{IsPlaceIn, rows_in}
+use Rattle.span_merging.specs.declared.parts.PartPlace.{PartPlace}
+use Rattle.span_merging.specs.PartPlaces.{IsPlaceIn, rows_in}
 use Rattle.span_classes.specs.Classes.{AreAllClasses, AreClassNumbers, AreMade, rows_of}
 use Rattle.span_classes.specs.declared.class_groups.ClassGroups.{ClassGroups}
 use Rattle.span_classes.specs.Merging.{AreByClass, AreMerged, firsts_of}

@@ -1,6 +1,6 @@
 use Rattle.std.proofs.Common.{rules, ◌≡◌, ◌∙◌, ◌+◌, ◌<◌, ◌^◌, ◌++◌, [], ◌∷◌, List, ℕ, length, set, sym, ap, arith}
 use Rattle.std.proofs.lemmas.List.{get_or-map}
-use Rattle.span_sorting.specs.declared.parts.PartPlace.{PartPlace}
+use Rattle.span_merging.specs.declared.parts.PartPlace.{PartPlace}
 use Rattle.span_classes.specs.declared.class_groups.ClassGroups.{ClassGroups}
 use Rattle.span_classes.specs.Merging.{firsts_of, list_at, taken_at}
 use Rattle.span_classes.proofs.Merging.{any_default}

@@ -3,7 +3,7 @@ use Rattle.std.specs.Prelude.{IfOk, IfSome, MatchResult}
 use Rattle.span_value.specs.declared.refusal.Refusal.{Refusal}
 use Rattle.span_value.specs.declared.refusal.Refusal.TheVariants.{ArithmeticFault, OutOfMemory}
 use Rattle.span_query.specs.Rows.{Row}
-use Rattle.span_sorting.specs.PartPlaces.{rows_in}
+use Rattle.span_merging.specs.PartPlaces.{rows_in}
 use Rattle.span_fragment.specs.declared.piece.Piece.{Piece}
 use Rattle.span_gather.specs.declared.rows.Rows.{Rows}
 use Rattle.span_gather.specs.Gathered.{gathered}

@@ -4,7 +4,7 @@ use denote.Ref.{Bor}
 use Rattle.span_value.proofs.Lists.{drop_read}
 use Rattle.span_query.specs.Rows.{Row, Rows, append_results}
 use Rattle.span_rows.proofs.Gathering.{gathered_at, one_more}
-use Rattle.span_sorting.specs.PartPlaces.{joined, lists}
+use Rattle.span_merging.specs.PartPlaces.{joined, lists}
 use Rattle.span_algebra.specs.ColumnOrders.{have_width}
 use Rattle.span_fragment.specs.declared.piece.Piece.{Piece}
 use Rattle.span_gather.specs.Gathered.{joined_pieces}

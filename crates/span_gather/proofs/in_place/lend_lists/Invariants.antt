@@ -1,6 +1,6 @@
 use Rattle.std.proofs.Common.{◌≡◌, ◌++◌, Some, drop, true}
 use Rattle.span_query.specs.Rows.{append_results}
-use Rattle.span_sorting.specs.PartPlaces.{joined, lists}
+use Rattle.span_merging.specs.PartPlaces.{joined, lists}
 use Rattle.span_algebra.specs.ColumnOrders.{have_width}
 use Rattle.span_gather.specs.Gathered.{joined_pieces}
 use Rattle.span_gather.specs.InPlace.{lists_of}

@@ -1,6 +1,6 @@
 use Rattle.std.proofs.Common.{rules, ◌≡◌, ◌∷◌, [], List, get_or, length}
 use Rattle.span_fragment.specs.declared.piece.Piece.{Piece}
-use Rattle.span_sorting.specs.PartPlaces.{AreInOrder, lists}
+use Rattle.span_merging.specs.PartPlaces.{AreInOrder, lists}
 use Rattle.span_algebra.specs.ColumnOrders.{IsTableOrder}
 use Rattle.span_gather.specs.InPlace.{AreListsOf}
 use Rattle.span_gather.proofs.InPlace.{one_item, placed_of}

@@ -1,0 +1,6 @@
+mod PartPlaces
+mod Merging
+mod ItemOrders
+mod PartRests
+mod Cutting
+mod PartRanges

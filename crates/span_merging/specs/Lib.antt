@@ -1,0 +1,4 @@
+pub mod PartPlaces
+pub mod PartRests
+pub mod PartRanges
+pub mod RowSources

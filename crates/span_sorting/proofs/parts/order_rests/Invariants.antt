@@ -1,7 +1,0 @@
-use Rattle.span_sorting.specs.Orders.{IsOrderBelow}
-use Rattle.span_sorting.specs.PartRests.{part_before}
-use Rattle.span_sorting.proofs.parts.order_rests.Given as goal
-
--- the lists so far
-abbrev pub invariant-loop-part : goal.invariant-loop-part
-invariant-loop-part l = IsOrderBelow l.part (part_before l.keys l.rests) l.order.items
