@@ -19,8 +19,8 @@ use Rattle.span_groups.proofs.MergedGroups.{distinct_at-both}
 use Rattle.span_algebra.specs.declared.ordered.ColumnOrder.{ColumnOrder}
 use Rattle.span_algebra.specs.BlockMeaning.{TakesDistinct}
 use Rattle.span_algebra.specs.ColumnOrders.{IsColumnOrder, IsTable}
-use Rattle.span_groups.specs.declared.reduction.Reduction.{Reduction}
-use Rattle.span_groups.specs.Reductions.{HasEnough}
+use Rattle.span_collected.specs.declared.reduction.Reduction.{Reduction}
+use Rattle.span_collected.specs.Reductions.{HasEnough}
 use Rattle.span_algebra.specs.SameMeaning.{IsReductionFor, MeanTheSame}
 use Rattle.span_algebra.proofs.Blocks.{table_distinct}
 use Rattle.span_algebra.proofs.Derived.{meaning_is}

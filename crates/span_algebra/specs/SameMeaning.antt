@@ -3,8 +3,8 @@ use Rattle.std.specs.Prelude.{◌≡◌, ℕ, List, ◌∷◌, ◌++◌, Some, l
 use Rattle.span_query.specs.declared.query.BoundQuery.{BoundQuery}
 use Rattle.span_query.specs.Rows.{Row, Rows, append_results}
 use Rattle.span_query.specs.Meaning.{given, meaning_over}
-use Rattle.span_groups.specs.declared.reduction.Reduction.{Reduction}
-use Rattle.span_groups.specs.Reductions.{AreEnough}
+use Rattle.span_collected.specs.declared.reduction.Reduction.{Reduction}
+use Rattle.span_collected.specs.Reductions.{AreEnough}
 
 -- The query means the same where the table at this place has the one rows as where it has the others, whatever rows it has before and after
 -- them, and whatever the other tables give.

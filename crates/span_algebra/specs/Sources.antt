@@ -14,7 +14,7 @@ use Rattle.span_algebra.specs.declared.source.SourceRows.{SourceRows}
 use Rattle.span_algebra.specs.declared.source.SourceRows.TheVariants.{Lent, Made}
 use Rattle.span_algebra.specs.declared.source.TableSource.{TableSource}
 use Rattle.span_algebra.specs.declared.source.TableSource.TheVariants as table
-use Rattle.span_groups.specs.Parts.{all_rows}
+use Rattle.span_collected.specs.Parts.{all_rows}
 
 abbrev pub source_rows : SourceRows → List Row
 source_rows (Lent rows) = rows.now

@@ -5,9 +5,9 @@ ghost use Rattle.span_algebra.specs.BlockMeaning.{TakesDistinct};
 ghost use Rattle.span_algebra.specs.SameMeaning.{IsReductionFor};
 
 use super::ordered::only_table;
-use span_groups::collected::CollectedRows;
-use span_groups::part_rows::PartRows;
-use span_groups::reduction::Reduction;
+use span_collected::collected::CollectedRows;
+use span_collected::part_rows::PartRows;
+use span_collected::reduction::Reduction;
 use span_query::query::{Block, BoundQuery};
 use span_rows::row_list::RowList;
 use span_sorting::columns::columns_of;

@@ -7,12 +7,12 @@ ghost use Rattle.span_query.specs.Rows.{Row};
 ghost use Rattle.span_query.specs.Sorting.{sorted};
 ghost use Rattle.span_sorting.specs.Codes.{HaveCodes, coded_rows};
 ghost use Rattle.span_sorting.specs.Orders.{take_first};
-ghost use Rattle.span_groups.specs.Reductions.{AreEnough};
+ghost use Rattle.span_collected.specs.Reductions.{AreEnough};
 ghost use Rattle.span_algebra.specs.ColumnOrders.{IsColumnOrder, IsTable, IsTableOrder, TakesAllRows};
 ghost use Rattle.span_algebra.specs.SameMeaning.{IsReductionFor};
 
 use super::block::are_in_order;
-use span_groups::reduction::Reduction;
+use span_collected::reduction::Reduction;
 use span_query::query::{Block, BoundQuery, Item, Limit, SortKey};
 use span_rows::row_list::{RowList, lent_rows};
 use span_sorting::coded::CodedRows;

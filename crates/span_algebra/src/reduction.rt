@@ -4,7 +4,7 @@ ghost use Rattle.span_algebra.specs.SameMeaning.{IsReductionFor};
 
 use super::distinct::distinct_of_table;
 use super::ordered::first_of_table;
-use span_groups::reduction::Reduction;
+use span_collected::reduction::Reduction;
 use span_query::query::BoundQuery;
 use std::alloc::{AllocError, Global};
 

@@ -10,12 +10,12 @@ ghost use Rattle.span_rows.specs.Columns.{distinct_at};
 ghost use Rattle.span_rows.specs.LentRows.{lent_rows};
 ghost use Rattle.span_sorting.specs.Codes.{HaveCodes, coded_rows};
 ghost use Rattle.span_sorting.specs.Orders.{take_first};
-ghost use Rattle.span_groups.specs.Parts.{all_rows};
+ghost use Rattle.span_collected.specs.Parts.{all_rows};
 ghost use Rattle.span_algebra.specs.Sources.{GivesRows, HasSameValues, IsGivenBy, SortsAs, source_rows, source_result, LendsRows};
 
 use span_expr::cell::Failure;
-use span_groups::part_rows::PartRows;
-use span_groups::parts::groups_of;
+use span_collected::part_rows::PartRows;
+use span_collected::parts::groups_of;
 use span_query::query::{Grouping, SortKey};
 use span_rows::row_list::{RowList, lend_rows};
 use span_sorting::coded::CodedRows;

@@ -9,10 +9,10 @@ use Rattle.span_query.specs.declared.query.Grouping.{Grouping}
 use Rattle.span_query.specs.Groups.{columns_at}
 use Rattle.span_query.specs.Rows.{Row}
 use Rattle.span_rows.specs.LentRows.{lent_rows}
-use Rattle.span_groups.specs.declared.lent.LentGroups.{LentGroups}
+use Rattle.span_collected.specs.declared.lent.LentGroups.{LentGroups}
 use Rattle.span_groups.specs.MergedGroups.{AnyFault}
-use Rattle.span_groups.specs.Parts.{all_rows}
-use Rattle.span_groups.proofs.KeptGroups.{any_of_part}
+use Rattle.span_collected.specs.Parts.{all_rows}
+use Rattle.span_collected.proofs.KeptGroups.{any_of_part}
 use Rattle.span_classes.specs.Ranges.{IsGroupsOf, IsRangeMade, range_at}
 
 module _ (size : ℕ) (parts : List (Bor (List Row))) where

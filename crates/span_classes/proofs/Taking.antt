@@ -15,11 +15,11 @@ use Rattle.span_rows.specs.Keys.{contains_row, place_of, with_new}
 use Rattle.span_rows.specs.LentRows.{lent_rows}
 use Rattle.span_rows.proofs.Places.{contains_row-distinct}
 use Rattle.span_groups.specs.declared.aggregate.AggregateState.{AggregateState}
-use Rattle.span_groups.specs.declared.lent.LentGroups.{LentGroups}
+use Rattle.span_collected.specs.declared.lent.LentGroups.{LentGroups}
 use Rattle.span_groups.specs.GroupStates.{AreGroupLists, CanCountRow, HaveKeys, keys_at}
 use Rattle.span_groups.specs.States.{operand_at}
 use Rattle.span_groups.proofs.GroupSteps.{firsts_by, known_of, new_of}
-use Rattle.span_groups.proofs.KeptGroups.{part_fails}
+use Rattle.span_collected.proofs.KeptGroups.{part_fails}
 use Rattle.span_groups.proofs.StateLists.{keys_in}
 use Rattle.span_classes.specs.declared.class.Class.{Class}
 use Rattle.span_classes.specs.Classes.{first_places, is_in_class, rows_of_class, HaveTaken}

@@ -10,7 +10,7 @@ use Rattle.span_rows.specs.Answers.{Gives}
 use Rattle.span_rows.specs.Hashes.{row_writes}
 use Rattle.span_rows.specs.Keys.{place_of}
 use Rattle.span_rows.specs.LentRows.{lent_rows}
-use Rattle.span_groups.specs.declared.lent.LentGroups.{LentGroups}
+use Rattle.span_collected.specs.declared.lent.LentGroups.{LentGroups}
 use Rattle.span_groups.specs.GroupStates.{AreGroupLists, HaveKeys, keys_at}
 use Rattle.span_classes.specs.declared.class.Class.{Class}
 use Rattle.span_classes.specs.declared.class_groups.ClassGroups.{ClassGroups}

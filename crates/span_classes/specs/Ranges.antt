@@ -6,10 +6,10 @@ use Rattle.span_expr.specs.declared.cell.Failure.TheVariants.{Fault}
 use Rattle.span_query.specs.declared.query.Grouping.{Grouping}
 use Rattle.span_query.specs.Rows.{Row}
 use Rattle.span_rows.specs.LentRows.{lent_rows}
-use Rattle.span_groups.specs.declared.lent.LentGroups.{LentGroups}
-use Rattle.span_groups.specs.KeptGroups.{AreGroupsWith}
+use Rattle.span_collected.specs.declared.lent.LentGroups.{LentGroups}
+use Rattle.span_collected.specs.KeptGroups.{AreGroupsWith}
 use Rattle.span_groups.specs.MergedGroups.{AnyFault}
-use Rattle.span_groups.specs.Parts.{all_rows}
+use Rattle.span_collected.specs.Parts.{all_rows}
 
 -- the items of the range with a number, where each range has `size` of them
 abbrev pub range_at : {X : Type 0} → ℕ → List X → ℕ → List X

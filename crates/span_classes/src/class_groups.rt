@@ -14,7 +14,7 @@ use super::class::Class;
 use indexmap::IndexSet;
 use span_expr::cell::Failure;
 use span_groups::group::{first_index, push_if, take_row};
-use span_groups::lent::{LentGroups, no_lent_groups, rows_of_lent};
+use span_collected::lent::{LentGroups, no_lent_groups, rows_of_lent};
 use span_query::query::Grouping;
 use span_rows::key::LentKey;
 use span_rows::row_list::RowList;

@@ -2,7 +2,7 @@
 ghost use Rattle.std.specs.Prelude.{◌≡◌};
 ghost use Rattle.std.specs.Option.{option_copied};
 
-use span_groups::part_rows::PartRows;
+use span_collected::part_rows::PartRows;
 
 /// The rows of a leaf in a part of its range, or none where joining or filtering them was an arithmetic error. Where the query above groups them
 /// they may be there as groups alone. Only `run_leaf` makes it.

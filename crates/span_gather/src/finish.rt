@@ -3,7 +3,7 @@ ghost use Rattle.std.specs.Prelude.{◌≡◌, ◌⊎◌, ◌++◌, ◌∷◌, [
 ghost use Rattle.std.specs.Option.{option_map};
 ghost use Rattle.span_query.specs.Rows.{Row};
 ghost use Rattle.span_rows.specs.Answers.{Gives};
-ghost use Rattle.span_groups.specs.Parts.{all_rows};
+ghost use Rattle.span_collected.specs.Parts.{all_rows};
 ghost use Rattle.span_gather.specs.Gathered.{joined_pieces, gathered};
 
 use super::in_place::{places_of_rows, rows_in_place};
@@ -15,7 +15,7 @@ use span_algebra::plain::eval_plain;
 use span_algebra::source::Tables;
 use span_expr::cell::Failure;
 use span_fragment::piece::Piece;
-use span_groups::part_rows::PartRows;
+use span_collected::part_rows::PartRows;
 use span_query::query::BoundQuery;
 use span_merging::answer_rows::AnswerRows;
 use span_value::owned::{give_after, keep_with};

@@ -12,7 +12,7 @@ use span_classes::groups::groups_by_classes;
 use span_classes::ranges::groups_by_ranges;
 use span_expr::cell::Failure;
 use span_fragment::piece::Piece;
-use span_groups::part_rows::PartRows;
+use span_collected::part_rows::PartRows;
 use span_query::query::BoundQuery;
 use span_rows::row_list::{RowList, lend_rows};
 use span_merging::answer_rows::AnswerRows;

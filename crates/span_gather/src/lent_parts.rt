@@ -1,11 +1,11 @@
 //! The rows of the pieces of a leaf, lent.
 ghost use Rattle.std.specs.Prelude.{◌≡◌, IfOk};
 ghost use Rattle.std.specs.Option.{option_map};
-ghost use Rattle.span_groups.specs.Parts.{all_rows};
+ghost use Rattle.span_collected.specs.Parts.{all_rows};
 ghost use Rattle.span_gather.specs.Gathered.{joined_pieces};
 
 use span_fragment::piece::Piece;
-use span_groups::part_rows::PartRows;
+use span_collected::part_rows::PartRows;
 use std::alloc::{AllocError, Global};
 
 /// The rows of pieces, lent; none where one of the pieces is a fault.

@@ -1,8 +1,4 @@
 pub mod States
 pub mod StateLists
 pub mod GroupStates
-pub mod KeptGroups
 pub mod MergedGroups
-pub mod FirstRows
-pub mod Parts
-pub mod Reductions

@@ -10,9 +10,9 @@ use span_query::query::{Aggregate, Grouping};
 use span_rows::row_list::RowList;
 use std::alloc::{AllocError, Global};
 
-/// The states of counts of rows after a number of them. None where an aggregate is no such count.
+/// The states of counts of rows after a number of them. None where an aggregate is no such count. The only error is out of memory.
 #[tactic(auto, using(crate::proofs::OneGroup::counted_more))]
-pub(crate) fn counted_states(
+pub fn counted_states(
     alloc: Global,
     aggregates: &[Aggregate],
     count: usize,

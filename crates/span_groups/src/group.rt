@@ -57,7 +57,7 @@ fn place_of_row<'a>(
 
 /// The place of the group of a row, which is added after the others where there was none, and whether it was added. The index has the keys
 /// of the groups, in their order.
-pub(crate) fn group_of<'a>(
+pub fn group_of<'a>(
     grouping: &'a Grouping,
     index: &mut IndexSet<LentKey<'a>>,
     states: &mut Vec<AggregateState>,
@@ -176,7 +176,7 @@ pub fn first_index(alloc: Global, grouping: &Grouping) -> Result<IndexSet<LentKe
 }
 
 /// The row at a place, or one of no values where there is none.
-pub(crate) fn row_or_none(rows: &RowList, place: usize) -> &[Value]
+pub fn row_or_none(rows: &RowList, place: usize) -> &[Value]
     ensures { result.now ≡ slice_index_or rows.now place [] }
 {
     if place < rows.len() {
@@ -202,7 +202,7 @@ fn first_rows<'a>(
 }
 
 /// The row of each group, whose first rows are lent. Each is made in one buffer, which is used again.
-pub(crate) fn rows_of(
+pub fn rows_of(
     alloc: Global,
     places: &[usize],
     width: usize,

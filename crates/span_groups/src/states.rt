@@ -17,7 +17,7 @@ use span_value::value::Value;
 use std::alloc::{AllocError, Global};
 
 /// Adds the states of one more group, of no rows. An error leaves some of them added.
-pub(crate) fn add_states(
+pub fn add_states(
     aggregates: &[Aggregate],
     states: &mut Vec<AggregateState>,
 ) -> Result<(), AllocError>
@@ -56,7 +56,7 @@ pub(crate) fn take_all(
 
 /// The states from a place on take what other states of the same aggregates have taken, after their own. False where they could not be put
 /// together: what they have taken then is not known.
-pub(crate) fn merge_all(
+pub fn merge_all(
     alloc: Global,
     states: &mut Vec<AggregateState>,
     start: usize,
@@ -81,7 +81,7 @@ pub(crate) fn merge_all(
 }
 
 /// The states of the group at a place.
-pub(crate) fn states_at(states: &[AggregateState], at: usize, width: usize) -> &[AggregateState]
+pub fn states_at(states: &[AggregateState], at: usize, width: usize) -> &[AggregateState]
     requires { at * width + width ≤ length states.now }
     ensures { result.now ≡ states_from (at * width) width states.now }
 {

@@ -20,8 +20,8 @@ use Rattle.span_columns.specs.contracts.leaf.Plan as Plan
 use Rattle.span_machine.specs.contracts.query.OpenQuery as OpenQuery
 use Rattle.span_machine.specs.contracts.query.ScanLeaf as ScanLeaf
 use Rattle.span_machine.proofs.slot.SlotState.TheSendSync as of_slot
-use Rattle.span_groups.specs.contracts.grouped.GroupedRows as GroupedRows
-use Rattle.span_groups.specs.contracts.part_rows.PartRows as PartRows
+use Rattle.span_collected.specs.contracts.grouped.GroupedRows as GroupedRows
+use Rattle.span_collected.specs.contracts.part_rows.PartRows as PartRows
 use Rattle.span_fragment.specs.contracts.piece.Piece as Piece
 use Rattle.span_transactions.proofs.transaction.KeptTransaction.TheSendSync as of_transaction
 use Rattle.span_transactions.specs.contracts.commit.KeptCommit as KeptCommit

@@ -25,9 +25,9 @@ use Rattle.span_query.specs.Rows.{Row, OrFault, Rows, ◌>>=◌, value_of, is_tr
 use Rattle.span_query.proofs.Results.{append_results-nil, nil-append_results}
 use Rattle.span_rows.specs.Answers.{Gives, Adds}
 use Rattle.span_rows.proofs.Gathering.{one_adds, one_fails, adding-fails}
-use Rattle.span_groups.specs.declared.reduction.Reduction.{Reduction}
-use Rattle.span_groups.specs.Reductions.{AreEnough, HasEnough, GivesEnough}
-use Rattle.span_groups.proofs.Reductions.{enough_same, enough_more, enough_again, gives_all, gives_fault}
+use Rattle.span_collected.specs.declared.reduction.Reduction.{Reduction}
+use Rattle.span_collected.specs.Reductions.{AreEnough, HasEnough, GivesEnough}
+use Rattle.span_collected.proofs.Reductions.{enough_same, enough_more, enough_again, gives_all, gives_fault}
 use Rattle.span_columns.specs.declared.leaf.Leaf.{Leaf}
 use Rattle.span_columns.specs.declared.leaf.LeafJoin.{LeafJoin}
 use Rattle.span_leaves.specs.Leaves.{width_of}

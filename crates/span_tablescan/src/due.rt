@@ -1,18 +1,18 @@
 //! When the rows of a leaf that were collected are taken into groups, or those of them kept that are enough.
 ghost use Rattle.std.specs.Prelude.{◌≡◌, ◌++◌, OnOk};
-ghost use Rattle.span_groups.specs.KeptGroups.{grouped_rows};
-ghost use Rattle.span_groups.specs.Reductions.{AreEnough};
+ghost use Rattle.span_collected.specs.KeptGroups.{grouped_rows};
+ghost use Rattle.span_collected.specs.Reductions.{AreEnough};
 
-use span_groups::collected::{keep_enough, next_count};
-use span_groups::grouped::GroupedRows;
-use span_groups::reduction::Reduction;
+use span_collected::collected::{keep_enough, next_count};
+use span_collected::grouped::GroupedRows;
+use span_collected::reduction::Reduction;
 use span_rows::row_list::RowList;
 use std::alloc::{AllocError, Global};
 
 /// Takes the rows of a list into groups, which come before them, or keeps those that are enough, where the list has as many rows as `most`, or more;
 /// `most` is then how many it has when that is due again: several times as many as were kept, so that it takes little for each. The only error is
 /// out of memory.
-#[tactic(auto, using(span_groups::proofs::Reductions::enough_same))]
+#[tactic(auto, using(span_collected::proofs::Reductions::enough_same))]
 #[inline(always)]
 pub fn keep_where_due(
     alloc: Global,

@@ -1,6 +1,6 @@
 use Rattle.std.proofs.Common.{rules, ◌≡◌, ◌++◌, ◌<◌, ◌≤◌, ◌∙◌, List, length, get_or, ap, sym}
 use Rattle.span_query.specs.Rows.{Row}
-use Rattle.span_groups.proofs.Parting.{rows_more, rows_all}
+use Rattle.span_collected.proofs.Parting.{rows_more, rows_all}
 use Rattle.span_algebra.proofs.source.join_parts.Goals as goal
 
 pub loop-part-preserved : goal.loop-part-preserved

@@ -2,9 +2,9 @@ use Rattle.std.proofs.Common.{rules, ◌≡◌, ◌<◌, ◌≤◌, ◌∙◌, L
 use Rattle.span_query.specs.Rows.{Row}
 use Rattle.span_rows.specs.Columns.{distinct_at}
 use Rattle.span_rows.specs.LentRows.{lent_rows}
-use Rattle.span_groups.specs.Parts.{all_rows}
+use Rattle.span_collected.specs.Parts.{all_rows}
 use Rattle.span_groups.proofs.MergedGroups.{distinct_at-both}
-use Rattle.span_groups.proofs.Parting.{rows_more, rows_all}
+use Rattle.span_collected.proofs.Parting.{rows_more, rows_all}
 use Rattle.span_algebra.proofs.source.lend_firsts_of.Goals as goal
 
 pub loop-part-preserved : goal.loop-part-preserved

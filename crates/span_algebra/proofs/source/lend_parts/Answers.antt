@@ -5,8 +5,8 @@ use Rattle.span_sorting.specs.Codes.{coded_rows}
 use Rattle.span_sorting.specs.Orders.{take_first}
 use Rattle.span_sorting.proofs.FirstOfParts.{first_of_parts}
 use Rattle.span_sorting.proofs.RowOrder.{rows_ranked}
-use Rattle.span_groups.specs.Parts.{all_rows}
-use Rattle.span_groups.proofs.Parting.{rows_more, rows_all}
+use Rattle.span_collected.specs.Parts.{all_rows}
+use Rattle.span_collected.proofs.Parting.{rows_more, rows_all}
 use Rattle.span_algebra.proofs.source.lend_parts.Goals as goal
 
 pub loop-part-init : goal.loop-part-init

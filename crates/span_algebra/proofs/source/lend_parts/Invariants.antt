@@ -2,7 +2,7 @@ use Rattle.std.proofs.Common.{◌≡◌, take}
 use Rattle.span_query.specs.Sorting.{sorted}
 use Rattle.span_sorting.specs.Codes.{HaveCodes, coded_rows}
 use Rattle.span_sorting.specs.Orders.{take_first}
-use Rattle.span_groups.specs.Parts.{all_rows}
+use Rattle.span_collected.specs.Parts.{all_rows}
 use Rattle.span_algebra.proofs.source.lend_parts.Given as goal
 
 abbrev pub invariant-loop-part : goal.invariant-loop-part

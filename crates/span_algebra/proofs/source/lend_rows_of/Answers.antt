@@ -1,7 +1,7 @@
 use Rattle.std.proofs.Common.{rules, ◌≡◌, ◌++◌, ◌<◌, ◌≤◌, ◌∙◌, List, length, get_or, ap, sym}
 use Rattle.span_query.specs.Rows.{Row}
 use Rattle.span_rows.specs.LentRows.{lent_rows}
-use Rattle.span_groups.proofs.Parting.{rows_more, rows_all}
+use Rattle.span_collected.proofs.Parting.{rows_more, rows_all}
 use Rattle.span_algebra.proofs.source.lend_rows_of.Goals as goal
 
 pub loop-part-preserved : goal.loop-part-preserved

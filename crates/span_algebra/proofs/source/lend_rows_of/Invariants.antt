@@ -1,6 +1,6 @@
 use Rattle.std.proofs.Common.{◌≡◌, take}
 use Rattle.span_rows.specs.LentRows.{lent_rows}
-use Rattle.span_groups.specs.Parts.{all_rows}
+use Rattle.span_collected.specs.Parts.{all_rows}
 use Rattle.span_algebra.proofs.source.lend_rows_of.Given as goal
 
 abbrev pub invariant-loop-part : goal.invariant-loop-part

@@ -4,7 +4,7 @@ use denote.Ref.{Bor}
 use Rattle.span_query.specs.Rows.{Row}
 use Rattle.span_query.specs.Groups.{columns_at}
 use Rattle.span_rows.specs.LentRows.{lent_rows}
-use Rattle.span_groups.specs.declared.lent.LentGroups.{LentGroups}
+use Rattle.span_collected.specs.declared.lent.LentGroups.{LentGroups}
 use Rattle.span_groups.proofs.GroupSteps.{lent-push}
 use Rattle.span_classes.specs.Classes.{is_in_class}
 use Rattle.span_classes.proofs.Taking.{taken_own}

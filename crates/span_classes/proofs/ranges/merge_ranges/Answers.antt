@@ -3,9 +3,9 @@ use Rattle.span_expr.specs.declared.cell.Failure.{Failure}
 use Rattle.span_query.specs.Rows.{Row}
 use Rattle.span_rows.specs.LentRows.{lent_rows}
 use Rattle.span_groups.specs.declared.aggregate.AggregateState.{AggregateState}
-use Rattle.span_groups.specs.declared.lent.LentGroups.{LentGroups}
+use Rattle.span_collected.specs.declared.lent.LentGroups.{LentGroups}
 use Rattle.span_groups.specs.GroupStates.{AreGroupLists, HaveKeys}
-use Rattle.span_groups.specs.Parts.{all_rows}
+use Rattle.span_collected.specs.Parts.{all_rows}
 use Rattle.span_groups.proofs.GroupSteps.{in_step}
 use Rattle.span_classes.specs.Ranges.{IsRangeMade, range_at}
 use Rattle.span_classes.proofs.InRanges.{range_fault, range_next, range_none, ranges_all, wide_made}

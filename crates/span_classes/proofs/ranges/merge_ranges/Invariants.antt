@@ -1,7 +1,7 @@
 use Rattle.std.proofs.Common.{◌*◌, take}
 use Rattle.span_rows.specs.LentRows.{lent_rows}
 use Rattle.span_groups.specs.GroupStates.{AreGroupLists, HaveKeys}
-use Rattle.span_groups.specs.Parts.{all_rows}
+use Rattle.span_collected.specs.Parts.{all_rows}
 use Rattle.span_classes.proofs.ranges.merge_ranges.Given as goal
 
 abbrev pub invariant-loop-range : goal.invariant-loop-range

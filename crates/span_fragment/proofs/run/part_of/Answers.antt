@@ -1,6 +1,6 @@
 use Rattle.std.proofs.Common.{List}
 use Rattle.span_query.specs.Rows.{Row}
-use Rattle.span_groups.proofs.Reductions.{enough_again}
+use Rattle.span_collected.proofs.Reductions.{enough_again}
 use Rattle.span_fragment.proofs.run.part_of.Goals as goal
 
 pub returns-in_ok-ordered-in-Some : goal.returns-in_ok-ordered-in-Some

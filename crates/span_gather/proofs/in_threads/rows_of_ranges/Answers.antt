@@ -4,7 +4,7 @@ use Rattle.span_query.specs.Groups.{groups}
 use Rattle.span_query.specs.Rows.{Row, Rows, ◌>>=◌}
 use Rattle.span_rows.specs.Answers.{Gives}
 use Rattle.span_rows.proofs.Gathering.{then_fails}
-use Rattle.span_groups.specs.Parts.{all_rows}
+use Rattle.span_collected.specs.Parts.{all_rows}
 use Rattle.span_algebra.specs.GroupQueries.{GroupsFirstTable, rows_of_groups}
 use Rattle.span_fragment.specs.declared.piece.Piece.{Piece}
 use Rattle.span_gather.specs.Gathered.{gathered, joined_pieces}

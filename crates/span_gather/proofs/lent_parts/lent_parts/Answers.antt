@@ -3,7 +3,7 @@ use Rattle.std.proofs.lemmas.List.{append-nil, drop_all}
 use Rattle.std.proofs.lemmas.Grind.{flat_map-append}
 use denote.Ref.{Bor}
 use Rattle.span_query.specs.Rows.{Row, Rows, append_results}
-use Rattle.span_groups.specs.Parts.{all_rows}
+use Rattle.span_collected.specs.Parts.{all_rows}
 use Rattle.span_rows.proofs.Gathering.{gathered_at, one_more}
 use Rattle.span_fragment.specs.declared.piece.Piece.{Piece}
 use Rattle.span_gather.specs.Gathered.{joined_pieces}

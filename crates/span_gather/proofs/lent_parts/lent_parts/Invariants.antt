@@ -1,6 +1,6 @@
 use Rattle.std.proofs.Common.{◌≡◌, Some, drop}
 use Rattle.span_query.specs.Rows.{append_results}
-use Rattle.span_groups.specs.Parts.{all_rows}
+use Rattle.span_collected.specs.Parts.{all_rows}
 use Rattle.span_gather.specs.Gathered.{joined_pieces}
 use Rattle.span_gather.proofs.lent_parts.lent_parts.Given as goal
 

@@ -8,8 +8,8 @@ use Rattle.span_query.specs.Rows.{Row}
 use Rattle.span_columns.specs.declared.leaf.Leaf.{Leaf}
 use Rattle.span_tablescan.specs.Given.{IsEnoughOn}
 use Rattle.span_tablescan.specs.Scans.{IsTakenBy}
-use Rattle.span_groups.specs.KeptGroups.{grouped_rows}
-use Rattle.span_groups.specs.declared.reduction.Reduction.{Reduction}
+use Rattle.span_collected.specs.KeptGroups.{grouped_rows}
+use Rattle.span_collected.specs.declared.reduction.Reduction.{Reduction}
 use Rattle.span_tablescan.proofs.ScannedRows.{EnoughBefore, enough_first, enough_after, enough_kept, scan_enough, scan_fails, scan_refused}
 use Rattle.span_tablescan.proofs.scan.scan_rows.Goals as goal
 

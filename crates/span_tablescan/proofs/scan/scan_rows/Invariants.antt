@@ -1,6 +1,6 @@
 use Rattle.std.specs.Prelude.{◌++◌, filter, length}
 use Rattle.span_shard.specs.Reading.{has_short_key}
-use Rattle.span_groups.specs.KeptGroups.{grouped_rows}
+use Rattle.span_collected.specs.KeptGroups.{grouped_rows}
 use Rattle.span_tablescan.proofs.ScannedRows.{EnoughBefore}
 use Rattle.span_tablescan.proofs.scan.scan_rows.Given as goal
 

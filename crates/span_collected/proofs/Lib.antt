@@ -1,0 +1,5 @@
+pub mod FirstRows
+pub mod Copying
+pub mod KeptGroups
+pub mod Parting
+pub mod Reductions

@@ -1,0 +1,4 @@
+pub mod KeptGroups
+pub mod FirstRows
+pub mod Parts
+pub mod Reductions
