@@ -1,9 +1,7 @@
 //! The journal and its calls.
 ghost use Rattle.std.specs.Prelude.{◌≡◌, ℕ, List, ◌<◌, ◌≤◌, ◌+◌, ◌^◌, [], ◌∷◌, ◌++◌, length, count_by, find, slice_get, IfOk, IfErr, IfSome, IfNone, MatchOption, OnOk, OnErr, Some, None, Ok, is_some, true};
 ghost use Rattle.span_machine.specs.Machine.{Answers, IsAnswer, start, is_transaction, is_undecided, is_query, commit_refusal, commit_timestamp, begin, begun, decide, apply_step, advance, trim, trim_refusal, open_query, open_refusal, finish, close, refused, without_first, is_prepared_at, split_at, split_in_two};
-ghost use Rattle.span_journal.specs.declared.journal.TheConstants.{MOST_TRANSACTIONS, MOST_COMMITS, MOST_QUERIES, NUMBER_END};
-ghost use Rattle.span_transactions.specs.declared.slots.TheConstants.{MOST_SLOTS};
-ghost use Rattle.span_machine.specs.Limits.{most_transactions, most_commits, most_queries, most_slots, number_end};
+ghost use Rattle.span_machine.specs.Limits.{most_commits};
 ghost use Rattle.span_truetime.specs.Time.{timestamp_of};
 ghost use Rattle.span_schema.specs.declared.table.Table.{Table};
 ghost use Rattle.std.specs.Option.{option_copied};
@@ -14,6 +12,7 @@ ghost use Rattle.span_machine.specs.declared.step.Reply.TheVariants as reply_of;
 ghost use Rattle.span_transactions.specs.Choices.{chosen_mutations};
 ghost use Rattle.span_journal.specs.Judged.{as_reply, decision_reply, MayPrepare, IsUnprepared, IsNoted, IsUnnoted, IsApplied, IsGap, IsUnclaimed, IsRaised, leaf_of, IsRegistered, IsUnregistered, IsUnchanged, IsCovered, IsTaken, MaySplit, IsCutOf};
 
+use super::limits::{MOST_COMMITS, MOST_QUERIES, MOST_TRANSACTIONS, NUMBER_END};
 use super::owned::{append, drop_at};
 use span_checking::transaction::Transaction;
 use span_columns::leaf::Leaf;
@@ -53,27 +52,6 @@ use span_value::seq::Seq;
 use span_value::text::Text;
 use std::alloc::{AllocError, Global};
 use std::marker::Model;
-
-/// How many transactions may be open at once.
-pub const MOST_TRANSACTIONS: usize = 256;
-
-/// How many commits and undecided transactions there may be together.
-pub const MOST_COMMITS: usize = 65536;
-
-/// How many queries may be open at once.
-pub const MOST_QUERIES: usize = 64;
-
-/// Numbers of transactions and of queries are below this.
-pub const NUMBER_END: u64 = 1 << 63;
-
-/// The limits are those that the machine's definition names.
-pub fn limits_are_stated()
-    ensures transactions { MOST_TRANSACTIONS ≡ most_transactions }
-    ensures commits { MOST_COMMITS ≡ most_commits }
-    ensures queries { MOST_QUERIES ≡ most_queries }
-    ensures slots { MOST_SLOTS ≡ most_slots }
-    ensures numbers { NUMBER_END ≡ number_end }
-{}
 
 /// A query that was opened.
 #[derive(Clone, Copy, Debug, PartialEq, Eq)]

@@ -5,4 +5,5 @@
 #![tactic(auto)]
 
 pub mod journal;
+pub mod limits;
 mod owned;
