@@ -1693,3 +1693,171 @@ SELECT u.n FROM Words w JOIN Uses u ON u.w = w.w WHERE w.w BETWEEN @w AND @last 
 rows 2
 6
 7
+
+# arithmetic on columns in conditions: a NULL operand, a number outside INT64, a divisor of 0
+SELECT k FROM Owners WHERE a + 1 > 4
+rows 3
+0
+1
+9223372036854775807
+
+SELECT k FROM Owners WHERE NOT (a + 1 > 4)
+rows 6
+\N
+-9223372036854775808
+2
+3
+255
+256
+
+SELECT k FROM Owners WHERE 10 - a > 7
+rows 5
+\N
+-9223372036854775808
+2
+255
+256
+
+SELECT k FROM Owners WHERE k > 0 AND k < 300 AND a * 2 - k > 3
+rows 1
+1
+
+SELECT k FROM Owners WHERE k < 1 AND v + 1 > 0
+rows 1
+-1
+
+SELECT k FROM Owners WHERE v + 1 > 0
+refused 62
+
+SELECT k FROM Owners WHERE v - 1 < 0
+refused 62
+
+SELECT k FROM Owners WHERE v * 2 < 0
+refused 62
+
+SELECT k FROM Owners WHERE -(a - 2) * 3 >= 0
+rows 5
+\N
+-9223372036854775808
+2
+255
+256
+
+SELECT k FROM Owners WHERE MOD(v, 2) = 1
+rows 5
+\N
+1
+3
+255
+256
+
+SELECT k FROM Owners WHERE MOD(v, -1) = 0
+rows 8
+\N
+-1
+0
+1
+2
+3
+255
+256
+
+SELECT k FROM Owners WHERE MOD(v, a) = 0
+refused 62
+
+SELECT k FROM Owners WHERE a <> 0 AND MOD(v, a) > 1
+rows 2
+1
+3
+
+SELECT k FROM Owners WHERE DIV(v, -1) < 0
+refused 62
+
+SELECT k FROM Owners WHERE DIV(v, 2) - a > 0
+rows 2
+1
+255
+
+SELECT k FROM Owners WHERE a BETWEEN 5 - a AND a * 2
+rows 4
+0
+1
+3
+9223372036854775807
+
+SELECT v - a, -a FROM Owners WHERE k > 0 AND k < 300
+rows 5
+9223372036854775803,-4
+0,-2
+2,-3
+7,0
+0,-1
+
+SELECT v - a FROM Owners WHERE k < 1
+refused 62
+
+SELECT SUM(a * 2 - 1), MIN(-a), MAX(a - 3), COUNT(a + 1) FROM Owners
+rows 1
+35,-5,2,9
+
+SELECT SUM(v + a) FROM Owners
+refused 62
+
+SELECT o.k, p.p FROM Owners o JOIN Pets p ON p.k = o.k AND p.n < 300 AND o.k < 256 AND p.n + o.a > 3
+rows 6
+0,9223372036854775807
+0,0
+0,-9223372036854775808
+1,3
+1,1
+3,1
+
+# IN of columns and literals
+SELECT k FROM Owners WHERE a IN (k, v, 4)
+rows 5
+0
+1
+2
+3
+256
+
+SELECT k FROM Owners WHERE a NOT IN (k, v, 4)
+rows 1
+255
+
+SELECT k FROM Owners WHERE NOT a IN (1, 4)
+rows 5
+-9223372036854775808
+2
+3
+255
+9223372036854775807
+
+SELECT k FROM Owners WHERE name IN ('ab', 'b', name) AND a IN (0, 2)
+rows 3
+-9223372036854775808
+2
+255
+
+SELECT k FROM Owners WHERE seal IN (b'\x00', b'a')
+rows 3
+\N
+2
+255
+
+SELECT k FROM Owners WHERE a IN (4, NULL) OR a NOT IN (5, NULL)
+rows 2
+0
+1
+
+SELECT k FROM Owners WHERE a IN (4, 1, DIV(4, a))
+refused 62
+
+SELECT k FROM Owners WHERE a <> 0 AND a IN (4, 1, DIV(4, a))
+rows 6
+\N
+-9223372036854775808
+0
+1
+2
+256

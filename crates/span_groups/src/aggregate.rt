@@ -5,7 +5,6 @@ ghost use Rattle.span_value.specs.declared.value.Value.TheVariants as value;
 ghost use Rattle.span_value.specs.declared.truth.Outcome.TheVariants.{Val};
 ghost use Rattle.span_expr.specs.declared.cell.Failure.TheVariants.{Fault};
 ghost use Rattle.span_expr.specs.Meaning.{val};
-ghost use Rattle.span_expr.specs.Operators as operators;
 ghost use Rattle.span_expr.specs.Operators.{number};
 ghost use Rattle.span_expr.specs.Cells.{owned_value};
 ghost use Rattle.span_query.specs.declared.query.Aggregate.{Aggregate};
@@ -19,29 +18,18 @@ use super::sum::{Sum, number};
 use span_expr::cell::{Failure, LentValue};
 use span_expr::expr::Expr;
 use span_query::query::{Aggregate, Function};
+use span_rows::computed::number_of;
 use span_rows::row::{copy_of, operand_value};
 use span_value::order::compare;
 use span_value::value::Value;
 use std::alloc::{AllocError, Global};
 
-/// The number that a row has at a place. None where it has none there.
-fn number_in(row: &[Value], place: usize) -> Option<i64>
-    ensures { IfSome result (λ n. operators.column_of row.now place ≡ value.Int n) }
-{
-    match row.get(place) {
-        Some(Value::Int(number)) => Some(*number),
-        _ => None,
-    }
-}
-
-/// The number that an operand comes to at a row, where it is a column. None where it is another, or has no number there.
+/// The number that an operand comes to at a row. None where it is no arithmetic on columns and literals, or has no number there.
+#[inline(always)]
 fn number_at(operand: &Expr, row: &[Value]) -> Option<i64>
     ensures { IfSome result (λ n. val row.now operand.now ≡ Val (value.Int n)) }
 {
-    match operand {
-        Expr::Column(place) => number_in(row, *place),
-        _ => None,
-    }
+    number_of(operand, row, &[])
 }
 
 /// The number of an INT64 value.
@@ -293,7 +281,7 @@ impl AggregateState {
         Ok(())
     }
 
-    /// The same. A number of a column is taken where it lies.
+    /// The same. A number of a column, or of arithmetic on numbers, is taken with no value in between.
     #[inline(always)]
     fn take_operand(&mut self, alloc: Global, operand: &Expr, row: &[Value]) -> Result<(), Failure>
         requires { count_of self.old + 1 < 2 ^ 64 }

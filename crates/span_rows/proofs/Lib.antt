@@ -4,6 +4,7 @@ pub mod Firsts
 pub mod Places
 pub mod Cutting
 mod Compared
+mod LinkedNumbers
 pub mod LentRows
 pub mod RowOrders
 pub mod PairColumns

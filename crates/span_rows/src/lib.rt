@@ -2,6 +2,7 @@
 #![tactic(auto)]
 
 pub mod columns;
+pub mod computed;
 pub mod distinct;
 pub mod filter;
 pub mod key;

@@ -5,13 +5,15 @@ ghost use Rattle.span_value.specs.declared.truth.Outcome.TheVariants.{Val};
 ghost use Rattle.span_value.specs.declared.value.Value.TheVariants as value;
 ghost use Rattle.span_value.specs.Orders.{value_order};
 ghost use Rattle.span_expr.specs.Cells as cells;
+ghost use Rattle.span_expr.specs.declared.expr.Comparison.TheVariants.{Equal};
 ghost use Rattle.span_expr.specs.declared.expr.Expr.TheVariants.{Not};
-ghost use Rattle.span_expr.specs.Meaning.{all_of, any_of, val};
+ghost use Rattle.span_expr.specs.Meaning.{all_of, any_of, in_list, val};
 ghost use Rattle.span_expr.specs.Memory.{has_concatenation, RunsOutOnlyIf};
 ghost use Rattle.span_expr.specs.Operators as operators;
 ghost use Rattle.span_expr.specs.Outcomes.{is_null};
 ghost use Rattle.span_rows.specs.Answers.{Gives};
 
+use super::computed::number_of;
 use span_eval::eval::evaluate;
 use span_expr::cell::{Failure, LentValue, column_of};
 use span_expr::expr::{Comparison, Expr};
@@ -23,7 +25,8 @@ use std::alloc::{AllocError, Global};
 use std::cmp::Ordering;
 
 /// What an expression comes to at a row, lent where it lies there or in the expression. A column is read with no walk over an
-/// expression's tree. The error is an arithmetic error, or out of memory where the expression has a `||`.
+/// expression's tree, and arithmetic on numbers is done with no value in between. The error is an arithmetic error, or out of memory where the
+/// expression has a `||`.
 pub fn operand_value<'a>(
     alloc: Global,
     expr: &'a Expr,
@@ -34,6 +37,10 @@ pub fn operand_value<'a>(
 {
     match expr {
         Expr::Column(place) => Ok(column_of(row, *place)),
+        Expr::Negative(_) | Expr::Chain(_, _) => match number_of(expr, row, &[]) {
+            Some(number) => Ok(LentValue::Int(number)),
+            None => evaluate(alloc, expr, row),
+        },
         _ => evaluate(alloc, expr, row),
     }
 }
@@ -96,40 +103,6 @@ fn known_operand<'a>(expr: &'a Expr, left: &'a [Value], right: &'a [Value]) -> O
     }
 }
 
-/// The number that a row has at a place. None where it has none there.
-pub(crate) fn number_at(row: &[Value], place: usize) -> Option<i64>
-    ensures { IfSome result (λ n. operators.column_of row.now place ≡ value.Int n) }
-{
-    match row.get(place) {
-        Some(Value::Int(number)) => Some(*number),
-        _ => None,
-    }
-}
-
-/// The same of a row that lies in two parts.
-#[tactic(auto, using(crate::proofs::PairColumns::left_column, crate::proofs::PairColumns::from_front))]
-fn number_in(left: &[Value], right: &[Value], place: usize) -> Option<i64>
-    ensures { IfSome result (λ n. operators.column_of (left.now ++ right.now) place ≡ value.Int n) }
-{
-    if place < left.len() {
-        number_at(left, place)
-    } else {
-        number_at(right, place - left.len())
-    }
-}
-
-/// The number that a column or a literal comes to at a row in two parts. None where it comes to none, or the expression is another.
-#[inline(always)]
-fn number_of(expr: &Expr, left: &[Value], right: &[Value]) -> Option<i64>
-    ensures { IfSome result (λ n. val (left.now ++ right.now) expr.now ≡ Val (value.Int n)) }
-{
-    match expr {
-        Expr::Column(place) => number_in(left, right, *place),
-        Expr::Literal(Value::Int(number)) => Some(*number),
-        _ => None,
-    }
-}
-
 /// Whether a comparison of two numbers is TRUE.
 #[inline(always)]
 fn is_number_met(comparison: Comparison, first: i64, second: i64) -> bool
@@ -159,7 +132,7 @@ fn is_any_comparison_met(condition: &Expr, left: &[Value], right: &[Value]) -> O
     Some(is_order_met(*comparison, compare(first, second)))
 }
 
-/// The same. Numbers are compared with no call.
+/// The same, also where an operand is arithmetic on columns and literals. Numbers of columns and literals are compared with no call.
 #[inline(always)]
 fn is_comparison_met(condition: &Expr, left: &[Value], right: &[Value]) -> Option<bool>
     ensures { IfSome result (λ met. val (left.now ++ right.now) condition.now ≡ Val (value.Bool met)) }
@@ -176,8 +149,8 @@ fn is_comparison_met(condition: &Expr, left: &[Value], right: &[Value]) -> Optio
     }
 }
 
-/// Whether a column or a literal lies between two others at a row in two parts, where all three are numbers. None where the condition has another
-/// form, or one of them is no number.
+/// Whether a number lies between two others at a row in two parts. None where the condition has another form, or `number_of` answers no number of
+/// one of the three.
 #[inline(never)]
 fn is_between_met(condition: &Expr, left: &[Value], right: &[Value]) -> Option<bool>
     ensures { IfSome result (λ met. val (left.now ++ right.now) condition.now ≡ Val (value.Bool met)) }
@@ -189,6 +162,44 @@ fn is_between_met(condition: &Expr, left: &[Value], right: &[Value]) -> Option<b
     let low = number_of(low.get(), left, right)?;
     let high = number_of(high.get(), left, right)?;
     Some(low <= number && number <= high)
+}
+
+/// Whether neither of two values comes before the other. Numbers are compared with no call.
+#[inline(always)]
+fn are_same(a: &Value, b: &Value) -> bool
+    ensures { result ≡ operators.holds Equal (value_order a.now b.now) }
+{
+    match (a, b) {
+        (Value::Int(m), Value::Int(n)) => m == n,
+        _ => compare(a, b).is_eq(),
+    }
+}
+
+/// Whether a value is among columns and literals at a row in two parts. All are looked at, since the answer is None where one of them has
+/// another form, which may fault, or is NULL.
+fn is_among(operand: &Value, members: &[Expr], left: &[Value], right: &[Value]) -> Option<bool>
+    requires { is_null operand.now ≡ false }
+    ensures { IfSome result
+        (λ met. in_list (Val operand.now) (map (val (left.now ++ right.now)) members.now) ≡ Val (value.Bool met)) }
+{
+    let mut met = false;
+    for member in members {
+        let member = known_operand(member, left, right)?;
+        met = met || are_same(operand, member);
+    }
+    Some(met)
+}
+
+/// Whether an IN of columns and literals is TRUE at a row in two parts. None where the condition has another form, or one of them is NULL.
+#[inline(never)]
+fn is_member_met(condition: &Expr, left: &[Value], right: &[Value]) -> Option<bool>
+    ensures { IfSome result (λ met. val (left.now ++ right.now) condition.now ≡ Val (value.Bool met)) }
+{
+    let Expr::In(operand, members) = condition else {
+        return None;
+    };
+    let operand = known_operand(operand.get(), left, right)?;
+    is_among(operand, members.as_slice(), left, right)
 }
 
 /// Whether a column of a row is NULL, as it is where the row has no such place.
@@ -227,21 +238,22 @@ fn is_null_test_met(condition: &Expr, left: &[Value], right: &[Value]) -> Option
     Some(is_null_in(left, right, *place))
 }
 
-/// Whether NOT of a comparison, or of a test for NULL, is TRUE at a row in two parts. The condition is the operand of NOT. None where this has
-/// another form, or an operand of a comparison is NULL.
+/// Whether NOT of a comparison, of an IN or of a test for NULL is TRUE at a row in two parts. The condition is the operand of NOT. None where
+/// this has another form, or an operand of a comparison or an IN is NULL.
 #[inline(never)]
 fn is_negation_met(operand: &Expr, left: &[Value], right: &[Value]) -> Option<bool>
     ensures { IfSome result (λ met. val (left.now ++ right.now) (Not operand.now) ≡ Val (value.Bool met)) }
 {
     let met = match operand {
         Expr::IsNull(_) => is_null_test_met(operand, left, right)?,
+        Expr::In(_, _) => is_member_met(operand, left, right)?,
         _ => is_comparison_met(operand, left, right)?,
     };
     Some(!met)
 }
 
-/// Whether a comparison, a BETWEEN of numbers, a test for NULL, or NOT of a comparison or a test is TRUE at a row in two parts. None where the
-/// condition has another form, or an operand of a comparison is NULL.
+/// Whether a comparison, a BETWEEN of numbers, an IN, a test for NULL, or NOT of a comparison, an IN or a test is TRUE at a row in two parts.
+/// None where the condition has another form, or an operand is NULL.
 #[inline(always)]
 fn is_form_met(condition: &Expr, left: &[Value], right: &[Value]) -> Option<bool>
     ensures { IfSome result (λ met. val (left.now ++ right.now) condition.now ≡ Val (value.Bool met)) }
@@ -250,6 +262,7 @@ fn is_form_met(condition: &Expr, left: &[Value], right: &[Value]) -> Option<bool
         Expr::IsNull(_) => is_null_test_met(condition, left, right),
         Expr::Not(operand) => is_negation_met(operand.get(), left, right),
         Expr::Between(_, _, _) => is_between_met(condition, left, right),
+        Expr::In(_, _) => is_member_met(condition, left, right),
         _ => is_comparison_met(condition, left, right),
     }
 }
@@ -290,8 +303,8 @@ fn is_any_met(first: &Expr, more: &[Expr], left: &[Value], right: &[Value]) -> O
     Some(false)
 }
 
-/// Whether a comparison, a test for NULL, NOT of one, or an AND or an OR of such is TRUE at a row in two parts, which is not put together.
-/// None where the condition has another form, or a comparison that is looked at is NULL.
+/// Whether a condition of these forms, or an AND or an OR of such, is TRUE at a row in two parts, which is not put together. None where the
+/// condition has another form, or an operand of what is looked at is NULL.
 #[inline(always)]
 pub fn are_comparisons_met(condition: &Expr, left: &[Value], right: &[Value]) -> Option<bool>
     ensures { IfSome result (λ met. val (left.now ++ right.now) condition.now ≡ Val (value.Bool met)) }
@@ -311,8 +324,8 @@ pub fn is_true(alloc: Global, condition: &Expr, row: &[Value]) -> Result<bool, F
     Ok(evaluate(alloc, condition, row)?.truth() == Truth::True)
 }
 
-/// Whether the condition is TRUE at the row. Comparisons of columns and literals, BETWEEN of numbers, and tests for NULL, take no walk over
-/// the tree. The error is an arithmetic error, or out of memory where the condition has a `||`.
+/// Whether the condition is TRUE at the row. Comparisons of columns, literals and arithmetic on these, BETWEEN of numbers, IN of columns and
+/// literals, and tests for NULL are judged without `evaluate`. The error is an arithmetic error, or out of memory where the condition has a `||`.
 pub fn is_met(alloc: Global, condition: &Expr, row: &[Value]) -> Result<bool, Failure>
     ensures holds { Gives result (holds condition.now row.now) }
     ensures memory { RunsOutOnlyIf result (has_concatenation condition.now) }
