@@ -12,7 +12,7 @@ use Rattle.span_query.proofs.Layers.{layer_mapped}
 use Rattle.span_query.specs.Meaning.{meaning_over, item_rows, join_rows, join_next, query_rows}
 use Rattle.span_expr.specs.declared.cell.Failure.{Failure}
 use Rattle.span_expr.specs.declared.cell.Failure.TheVariants.{Fault, OutOfMemory}
-use Rattle.span_rows.specs.Answers.{Gives}
+use Rattle.span_conditions.specs.Answers.{Gives}
 use Rattle.span_algebra.specs.Sources.{GivesRows}
 
 pub meaning_is : (tables : ℕ → Rows) (q : BoundQuery) → meaning_over tables q ≡ query_rows tables (map_layer (meaning_over tables) (out-BoundQuery q))

@@ -18,7 +18,7 @@ use Rattle.span_query.specs.Rows.{Row, Rows, ◌>>=◌, append_results, concat_m
 use Rattle.span_query.specs.Sorting.{sorted}
 use Rattle.span_expr.specs.declared.cell.Failure.{Failure}
 use Rattle.span_expr.specs.declared.cell.Failure.TheVariants.{Fault, OutOfMemory}
-use Rattle.span_rows.specs.Answers.{Gives}
+use Rattle.span_conditions.specs.Answers.{Gives}
 use Rattle.span_sorting.proofs.Limits.{IsNeededBy, limit_of_first}
 use Rattle.span_sorting.proofs.TakenColumns.{project_columns, columns_in_order}
 use Rattle.span_algebra.specs.declared.ordered.ColumnOrder.{ColumnOrder}

@@ -4,7 +4,7 @@ ghost use Rattle.std.specs.List.{list_all};
 ghost use Rattle.span_query.specs.Rows.{unless_fault, filter_where, project_rows};
 ghost use Rattle.span_query.specs.Groups.{group_rows};
 ghost use Rattle.span_query.specs.Meaning.{distinct_if};
-ghost use Rattle.span_rows.specs.Answers.{Gives};
+ghost use Rattle.span_conditions.specs.Answers.{Gives};
 ghost use Rattle.span_algebra.specs.BlockMeaning.{outputs_of, project_block, project_groups};
 
 use super::select::select_rows;

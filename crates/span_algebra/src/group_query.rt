@@ -1,7 +1,7 @@
 //! Queries of one SELECT that groups all rows of a table: what is left to do once the groups are made.
 ghost use Rattle.std.specs.Prelude.{IfSome};
 ghost use Rattle.span_query.specs.declared.query.BoundQuery.TheViews.{out-BoundQuery};
-ghost use Rattle.span_rows.specs.Answers.{Gives};
+ghost use Rattle.span_conditions.specs.Answers.{Gives};
 ghost use Rattle.span_algebra.specs.GroupQueries.{GroupsFirstTable, rows_of_groups};
 
 use super::block::project_groups;

@@ -5,7 +5,7 @@ ghost use Rattle.span_query.specs.Meaning as spec;
 ghost use Rattle.span_query.specs.Groups.{groups};
 ghost use Rattle.span_query.specs.Rows.{Row, unless_fault};
 ghost use Rattle.span_query.specs.Sorting.{sorted};
-ghost use Rattle.span_rows.specs.Answers.{Gives};
+ghost use Rattle.span_conditions.specs.Answers.{Gives};
 ghost use Rattle.span_rows.specs.Columns.{distinct_at};
 ghost use Rattle.span_rows.specs.LentRows.{lent_rows};
 ghost use Rattle.span_sorting.specs.Codes.{HaveCodes, coded_rows};

@@ -10,7 +10,7 @@ use Rattle.span_expr.specs.declared.cell.Failure.TheVariants as failure
 use Rattle.span_query.specs.declared.query.Grouping.{Grouping}
 use Rattle.span_query.specs.Rows.{Row}
 use Rattle.span_query.specs.Groups.{columns_at, distinct, group_keys, groups}
-use Rattle.span_rows.specs.Answers.{Gives}
+use Rattle.span_conditions.specs.Answers.{Gives}
 use Rattle.span_rows.specs.Keys.{contains_row, place_of, with_new}
 use Rattle.span_rows.specs.LentRows.{lent_rows}
 use Rattle.span_rows.proofs.Places.{contains_row-distinct}

@@ -6,7 +6,7 @@ use Rattle.span_expr.specs.declared.cell.Failure.{Failure}
 use Rattle.span_query.specs.declared.query.Grouping.{Grouping}
 use Rattle.span_query.specs.Rows.{Row}
 use Rattle.span_query.specs.Groups.{columns_at, group_keys, groups}
-use Rattle.span_rows.specs.Answers.{Gives}
+use Rattle.span_conditions.specs.Answers.{Gives}
 use Rattle.span_rows.specs.Hashes.{row_writes}
 use Rattle.span_rows.specs.Keys.{place_of}
 use Rattle.span_rows.specs.LentRows.{lent_rows}

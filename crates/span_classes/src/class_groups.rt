@@ -4,7 +4,7 @@ ghost use Rattle.span_expr.specs.declared.cell.Failure.TheVariants.{Fault};
 ghost use Rattle.span_query.specs.Groups as spec;
 ghost use Rattle.span_query.specs.Groups.{columns_at};
 ghost use Rattle.span_query.specs.Rows.{Row};
-ghost use Rattle.span_rows.specs.Answers.{Gives};
+ghost use Rattle.span_conditions.specs.Answers.{Gives};
 ghost use Rattle.span_rows.specs.LentRows.{lent_rows};
 ghost use Rattle.span_groups.specs.GroupStates.{CanCountRow};
 ghost use Rattle.span_groups.specs.States.{operand_at};

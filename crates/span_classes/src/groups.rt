@@ -3,7 +3,7 @@ ghost use Rattle.std.specs.Prelude.{◌≡◌, ◌<◌, ◌∷◌, ◌++◌, [],
 ghost use Rattle.span_query.specs.declared.query.Grouping.{Grouping};
 ghost use Rattle.span_query.specs.Groups as spec;
 ghost use Rattle.span_query.specs.Rows.{Row};
-ghost use Rattle.span_rows.specs.Answers.{Gives};
+ghost use Rattle.span_conditions.specs.Answers.{Gives};
 ghost use Rattle.span_rows.specs.LentRows.{lent_rows};
 ghost use Rattle.span_classes.specs.Classes.{AreAllClasses, AreClassNumbers, AreMade, rows_of};
 

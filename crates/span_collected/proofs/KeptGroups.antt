@@ -12,7 +12,7 @@ use Rattle.span_query.specs.declared.query.Aggregate.{Aggregate}
 use Rattle.span_query.specs.declared.query.Grouping.{Grouping}
 use Rattle.span_query.specs.Rows.{Row}
 use Rattle.span_query.specs.Groups.{columns_at, group_keys, groups}
-use Rattle.span_rows.specs.Answers.{Gives}
+use Rattle.span_conditions.specs.Answers.{Gives}
 use Rattle.span_rows.specs.Columns.{distinct_at}
 use Rattle.span_rows.specs.Keys.{contains_row, with_new, AreApart}
 use Rattle.span_rows.specs.RowPlaces.{rows_at}

@@ -8,7 +8,7 @@ use Rattle.span_sorting.proofs.FirstOfParts.{first_of_parts}
 use Rattle.span_sorting.proofs.RowOrder.{rows_ranked}
 use Rattle.span_collected.specs.declared.reduction.Reduction.{Reduction}
 use Rattle.span_collected.specs.declared.reduction.Reduction.TheVariants.{Everything, First, InOrder, Distinct}
-use Rattle.span_rows.specs.Answers.{Gives}
+use Rattle.span_conditions.specs.Answers.{Gives}
 use Rattle.span_collected.specs.Reductions.{AreEnough, GivesEnough}
 use Rattle.span_groups.proofs.MergedGroups.{distinct_at-both}
 

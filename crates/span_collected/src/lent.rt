@@ -3,7 +3,7 @@ ghost use Rattle.std.specs.Prelude.{◌≡◌, ◌*◌, [], ◌∷◌, ◌++◌,
 ghost use Rattle.span_expr.specs.declared.cell.Failure.TheVariants.{Fault};
 ghost use Rattle.span_query.specs.Rows.{Row};
 ghost use Rattle.span_query.specs.Groups as spec;
-ghost use Rattle.span_rows.specs.Answers.{Gives};
+ghost use Rattle.span_conditions.specs.Answers.{Gives};
 ghost use Rattle.span_rows.specs.LentRows.{lent_rows};
 ghost use Rattle.span_groups.specs.GroupStates.{keys_at, AreGroupLists, CanCountRow, HaveKeys};
 ghost use Rattle.span_groups.specs.MergedGroups.{AnyFault, CanTakeList};

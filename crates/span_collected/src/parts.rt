@@ -1,6 +1,6 @@
 //! The rows of the groups of rows that lie in parts.
 ghost use Rattle.span_query.specs.Groups.{groups};
-ghost use Rattle.span_rows.specs.Answers.{Gives};
+ghost use Rattle.span_conditions.specs.Answers.{Gives};
 ghost use Rattle.span_collected.specs.Parts.{all_rows};
 
 use super::lent::rows_of_lent;

@@ -7,7 +7,7 @@ use Rattle.span_expr.specs.declared.cell.Failure.{Failure}
 use Rattle.span_expr.specs.declared.cell.Failure.TheVariants.{Fault, OutOfMemory}
 use Rattle.span_query.specs.Rows.{Row, Rows, append_results}
 use Rattle.span_query.proofs.Results.{nil-append_results}
-use Rattle.span_rows.specs.Answers.{Adds}
+use Rattle.span_conditions.specs.Answers.{Adds}
 use Rattle.span_rows.specs.Masks.{values_where}
 use Rattle.span_columns.specs.declared.leaf.Leaf.{Leaf}
 use Rattle.span_columns.specs.Picks.{mask_among, pick_rows}

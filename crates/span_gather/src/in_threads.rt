@@ -1,7 +1,7 @@
 //! Queries that answer the groups of all rows of a leaf as they are: several threads make the groups, where there are many rows.
 ghost use Rattle.std.specs.Prelude.{◌≡◌, Err, IfOk, IfSome, List, MatchResult, Some};
 ghost use Rattle.span_query.specs.Rows.{Row};
-ghost use Rattle.span_rows.specs.Answers.{Gives};
+ghost use Rattle.span_conditions.specs.Answers.{Gives};
 ghost use Rattle.span_rows.specs.LentRows.{lent_rows};
 ghost use Rattle.span_gather.specs.Gathered.{gathered, joined_pieces};
 

@@ -9,7 +9,7 @@ use Rattle.span_query.specs.declared.query.Aggregate.{Aggregate}
 use Rattle.span_query.specs.declared.query.Grouping.{Grouping}
 use Rattle.span_query.specs.Rows.{Row}
 use Rattle.span_query.specs.Groups.{groups, group_keys, rows_with}
-use Rattle.span_rows.specs.Answers.{Gives}
+use Rattle.span_conditions.specs.Answers.{Gives}
 use Rattle.span_rows.proofs.Gathering.{taken_more}
 use Rattle.span_rows.specs.RowPlaces.{rows_at}
 use Rattle.span_groups.specs.declared.aggregate.AggregateState.{AggregateState}

@@ -13,7 +13,7 @@ use Rattle.span_query.proofs.Results.{filter_where-nil, nil-append_results}
 use Rattle.span_groups.specs.declared.aggregate.AggregateState.{AggregateState}
 use Rattle.span_groups.specs.declared.group.GroupLists.{GroupLists}
 use Rattle.span_rows.specs.RowPlaces.{rows_at}
-use Rattle.span_rows.specs.Answers.{Gives}
+use Rattle.span_conditions.specs.Answers.{Gives}
 use Rattle.span_rows.specs.Filtering.{holds_where}
 use Rattle.span_groups.specs.States.{operand_at}
 use Rattle.span_groups.specs.GroupStates.{keys_at, AreGroupLists, AreGroupsWhere, CanCountRow, HaveKeys}

@@ -14,7 +14,7 @@ use Rattle.span_query.specs.Rows.{Row, Rows, OrFault, ◌>>=◌, value_of, appen
 use Rattle.span_query.specs.Groups.{are_equal, columns_at, group_keys, rows_with, of_values, without_nulls, aggregate, group_row, groups}
 use Rattle.span_query.proofs.Results.{append_results-none, concat_map-append}
 use Rattle.span_groups.specs.StateLists.{Group}
-use Rattle.span_rows.specs.Answers.{Gives, Puts}
+use Rattle.span_conditions.specs.Answers.{Gives, Puts}
 use Rattle.span_rows.specs.Keys.{place_of}
 use Rattle.span_groups.specs.declared.aggregate.AggregateState.{AggregateState}
 use Rattle.span_groups.specs.States.{AreStatesOf, operand_at}

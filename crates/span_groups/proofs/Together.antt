@@ -17,7 +17,7 @@ use Rattle.span_query.specs.Rows.{Row, OrFault, append_results, each, singleton,
 use Rattle.span_query.specs.Groups.{without_nulls, aggregate}
 use Rattle.span_expr.specs.declared.cell.Failure.{Failure}
 use Rattle.span_expr.specs.declared.cell.Failure.TheVariants as failure
-use Rattle.span_rows.specs.Answers.{Gives}
+use Rattle.span_conditions.specs.Answers.{Gives}
 use Rattle.span_rows.proofs.Gathering.{gathered_at, one_more, one_fails}
 use Rattle.span_groups.specs.declared.aggregate.AggregateState.{AggregateState}
 use Rattle.span_groups.specs.declared.aggregate.AggregateState.TheVariants as state

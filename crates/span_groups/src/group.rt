@@ -5,7 +5,7 @@ ghost use Rattle.span_expr.specs.declared.cell.Failure.TheVariants.{Fault};
 ghost use Rattle.span_query.specs.declared.query.Grouping.{Grouping};
 ghost use Rattle.span_query.specs.Rows.{Row, unless_fault, filter_where};
 ghost use Rattle.span_query.specs.Groups as spec;
-ghost use Rattle.span_rows.specs.Answers.{Gives};
+ghost use Rattle.span_conditions.specs.Answers.{Gives};
 ghost use Rattle.span_rows.specs.Keys.{contains_row, place_of, with_new};
 ghost use Rattle.span_rows.specs.LentRows.{lent_rows};
 ghost use Rattle.span_rows.specs.RowPlaces.{rows_at};

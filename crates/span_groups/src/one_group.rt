@@ -3,7 +3,7 @@ ghost use Rattle.std.specs.Prelude.{◌≡◌, [], List, Err, None, Any, IfOk, M
 ghost use Rattle.span_expr.specs.declared.cell.Failure.TheVariants.{Fault};
 ghost use Rattle.span_query.specs.Rows.{Row};
 ghost use Rattle.span_query.specs.Groups as spec;
-ghost use Rattle.span_rows.specs.Answers.{Gives};
+ghost use Rattle.span_conditions.specs.Answers.{Gives};
 ghost use Rattle.span_groups.specs.GroupStates.{AreGroupsWhere};
 ghost use Rattle.span_groups.specs.States.{operand_at, AreStatesOf};
 

@@ -4,7 +4,7 @@ ghost use Rattle.span_expr.specs.declared.cell.Failure.TheVariants.{Fault};
 ghost use Rattle.span_query.specs.declared.query.Aggregate.{Aggregate};
 ghost use Rattle.span_query.specs.Rows.{Row, unless_fault, each};
 ghost use Rattle.span_query.specs.Groups.{aggregate, columns_at};
-ghost use Rattle.span_rows.specs.Answers.{Puts};
+ghost use Rattle.span_conditions.specs.Answers.{Puts};
 ghost use Rattle.span_groups.specs.StateLists.{states_from, IsChangedAt};
 ghost use Rattle.span_groups.specs.States.{AreAdded, AreStatesOf, CanCountOne, operand_at};
 

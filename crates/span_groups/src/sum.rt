@@ -6,7 +6,7 @@ ghost use Rattle.span_expr.specs.Operators as operators;
 ghost use Rattle.span_query.specs.Rows.{value_of};
 ghost use Rattle.span_query.specs.Groups.{total, of_values};
 ghost use Rattle.span_query.specs.declared.query.Function.TheVariants as function;
-ghost use Rattle.span_rows.specs.Answers.{Gives};
+ghost use Rattle.span_conditions.specs.Answers.{Gives};
 
 use span_expr::cell::Failure;
 use span_value::value::Value;

@@ -7,7 +7,7 @@ use Rattle.span_expr.specs.declared.cell.Failure.{Failure}
 use Rattle.span_expr.specs.declared.cell.Failure.TheVariants.{Fault, OutOfMemory}
 use Rattle.span_query.specs.Rows.{OrFault, ◌>>=◌, append_results, concat_map}
 use Rattle.span_query.proofs.Results.{append_results-assoc, nil-append_results}
-use Rattle.span_rows.specs.Answers.{Gives, Adds}
+use Rattle.span_conditions.specs.Answers.{Gives, Adds}
 
 pub replicate-more : {A : Type 0} (front : List A) (x : A) (n : ℕ) → (front ++ replicate n x) ++ x ∷ [] ≡ front ++ replicate (n + 1) x
 replicate-more front x n = append_assoc front (replicate n x) (x ∷ []) ∙ ap (λ (l : List _). front ++ l) (replicate-append-replicate n 1 x)

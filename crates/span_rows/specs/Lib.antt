@@ -1,4 +1,3 @@
-pub mod Answers
 pub mod Cuts
 pub mod Keys
 pub mod Hashes

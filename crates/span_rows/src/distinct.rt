@@ -2,7 +2,7 @@
 ghost use Rattle.std.specs.Prelude.{◌≡◌, IfOk, Some};
 ghost use Rattle.span_expr.specs.Operators.{column_of};
 ghost use Rattle.span_query.specs.Groups.{is_equal, are_equal, distinct, columns_at};
-ghost use Rattle.span_rows.specs.Answers.{Gives};
+ghost use Rattle.span_conditions.specs.Answers.{Gives};
 ghost use Rattle.span_rows.specs.Columns.{distinct_at};
 ghost use Rattle.span_rows.specs.LentRows.{lent_rows};
 

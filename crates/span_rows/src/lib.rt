@@ -1,9 +1,8 @@
-//! Lists of rows: conditions at rows, filters, keys, each row once.
+//! Lists of rows: filters, keys, each row once.
 #![tactic(auto)]
 
 pub mod columns;
-pub mod computed;
-pub mod distinct;
+pub pub mod distinct;
 pub mod filter;
 pub mod key;
 mod masked;

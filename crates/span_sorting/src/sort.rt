@@ -8,7 +8,7 @@ ghost use Rattle.span_query.specs.Groups.{columns_at};
 ghost use Rattle.span_query.specs.Sorting as spec;
 ghost use Rattle.span_query.specs.Meaning as meaning;
 ghost use Rattle.span_query.specs.declared.query.SortKey.{SortKey};
-ghost use Rattle.span_rows.specs.Answers.{Gives};
+ghost use Rattle.span_conditions.specs.Answers.{Gives};
 ghost use Rattle.span_rows.specs.LentRows.{lent_rows};
 ghost use Rattle.span_sorting.specs.Codes.{HaveCodes, coded_rows};
 ghost use Rattle.span_sorting.specs.Orders.{IsSorted};

@@ -23,7 +23,7 @@ use Rattle.span_expr.specs.Places.{is_in, reads_only, moved, rank}
 use Rattle.span_expr.proofs.Places.{reads_only-wider}
 use Rattle.span_query.specs.Rows.{Row, OrFault, Rows, ◌>>=◌, value_of, is_true, append_results, keep_if, holds, filter_rows, filter_where}
 use Rattle.span_query.proofs.Results.{append_results-nil, nil-append_results}
-use Rattle.span_rows.specs.Answers.{Gives, Adds}
+use Rattle.span_conditions.specs.Answers.{Gives, Adds}
 use Rattle.span_rows.proofs.Gathering.{one_adds, one_fails, adding-fails}
 use Rattle.span_collected.specs.declared.reduction.Reduction.{Reduction}
 use Rattle.span_collected.specs.Reductions.{AreEnough, HasEnough, GivesEnough}

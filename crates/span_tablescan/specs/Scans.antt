@@ -11,7 +11,7 @@ use Rattle.span_expr.specs.declared.cell.Failure.{Failure}
 use Rattle.span_expr.specs.declared.expr.Expr.{Expr}
 use Rattle.span_expr.specs.Places.{moved, rank}
 use Rattle.span_query.specs.Rows.{Row, OrFault, Rows, ◌>>=◌, keep_if, holds}
-use Rattle.span_rows.specs.Answers.{Adds}
+use Rattle.span_conditions.specs.Answers.{Adds}
 use Rattle.span_leaves.specs.Leaves.{width_of}
 use Rattle.span_columns.specs.Picks.{picked, picked_width}
 use Rattle.span_columns.specs.Reads.{reads_within}

@@ -3,7 +3,7 @@ use Rattle.std.proofs.lemmas.List.{length-map, take_all}
 use denote.Ref.{Bor}
 use Rattle.span_query.specs.Rows.{Row}
 use Rattle.span_query.specs.Groups.{groups}
-use Rattle.span_rows.specs.Answers.{Gives}
+use Rattle.span_conditions.specs.Answers.{Gives}
 use Rattle.span_rows.specs.LentRows.{lent_rows}
 use Rattle.span_classes.specs.Classes.{HaveTaken, rows_of_class}
 use Rattle.span_classes.proofs.Taking.{before_length, can_count, class_fails, lists_are, placed_are, row_fails, row_next, row_split, taken_all}

@@ -2,7 +2,7 @@ use Rattle.std.proofs.Common.{rules, [], Err, List, ap, sym}
 use Rattle.std.proofs.lemmas.List.{append-nil}
 use Rattle.span_query.specs.Groups.{groups}
 use Rattle.span_query.specs.Rows.{Row}
-use Rattle.span_rows.specs.Answers.{Gives}
+use Rattle.span_conditions.specs.Answers.{Gives}
 use Rattle.span_collected.specs.Parts.{all_rows}
 use Rattle.span_collected.proofs.KeptGroups.{part_fails}
 use Rattle.span_collected.proofs.parts.groups_of.Goals as goal

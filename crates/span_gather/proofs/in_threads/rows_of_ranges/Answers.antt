@@ -2,7 +2,7 @@ use Rattle.std.proofs.Common.{rules, ◌≡◌, ◌∷◌, [], List, Err, Some, 
 use Rattle.span_query.specs.declared.query.BoundQuery.TheViews.{out-BoundQuery}
 use Rattle.span_query.specs.Groups.{groups}
 use Rattle.span_query.specs.Rows.{Row, Rows, ◌>>=◌}
-use Rattle.span_rows.specs.Answers.{Gives}
+use Rattle.span_conditions.specs.Answers.{Gives}
 use Rattle.span_rows.proofs.Gathering.{then_fails}
 use Rattle.span_collected.specs.Parts.{all_rows}
 use Rattle.span_algebra.specs.GroupQueries.{GroupsFirstTable, rows_of_groups}

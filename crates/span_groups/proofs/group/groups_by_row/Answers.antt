@@ -2,7 +2,7 @@ use Rattle.std.proofs.Common.{rules, ◌≡◌, ◌+◌, ◌<◌, length, [], Li
 use Rattle.std.proofs.lemmas.List.{get_or_read}
 use Rattle.span_query.specs.Rows.{Row, ◌>>=◌, filter_where}
 use Rattle.span_query.specs.Groups.{groups}
-use Rattle.span_rows.specs.Answers.{Gives}
+use Rattle.span_conditions.specs.Answers.{Gives}
 use Rattle.span_rows.specs.RowPlaces.{rows_at}
 use Rattle.span_groups.specs.declared.aggregate.AggregateState.{AggregateState}
 use Rattle.span_groups.specs.declared.group.GroupLists.{GroupLists}

@@ -4,7 +4,7 @@ use denote.Ref.{Bor}
 use Rattle.span_value.proofs.Lists.{drop_read}
 use Rattle.span_query.specs.Rows.{Row, Rows}
 use Rattle.span_query.specs.Groups.{columns_at, group_row, groups}
-use Rattle.span_rows.specs.Answers.{Gives}
+use Rattle.span_conditions.specs.Answers.{Gives}
 use Rattle.span_rows.specs.LentRows.{lent_rows}
 use Rattle.span_groups.specs.declared.aggregate.AggregateState.{AggregateState}
 use Rattle.span_groups.specs.GroupStates.{keys_at}

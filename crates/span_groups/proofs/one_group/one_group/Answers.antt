@@ -2,7 +2,7 @@ use Rattle.std.proofs.Common.{rules, ◌≡◌, List, Err, None, Any, ap, subst}
 use Rattle.span_query.specs.declared.query.Aggregate.{Aggregate}
 use Rattle.span_query.specs.Rows.{Row}
 use Rattle.span_query.specs.Groups.{groups}
-use Rattle.span_rows.specs.Answers.{Gives}
+use Rattle.span_conditions.specs.Answers.{Gives}
 use Rattle.span_groups.specs.declared.group.GroupLists.{GroupLists}
 use Rattle.span_groups.specs.States.{operand_at}
 use Rattle.span_groups.proofs.OneGroup.{counted_group, rows_fail}

@@ -1,7 +1,7 @@
 use Rattle.std.proofs.Common.{rules, ◌≡◌, ◌∷◌, ◌++◌, [], ◌+◌, drop, Some, Err, sym, ap, ◌∙◌, arith}
 use Rattle.span_query.specs.Rows.{Row, append_results, each}
 use Rattle.span_query.specs.Groups.{aggregate, columns_at}
-use Rattle.span_rows.specs.Answers.{Gives}
+use Rattle.span_conditions.specs.Answers.{Gives}
 use Rattle.span_groups.proofs.Together.{outcome_more, outcome_fails, outcomes_end}
 use Rattle.span_groups.proofs.states.put_row.Goals as goal
 

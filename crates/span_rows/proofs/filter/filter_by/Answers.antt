@@ -1,6 +1,6 @@
 use Rattle.std.proofs.Common.{rules, ◌<◌, length, Err, List}
 use Rattle.span_query.specs.Rows.{Row, filter_rows}
-use Rattle.span_rows.specs.Answers.{Gives}
+use Rattle.span_conditions.specs.Answers.{Gives}
 use Rattle.span_rows.specs.Filtering.{filter_row}
 use Rattle.span_rows.proofs.Gathering.{added_at, adding_fails_at}
 use Rattle.span_rows.proofs.filter.filter_by.Goals as goal

@@ -1,7 +1,7 @@
 use Rattle.std.proofs.Common.{◌∙◌, ℕ, Bool, true, false, List, Result, Ok, Err, ap, subst}
 use Rattle.span_expr.specs.declared.cell.Failure.{Failure}
 use Rattle.span_query.specs.Rows.{Row, holds}
-use Rattle.span_rows.specs.Answers.{Gives}
+use Rattle.span_conditions.specs.Answers.{Gives}
 use Rattle.span_rowreader.specs.Readers.{ArePickedOf}
 use Rattle.span_tablescan.proofs.ScannedRows.{passed, not_passed, failed, condition_gives}
 use Rattle.span_tablescan.proofs.scan.add_row_after.Goals as goal

@@ -1,0 +1,3 @@
+mod Compared
+mod LinkedNumbers
+pub mod PairColumns

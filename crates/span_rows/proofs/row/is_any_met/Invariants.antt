@@ -1,7 +1,0 @@
-use Rattle.std.proofs.Common.{◌++◌}
-use Rattle.span_rows.proofs.Compared.{NoneSoFar}
-use Rattle.span_rows.proofs.row.is_any_met.Given as goal
-
--- all so far are FALSE
-abbrev pub invariant-loop-condition : goal.invariant-loop-condition
-invariant-loop-condition l = NoneSoFar (l.left ++ l.right) l.first l.more l.condition-index
