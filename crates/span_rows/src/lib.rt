@@ -2,7 +2,7 @@
 #![tactic(auto)]
 
 pub mod columns;
-pub pub mod distinct;
+pub mod distinct;
 pub mod filter;
 pub mod key;
 mod masked;
