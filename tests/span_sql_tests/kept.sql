@@ -1861,3 +1861,45 @@ rows 6
 1
 2
 256
+
+# Texts outside the key that are longer than those that a value keeps by itself.
+SELECT COUNT(*) FROM Owners WHERE name <> 'a text that is longer than sixteen bytes'
+rows 1
+7
+
+SELECT COUNT(*) FROM Owners WHERE name > 'a text that is longer than sixteen bytes'
+rows 1
+6
+
+SELECT COUNT(*) FROM Owners WHERE name >= 'a text that is longer than sixteen bytes' AND v > 1
+rows 1
+5
+
+SELECT COUNT(*) FROM Owners WHERE name <= 'a text that is longer than sixteen bytes'
+rows 1
+3
+
+SELECT k, name FROM Owners WHERE name <= 'a text that is longer than sixteen bytez' AND v > 1
+rows 3
+\N,a text that is longer than sixteen bytes
+1,a text that is longer than sixteen bytes
+3,a text that is longer than sixteen bytez
+
+SELECT COUNT(*) FROM Owners WHERE 'a text that is longer than sixteen byte' < name
+rows 1
+8
+
+SELECT COUNT(*) FROM Owners WHERE name BETWEEN 'a text that is longer than sixteen bytes' AND 'a text that is longer than sixteen bytes'
+rows 1
+2
+
+SELECT COUNT(*) FROM Owners WHERE name LIKE '%longer than sixteen byte_'
+rows 1
+3
+
+SELECT name FROM Owners WHERE name LIKE '%sixteen bytez' AND ok
+rows 0
+
+SELECT COUNT(*) FROM Owners WHERE name LIKE '' OR name LIKE '%bytes'
+rows 1
+3

@@ -1855,3 +1855,243 @@ rows 3
 
 SELECT id FROM Nothing WHERE n BETWEEN 1 AND 2 AND t
 rows 0
+
+# Texts outside the key, compared with literals and by LIKE, alone and beside other conditions.
+SELECT COUNT(*) FROM Kinds WHERE s = 'abc'
+rows 1
+2
+
+SELECT COUNT(*) FROM Kinds WHERE s <> 'abc'
+rows 1
+5
+
+SELECT id FROM Kinds WHERE s <> ''
+rows 6
+8
+7
+6
+5
+4
+3
+
+SELECT id FROM Kinds WHERE s < 'abc'
+rows 4
+7
+6
+4
+2
+
+SELECT id FROM Kinds WHERE s <= 'abc'
+rows 6
+8
+7
+6
+5
+4
+2
+
+SELECT id FROM Kinds WHERE s > 'ABC'
+rows 5
+8
+7
+5
+4
+3
+
+SELECT id FROM Kinds WHERE s >= ''
+rows 7
+8
+7
+6
+5
+4
+3
+2
+
+SELECT COUNT(*) FROM Kinds WHERE s > ''
+rows 1
+6
+
+SELECT id, n FROM Kinds WHERE s = ''
+rows 1
+2,-9223372036854775808
+
+SELECT COUNT(*) FROM Kinds WHERE s < ''
+rows 1
+0
+
+SELECT id FROM Kinds WHERE 'abc' > s
+rows 4
+7
+6
+4
+2
+
+SELECT id FROM Kinds WHERE 'abc' <= s
+rows 3
+8
+5
+3
+
+SELECT COUNT(*) FROM Kinds WHERE '' = s
+rows 1
+1
+
+SELECT id FROM Kinds WHERE 'é漢😀' = s
+rows 1
+3
+
+SELECT id FROM Kinds WHERE s > 'é漢'
+rows 1
+3
+
+SELECT id FROM Kinds WHERE s < 'é漢😁' AND s >= 'abc'
+rows 3
+8
+5
+3
+
+SELECT id FROM Kinds WHERE s BETWEEN '' AND 'abc'
+rows 6
+8
+7
+6
+5
+4
+2
+
+SELECT COUNT(*) FROM Kinds WHERE s BETWEEN 'abc' AND 'a'
+rows 1
+0
+
+SELECT id FROM Kinds WHERE s BETWEEN 'a' AND s || 'x'
+rows 5
+8
+7
+5
+4
+3
+
+SELECT id FROM Kinds WHERE s BETWEEN 'a%b_c\\d' AND s
+rows 5
+8
+7
+5
+4
+3
+
+SELECT id FROM Kinds WHERE s NOT BETWEEN 'ABC' AND 'abc'
+rows 2
+3
+2
+
+SELECT COUNT(*) FROM Kinds WHERE s = 'a text of more than thirty bytes, as long'
+rows 1
+0
+
+SELECT COUNT(*) FROM Kinds WHERE s < 'a text of more than thirty bytes, as long'
+rows 1
+2
+
+SELECT id FROM Kinds WHERE n < 0 AND s = 'abc' AND t = FALSE
+rows 1
+5
+
+SELECT COUNT(*) FROM Kinds WHERE n <= 0 AND s LIKE 'a%'
+rows 1
+3
+
+SELECT id FROM Kinds WHERE n <= 0 AND s LIKE 'a%' AND t IS NOT NULL
+rows 3
+7
+5
+4
+
+SELECT COUNT(*) FROM Kinds WHERE s LIKE 'a\\%b\\_c\\\\d'
+rows 1
+1
+
+SELECT COUNT(*) FROM Kinds WHERE s LIKE 'abc\\%'
+rows 1
+0
+
+SELECT COUNT(*) FROM Kinds WHERE s LIKE '%' AND s <> ''
+rows 1
+6
+
+SELECT COUNT(*) FROM Kinds WHERE s LIKE ''
+rows 1
+1
+
+SELECT COUNT(*) FROM Kinds WHERE s LIKE '_\\__\\_%'
+rows 1
+0
+
+SELECT id FROM Kinds WHERE s LIKE '%c' AND s >= 'B' AND n IS NULL
+rows 1
+8
+
+SELECT COUNT(*) FROM Kinds WHERE s LIKE '_漢_' AND n > 0 AND s > 'z'
+rows 1
+1
+
+SELECT id FROM Kinds WHERE s = 'nothing' AND DIV(1, 0) = 1
+rows 0
+
+SELECT id FROM Kinds WHERE DIV(1, 0) = 1 AND s LIKE 'nothing%'
+rows 0
+
+SELECT id FROM Kinds WHERE s = 'abc' AND DIV(1, 0) = 1
+refused 62
+
+SELECT id FROM Kinds WHERE s LIKE 'a%' OR s = 'ABC'
+rows 5
+8
+7
+6
+5
+4
+
+SELECT id FROM Kinds WHERE NOT (s = 'abc' AND n < 0)
+rows 5
+7
+6
+4
+3
+2
+
+SELECT COUNT(*) FROM Kinds WHERE s = s AND s LIKE s || ''
+refused 3
+
+SELECT COUNT(*) FROM Nothing WHERE s = ''
+rows 1
+0
+
+SELECT COUNT(*) FROM Marks WHERE s = 'b' AND n > 1
+rows 1
+1
+
+param p STRING abc
+SELECT COUNT(*) FROM Kinds WHERE s = @p
+rows 1
+2
+
+param p STRING abc
+SELECT id FROM Kinds WHERE @p < s AND s LIKE '_%'
+rows 1
+3
+
+param p STRING \N
+SELECT COUNT(*) FROM Kinds WHERE s = @p
+rows 1
+0
+
+param p STRING \N
+SELECT COUNT(*) FROM Kinds WHERE s <> @p AND s LIKE '%'
+rows 1
+0
+
+param p STRING 
+SELECT COUNT(*) FROM Kinds WHERE s >= @p
+rows 1
+7

@@ -1,4 +1,4 @@
 pub mod CellEnds
-pub mod NumberTests
+pub mod CellTests
 pub mod ScannedRows
 pub mod ShortKeys

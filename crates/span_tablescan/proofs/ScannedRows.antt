@@ -42,8 +42,8 @@ use Rattle.span_rowreader.specs.Meaning.{declared_row, whole_table}
 use Rattle.span_rowreader.specs.Entries.{key_row, AreNoRows, IsWhetherOf}
 use Rattle.span_tablescan.specs.Given.{kept_given, IsKeptOn, IsEnoughOn}
 use Rattle.span_rowreader.specs.Longest.{IsLongest, AreLongest, HaveShortKeys}
-use Rattle.span_tablescan.specs.declared.number_test.NumberTest.{NumberTest}
-use Rattle.span_tablescan.specs.NumberTests.{meets, IsWhetherPass}
+use Rattle.span_tablescan.specs.declared.cell_test.CellTest.{CellTest}
+use Rattle.span_tablescan.specs.CellTests.{meets, IsWhetherPass}
 use Rattle.span_rowreader.specs.Readers.{ArePickedOf}
 use Rattle.span_tablescan.specs.Scans.{passes, kept_row, AreTestsWhere, IsMaskOf, IsConditionAt, IsAdded, IsAddedWhere, IsTaken}
 use Rattle.span_rowreader.proofs.DeclaredRows.{row_width}
@@ -137,13 +137,13 @@ cells_fit : (schema : List Table) (n : ℕ) (t : TableRow) → IsTyped schema t 
 cells_fit schema n t typed own = let P : ℕ → Type 0 = λ m. IsRow (other_kinds schema m) t.cells in subst P own typed.1
 
 -- a row of the table that meets them is kept, where they tell whether it passes
-pub met_added : (schema : List Table) (n : ℕ) (ms : List Bool) (w : Option Expr) (key row : List ℕ) (tests : List NumberTest) (old new : List Row) → AreTestsWhere schema n w tests
+pub met_added : (schema : List Table) (n : ℕ) (ms : List Bool) (w : Option Expr) (key row : List ℕ) (tests : List CellTest) (old new : List Row) → AreTestsWhere schema n w tests
     → IsWhetherPass (other_kinds schema n) row (λ cells. list_all (meets cells) tests) true → IsAdded schema n ms key row old new → IsAddedWhere schema n ms w key row (Ok tt) old new
 met_added schema n ms w key row tests old new of whether added =
     passed schema n ms w key row old new (λ t typed own is cells. of.judged t typed own ∙ ap (λ (b : Bool). Some b) (sym (whether.of t.cells (cells_fit schema n t typed own) cells))) added
 
 -- a row of no values is added where it is one of the table that meets them, where they tell whether it passes
-pub counted_taken : (schema : List Table) (n : ℕ) (ms : List Bool) (w : Option Expr) (key row : List ℕ) (tests : List NumberTest) (rows : List Row) (b : Bool) → picked_width ms ≡ 0 → AreTestsWhere schema n w tests
+pub counted_taken : (schema : List Table) (n : ℕ) (ms : List Bool) (w : Option Expr) (key row : List ℕ) (tests : List CellTest) (rows : List Row) (b : Bool) → picked_width ms ≡ 0 → AreTestsWhere schema n w tests
     → IsWhetherPass (other_kinds schema n) row (λ cells. list_all (meets cells) tests) true → IsWhetherOf schema n key b → IsTaken schema n ms w key row (Ok tt) rows (if b then rows ++ [] ∷ [] else rows)
 counted_taken schema n ms w key row tests rows true none of met own =
     let more : List Row = rows ++ [] ∷ [] in

@@ -1,4 +1,4 @@
 pub mod Ends
-pub mod NumberTests
+pub mod CellTests
 pub mod Given
 pub mod Scans

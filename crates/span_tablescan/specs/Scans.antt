@@ -15,12 +15,12 @@ use Rattle.span_conditions.specs.Answers.{Adds}
 use Rattle.span_leaves.specs.Leaves.{width_of}
 use Rattle.span_columns.specs.Picks.{picked, picked_width}
 use Rattle.span_columns.specs.Reads.{reads_within}
-use Rattle.span_tablescan.specs.declared.number_test.NumberTest.{NumberTest}
+use Rattle.span_tablescan.specs.declared.cell_test.CellTest.{CellTest}
 use Rattle.span_tablescan.specs.declared.scan.Test.{Test}
 use Rattle.span_tablescan.specs.declared.scan.Test.TheVariants.{Always, OnRow, OnColumns}
 use Rattle.span_tablescan.specs.declared.scan.TableScan.{TableScan}
 use Rattle.span_rowreader.specs.Meaning.{declared_row}
-use Rattle.span_tablescan.specs.NumberTests.{meets, IsNumberAt}
+use Rattle.span_tablescan.specs.CellTests.{meets, IsTestable}
 use Rattle.span_rowreader.specs.Added.{IsRowAdded}
 use Rattle.span_rowreader.specs.Readers.{IsReader}
 
@@ -54,19 +54,19 @@ pub record IsConditionAt (schema : List Table) (n : ℕ) (ms : List Bool) (w : O
   pub moved : at ≡ moved (rank ms) condition
 
 -- a row of table n passes where its cells outside the key meet all of these, and only there
-pub record AreTestsWhere (schema : List Table) (n : ℕ) (w : Option Expr) (tests : List NumberTest) : Type 0 where
-  pub numbers : AllByRecursion (λ test. IsNumberAt (other_kinds schema n) test.cell) tests
+pub record AreTestsWhere (schema : List Table) (n : ℕ) (w : Option Expr) (tests : List CellTest) : Type 0 where
+  pub testable : AllByRecursion (IsTestable (other_kinds schema n)) tests
   pub judged : (t : TableRow) → IsTyped schema t → t.table ≡ n
       → passes w (declared_row schema t) ≡ Some (list_all (meets t.cells) tests)
 
 -- a row of table n does not pass where its cells outside the key do not meet all of these
-pub record AreNeeded (schema : List Table) (n : ℕ) (w : Option Expr) (tests : List NumberTest) : Type 0 where
-  pub numbers : AllByRecursion (λ test. IsNumberAt (other_kinds schema n) test.cell) tests
+pub record AreNeeded (schema : List Table) (n : ℕ) (w : Option Expr) (tests : List CellTest) : Type 0 where
+  pub testable : AllByRecursion (IsTestable (other_kinds schema n)) tests
   pub unmet : (t : TableRow) → IsTyped schema t → t.table ≡ n → list_all (meets t.cells) tests ≡ false
       → passes w (declared_row schema t) ≡ Some false
 
 -- the test is whether a row of table n that meets the needed tests passes the condition; the mask is that of the rows that are added
-abbrev pub IsTestOf : List Table → ℕ → List Bool → Option Expr → List NumberTest → Test → Type 0
+abbrev pub IsTestOf : List Table → ℕ → List Bool → Option Expr → List CellTest → Test → Type 0
 IsTestOf schema n ms w needed Always = AreTestsWhere schema n w needed
 IsTestOf schema n ms w needed (OnRow e) = IsConditionAt schema n ms w e
 IsTestOf schema n ms w needed (OnColumns columns e) =

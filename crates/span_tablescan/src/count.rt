@@ -6,7 +6,7 @@ ghost use Rattle.span_columns.specs.Picks.{picked_width};
 ghost use Rattle.span_tablescan.specs.Given.{IsKeptOn};
 ghost use Rattle.span_tablescan.specs.Scans.{IsCount, IsScan, IsTakenBy};
 
-use super::number_test::meets_all;
+use super::cell_test::meets_all;
 use super::scan::{TableScan, Test};
 use span_columns::narrow::picked_width;
 use span_rows::row_list::RowList;

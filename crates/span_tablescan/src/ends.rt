@@ -10,10 +10,10 @@ use span_rowcode::pack::LONGEST_ROW;
 use span_value::value::Kind;
 
 /// How many bytes the code of a text or of bytes has before them: one byte that they are no NULL, and their length in four.
-const BEGIN: usize = 5;
+pub(crate) const BEGIN: usize = 5;
 
 /// The length that a text or bytes have by their code.
-fn coded_length(code: &[u8]) -> u32
+pub(crate) fn coded_length(code: &[u8]) -> u32
     requires { 5 ≤ length code.now }
     ensures { result ≡ from_be_bytes w32
         (get_or code.now 1 0 ∷ get_or code.now 2 0 ∷ get_or code.now 3 0 ∷ get_or code.now 4 0 ∷ []) }

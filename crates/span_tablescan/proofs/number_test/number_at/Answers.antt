@@ -1,5 +1,5 @@
 use Rattle.std.proofs.Common.{arith, drop, length-drop}
-use Rattle.span_tablescan.proofs.NumberTests.{none_found}
+use Rattle.span_tablescan.proofs.CellTests.{none_found}
 use Rattle.span_tablescan.proofs.number_test.number_at.Goals as goal
 
 pub returns-then-at-bytes : goal.returns-then-at-bytes
