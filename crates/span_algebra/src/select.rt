@@ -3,10 +3,10 @@ ghost use Rattle.std.specs.Prelude.{◌≡◌, [], IfOk};
 ghost use Rattle.span_query.specs.Rows.{unless_fault, filter_where, project_rows, values};
 ghost use Rattle.span_conditions.specs.Answers.{Gives, Puts};
 
+use span_conditions::condition::value_at;
 use span_expr::cell::Failure;
 use span_expr::expr::Expr;
 use span_rows::filter::is_kept;
-use span_conditions::condition::value_at;
 use span_rows::row::add;
 use span_rows::row_list::RowList;
 use span_value::value::Value;

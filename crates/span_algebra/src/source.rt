@@ -13,9 +13,9 @@ ghost use Rattle.span_sorting.specs.Orders.{take_first};
 ghost use Rattle.span_collected.specs.Parts.{all_rows};
 ghost use Rattle.span_algebra.specs.Sources.{GivesRows, HasSameValues, IsGivenBy, SortsAs, source_rows, source_result, LendsRows};
 
-use span_expr::cell::Failure;
 use span_collected::part_rows::PartRows;
 use span_collected::parts::groups_of;
+use span_expr::cell::Failure;
 use span_query::query::{Grouping, SortKey};
 use span_rows::row_list::{RowList, lend_rows};
 use span_sorting::coded::CodedRows;

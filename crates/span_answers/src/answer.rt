@@ -14,8 +14,8 @@ use span_core::database::Core;
 use span_core::slot::SlotView;
 use span_core::{Refusal, Reply};
 use span_keycode::key::Key;
-use span_records::record_writer::rows_text;
 use span_merging::answer_rows::AnswerRows;
+use span_records::record_writer::rows_text;
 use std::alloc::Global;
 use std::marker::Model;
 

@@ -12,9 +12,9 @@ ghost use Rattle.span_classes.specs.Classes.{AreClassNumbers, AreGroupsOfClass, 
 
 use super::class::Class;
 use indexmap::IndexSet;
+use span_collected::lent::{LentGroups, no_lent_groups, rows_of_lent};
 use span_expr::cell::Failure;
 use span_groups::group::{first_index, push_if, take_row};
-use span_collected::lent::{LentGroups, no_lent_groups, rows_of_lent};
 use span_query::query::Grouping;
 use span_rows::key::LentKey;
 use span_rows::row_list::RowList;

@@ -12,11 +12,11 @@ ghost use Rattle.span_collected.specs.Parts.{all_rows};
 ghost use Rattle.span_classes.specs.Ranges.{AreRangesMade, IsGroupsOf, range_at};
 
 use indexmap::IndexSet;
-use span_expr::cell::Failure;
-use span_groups::group::first_index;
 use span_collected::lent::{LentGroups, no_lent_groups, rows_of_lent};
 use span_collected::merge::{merge_parts, take_lent_groups};
 use span_collected::part_rows::PartRows;
+use span_expr::cell::Failure;
+use span_groups::group::first_index;
 use span_query::query::Grouping;
 use span_rows::key::LentKey;
 use span_rows::row_list::RowList;

@@ -5,11 +5,11 @@ ghost use Rattle.span_expr.specs.declared.cell.Failure.TheVariants.{Fault};
 ghost use Rattle.span_collected.specs.KeptGroups.{AreGroupsWith};
 ghost use Rattle.span_groups.specs.MergedGroups.{AnyFault};
 
-use span_groups::aggregate::AggregateState;
 use super::kept_groups::{KeptGroups, no_groups, take_or_drop};
 use super::many::are_many;
 use super::same_grouping::{are_same, copy_grouping};
 use span_expr::cell::Failure;
+use span_groups::aggregate::AggregateState;
 use span_query::query::Grouping;
 use span_rows::row_list::RowList;
 use std::alloc::{AllocError, Global};

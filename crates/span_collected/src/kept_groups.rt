@@ -8,12 +8,12 @@ ghost use Rattle.span_groups.specs.GroupStates.{keys_at};
 ghost use Rattle.span_collected.specs.KeptGroups.{AreGroupsWith, AreGroupsOrFault};
 ghost use Rattle.span_groups.specs.MergedGroups.{AnyFault, CanTakeList};
 
+use indexmap::IndexSet;
+use span_expr::cell::Failure;
 use span_groups::aggregate::AggregateState;
 use span_groups::counted::counted_states;
 use span_groups::group::{push_if, row_or_none, take_row};
 use span_groups::states::add_states;
-use indexmap::IndexSet;
-use span_expr::cell::Failure;
 use span_query::query::Grouping;
 use span_rows::key::LentKey;
 use span_rows::row_list::RowList;

@@ -9,11 +9,11 @@ ghost use Rattle.span_groups.specs.GroupStates.{keys_at, AreGroupLists, CanCount
 ghost use Rattle.span_groups.specs.MergedGroups.{AnyFault, CanTakeList};
 ghost use Rattle.span_groups.specs.States.{operand_at};
 
+use indexmap::IndexSet;
+use span_expr::cell::Failure;
 use span_groups::aggregate::AggregateState;
 use span_groups::group::{first_index, push_if, rows_of, take_row};
 use span_groups::states::add_states;
-use indexmap::IndexSet;
-use span_expr::cell::Failure;
 use span_query::query::Grouping;
 use span_rows::key::LentKey;
 use span_rows::row_list::RowList;

@@ -12,14 +12,14 @@ ghost use Rattle.span_groups.specs.MergedGroups.{AnyFault, AreWholeGroups, CanTa
 ghost use Rattle.span_collected.specs.Parts.{all_rows};
 ghost use Rattle.span_groups.specs.States.{AreStatesOf};
 
-use span_groups::aggregate::AggregateState;
-use span_groups::group::{first_index, group_of, push_if};
 use super::grouped::GroupedRows;
 use super::lent::{LentGroups, no_lent_groups, take_list};
 use super::part_rows::PartRows;
-use span_groups::states::{merge_all, states_at};
 use indexmap::IndexSet;
 use span_expr::cell::Failure;
+use span_groups::aggregate::AggregateState;
+use span_groups::group::{first_index, group_of, push_if};
+use span_groups::states::{merge_all, states_at};
 use span_query::query::Grouping;
 use span_rows::key::LentKey;
 use span_rows::row_list::{RowList, lend_rows};

@@ -8,11 +8,11 @@ ghost use Rattle.span_gather.specs.InPlace.{AreListsOf, ArePlacesOf, first_leaf,
 use span_algebra::block::have_width;
 use span_algebra::ordered::table_order;
 use span_fragment::piece::Piece;
-use span_query::query::BoundQuery;
-use span_rows::row_list::RowList;
 use span_merging::answer_rows::AnswerRows;
 use span_merging::part_ranges::order_parts;
 use span_merging::parts::PartPlace;
+use span_query::query::BoundQuery;
+use span_rows::row_list::RowList;
 use span_sorting::rows_with_order::RowsWithOrder;
 use span_value::owned::keep_with;
 use span_value::seq::Seq;

@@ -4,8 +4,8 @@ ghost use Rattle.std.specs.Option.{option_map};
 ghost use Rattle.span_collected.specs.Parts.{all_rows};
 ghost use Rattle.span_gather.specs.Gathered.{joined_pieces};
 
-use span_fragment::piece::Piece;
 use span_collected::part_rows::PartRows;
+use span_fragment::piece::Piece;
 use std::alloc::{AllocError, Global};
 
 /// The rows of pieces, lent; none where one of the pieces is a fault.

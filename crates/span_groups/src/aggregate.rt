@@ -15,11 +15,11 @@ ghost use Rattle.span_conditions.specs.Answers.{Gives};
 ghost use Rattle.span_groups.specs.States.{better_of, count_of, HasCounted, HasTaken, IsStateOf, TakesOperand, operand_at, or_better, or_null};
 
 use super::sum::{Sum, number};
+use span_conditions::computed::number_of;
+use span_conditions::condition::operand_value;
 use span_expr::cell::{Failure, LentValue};
 use span_expr::expr::Expr;
 use span_query::query::{Aggregate, Function};
-use span_conditions::computed::number_of;
-use span_conditions::condition::operand_value;
 use span_rows::row::copy_of;
 use span_value::order::compare;
 use span_value::value::Value;

@@ -12,10 +12,10 @@ ghost use Rattle.span_sorting.specs.PlacesInOrder.{IsCodedPlace};
 use super::parts::{
     PartPlace, PartRest, PartRests, count_rows, is_place_before, merge_rests, rests_of,
 };
-use span_sorting::placed::CodedPlace;
-use span_sorting::rows_with_order::RowsWithOrder;
 use span_query::query::SortKey;
 use span_rows::row_list::RowList;
+use span_sorting::placed::CodedPlace;
+use span_sorting::rows_with_order::RowsWithOrder;
 use span_threads::calls::map_indices;
 use std::alloc::{AllocError, Global};
 use std::thread::Threads;

@@ -7,11 +7,11 @@ ghost use Rattle.span_merging.specs.PartPlaces.{joined, lists};
 ghost use Rattle.span_merging.specs.PartRests.{AreRestsMerged, AreRestsOf, IsFirstTaken, IsNextOf, IsPartOrder, IsRest, front, part_before, row_before, rows_of_rests};
 ghost use Rattle.span_sorting.specs.PlacesInOrder.{IsCodedPlace};
 
+use span_query::query::SortKey;
+use span_rows::row_list::RowList;
 use span_sorting::placed::CodedPlace;
 use span_sorting::rows_with_order::RowsWithOrder;
 use span_sorting::sort::compare_rows;
-use span_query::query::SortKey;
-use span_rows::row_list::RowList;
 use std::alloc::{AllocError, Global};
 
 /// A place in one of several lists of rows.

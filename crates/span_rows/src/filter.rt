@@ -4,8 +4,8 @@ ghost use Rattle.span_query.specs.Rows.{filter_rows, filter_where};
 ghost use Rattle.span_conditions.specs.Answers.{Adds, Gives};
 ghost use Rattle.span_rows.specs.Filtering.{filter_row, holds_where};
 
-use span_conditions::condition::is_met;
 use super::row_list::RowList;
+use span_conditions::condition::is_met;
 use span_expr::cell::Failure;
 use span_expr::expr::Expr;
 use span_value::value::Value;

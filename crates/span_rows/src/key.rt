@@ -9,8 +9,8 @@ ghost use Rattle.span_rows.specs.Hashes.{value_writes, row_writes};
 ghost use Rattle.span_rows.specs.RowOrders.{values_order};
 
 use super::columns::put_columns;
-use span_conditions::computed::number_at;
 use super::distinct::are_equal;
+use span_conditions::computed::number_at;
 use span_value::order::compare;
 use span_value::value::Value;
 use std::alloc::{AllocError, Global};
