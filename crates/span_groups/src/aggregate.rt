@@ -15,7 +15,7 @@ ghost use Rattle.span_conditions.specs.Answers.{Gives};
 ghost use Rattle.span_groups.specs.States.{better_of, count_of, HasCounted, HasTaken, IsStateOf, TakesOperand, operand_at, or_better, or_null};
 
 use super::sum::{Sum, number};
-use span_conditions::computed::number_of;
+use span_conditions::computed::{number_at as number_in, number_of};
 use span_conditions::condition::operand_value;
 use span_expr::cell::{Failure, LentValue};
 use span_expr::expr::Expr;
@@ -25,12 +25,17 @@ use span_value::order::compare;
 use span_value::value::Value;
 use std::alloc::{AllocError, Global};
 
-/// The number that an operand comes to at a row. None where it is no arithmetic on columns and literals, or has no number there.
+/// The number that an operand comes to at a row, where it is a column or arithmetic. None where it is another, or has no number there. Most
+/// operands are columns, and are read with no call.
 #[inline(always)]
 fn number_at(operand: &Expr, row: &[Value]) -> Option<i64>
     ensures { IfSome result (λ n. val row.now operand.now ≡ Val (value.Int n)) }
 {
-    number_of(operand, row, &[])
+    match operand {
+        Expr::Column(place) => number_in(row, *place),
+        Expr::Negative(_) | Expr::Chain(_, _) => number_of(operand, row, &[]),
+        _ => None,
+    }
 }
 
 /// The number of an INT64 value.

@@ -7,6 +7,6 @@ use Rattle.span_expr.specs.Meaning.{val}
 use Rattle.span_groups.proofs.aggregate.number_at.Goals as goal
 
 -- the right part of the row is empty
-pub returns : goal.returns
-returns c =
+pub returns-in-Negative : goal.returns-in-Negative
+returns-in-Negative c =
     subst (λ (row : List Value). IfSome c.number_of.result (λ (n : ℤ). val row c.args.operand.now ≡ Val (value.Int n))) (append-nil c.args.row.now) c.number_of.ensures
