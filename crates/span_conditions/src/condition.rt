@@ -15,13 +15,13 @@ ghost use Rattle.span_conditions.specs.Answers.{Gives};
 
 use super::computed::number_of;
 use span_eval::eval::evaluate;
+use span_eval::operator::holds;
 use span_expr::cell::{Failure, LentValue, column_of};
 use span_expr::expr::{Comparison, Expr};
 use span_value::order::compare;
 use span_value::truth::Truth;
 use span_value::value::Value;
 use std::alloc::Global;
-use std::cmp::Ordering;
 
 /// What an expression comes to at a row, lent where it lies there or in the expression. A column is read with no walk over an
 /// expression's tree, and arithmetic on numbers is done with no value in between. The error is an arithmetic error, or out of memory where the
@@ -41,19 +41,6 @@ pub fn operand_value<'a>(
             None => evaluate(alloc, expr, row),
         },
         _ => evaluate(alloc, expr, row),
-    }
-}
-
-fn is_order_met(comparison: Comparison, order: Ordering) -> bool
-    ensures { result ≡ operators.holds comparison order }
-{
-    match comparison {
-        Comparison::Equal => order.is_eq(),
-        Comparison::NotEqual => !order.is_eq(),
-        Comparison::Less => order.is_lt(),
-        Comparison::AtMost => !order.is_gt(),
-        Comparison::Greater => order.is_gt(),
-        Comparison::AtLeast => !order.is_lt(),
     }
 }
 
@@ -128,7 +115,7 @@ fn is_any_comparison_met(condition: &Expr, left: &[Value], right: &[Value]) -> O
     };
     let first = known_operand(first.get(), left, right)?;
     let second = known_operand(second.get(), left, right)?;
-    Some(is_order_met(*comparison, compare(first, second)))
+    Some(holds(*comparison, compare(first, second)))
 }
 
 /// The same, also where an operand is arithmetic on columns and literals. Numbers of columns and literals are compared with no call.

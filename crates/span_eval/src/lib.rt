@@ -2,4 +2,4 @@
 #![tactic(auto)]
 
 pub mod eval;
-mod operator;
+pub mod operator;

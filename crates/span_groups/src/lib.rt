@@ -1,4 +1,4 @@
-//! Groups of rows with their aggregates, of one list or of several.
+//! Groups of the rows of a list, with their aggregates.
 #![tactic(auto)]
 
 pub mod aggregate;

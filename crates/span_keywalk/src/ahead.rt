@@ -29,7 +29,7 @@ const LANE_ROWS: usize = 8;
 /// How many keys a lane looks at, at most.
 const MOST_STEPS: usize = 64;
 
-/// Looks at so many keys and rows find no more.
+/// What is added up over the looks at that many keys and rows is no more.
 const MOST_FOUND: usize = LANES * MOST_STEPS * (LONGEST_KEY + 1);
 
 /// How many keys a walk hands out before it first looks ahead, and before it tries again.

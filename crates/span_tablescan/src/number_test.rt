@@ -10,7 +10,7 @@ ghost use Rattle.span_tablescan.specs.CellTests as spec;
 ghost use Rattle.span_tablescan.specs.CellTests.{IsCellOf, IsNumberFound, IsNumberTestOf, IsWhetherPass, comparison_at};
 
 use crate::column_cell::{cell_place, column_cell};
-use crate::comparison::is_order_met;
+use span_eval::operator::holds;
 use span_expr::expr::{Comparison, Expr};
 use span_rowcode::cell::after;
 use span_rowcode::pack::LONGEST_ROW;
@@ -95,7 +95,7 @@ fn number_at(bytes: &[u8], at: usize) -> Option<i64>
 fn meets_value(test: &NumberTest, number: i64) -> bool
     ensures { result ≡ spec.meets_number test.now (Int number) }
 {
-    is_order_met(test.comparison, number.cmp(&test.number))
+    holds(test.comparison, number.cmp(&test.number))
 }
 
 /// Whether the cells of a packed row meet a test.

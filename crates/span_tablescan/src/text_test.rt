@@ -9,8 +9,8 @@ ghost use Rattle.span_tablescan.specs.CellTests as spec;
 ghost use Rattle.span_tablescan.specs.CellTests.{IsCellOf, IsTextFound, IsTextTestOf, IsWhetherPass, comparison_at};
 
 use crate::column_cell::{cell_place, column_cell};
-use crate::comparison::is_order_met;
 use crate::ends::{BEGIN, coded_length};
+use span_eval::operator::holds;
 use span_expr::expr::{Comparison, Expr};
 use span_rowcode::cell::after;
 use span_rowcode::pack::LONGEST_ROW;
@@ -106,7 +106,7 @@ pub(crate) fn text_at(bytes: &[u8], at: usize) -> Option<&[u8]>
 fn meets_value(test: &TextTest, text: &[u8]) -> bool
     ensures { result ≡ spec.meets_text test.now (Str text.now) }
 {
-    is_order_met(test.comparison, text.cmp(test.text.as_slice()))
+    holds(test.comparison, text.cmp(test.text.as_slice()))
 }
 
 /// Whether the cells of a packed row meet a test.

@@ -14,4 +14,4 @@ returns c =
     ap (λ (e : Expr). val row e) c.in-Compare.is
     ∙ comparison_comes row _ _ c.in-Compare.comparison c.in_ok-first.first.now c.in_ok-second.second.now
     (ap (val row) (sym c.get.ensures) ∙ c.in_ok-first.ensures.0) (ap (val row) (sym c.get-2.ensures) ∙ c.in_ok-second.ensures.0) c.in_ok-first.ensures.1 c.in_ok-second.ensures.1
-    ∙ ap (λ (o : Ordering). Val (value.Bool (operators.holds c.in-Compare.comparison o))) (sym c.compare.ensures.order) ∙ ap (λ (b : Bool). Val (value.Bool b)) (sym c.is_order_met.ensures)
+    ∙ ap (λ (o : Ordering). Val (value.Bool (operators.holds c.in-Compare.comparison o))) (sym c.compare.ensures.order) ∙ ap (λ (b : Bool). Val (value.Bool b)) (sym c.holds.ensures)
