@@ -328,13 +328,20 @@ impl Arena {
         self.cells.key(number)
     }
 
-    /// Whether the key of a chain has at most `most` bytes. Lengths lie together, apart from the keys: a key of less than 65,535 bytes is
-    /// not looked at.
+    /// How many bytes the key of a chain has. Lengths lie together, apart from the keys: a key of less than 65,535 bytes is not looked at.
+    pub fn key_len(&self, number: u32) -> usize
+        requires { number < length self.now.cells }
+        ensures { result ≡ length (cell_at self.now.cells number).key }
+    {
+        self.cells.key_len(number)
+    }
+
+    /// Whether the key of a chain has at most `most` bytes.
     pub fn has_short_key(&self, number: u32, most: usize) -> bool
         requires { number < length self.now.cells }
         ensures { result ≡ nat_le (length (cell_at self.now.cells number).key) most }
     {
-        self.cells.is_short(number, most)
+        self.key_len(number) <= most
     }
 
     /// The lengths of the keys of all chains, by their numbers: `u16::MAX` where a key has that many bytes or more. They lie together, so that

@@ -1,5 +1,5 @@
 //! The keys of all chains, each with its links in the tree of keys and, apart from it, its length.
-ghost use Rattle.std.specs.Prelude.{◌≡◌, ◌<◌, ◌≤◌, ◌+◌, ◌++◌, [], ◌∷◌, length, map, nat_le, replicate, slice_set, vec_len, vec_capacity, OnErr, OnOk};
+ghost use Rattle.std.specs.Prelude.{◌≡◌, ◌<◌, ◌≤◌, ◌+◌, ◌++◌, [], ◌∷◌, length, map, replicate, slice_set, vec_len, vec_capacity, OnErr, OnOk};
 ghost use Rattle.span_arena.specs.Cells.{blank, cell_at, kept_length, with_links};
 
 use crate::cell::{Cell, Links, StoredLinks};
@@ -82,16 +82,16 @@ impl Cells {
         self.cells[number as usize].key.as_slice()
     }
 
-    /// Whether a cell's key has at most `most` bytes. The cell is looked at only where the key has 65,535 bytes or more.
-    pub(crate) fn is_short(&self, number: u32, most: usize) -> bool
+    /// How many bytes a cell's key has. The cell is looked at only where these are 65,535 or more.
+    pub(crate) fn key_len(&self, number: u32) -> usize
         requires { number < length self.now }
-        ensures { result ≡ nat_le (length (cell_at self.now number).key) most }
+        ensures { result ≡ length (cell_at self.now number).key }
     {
         let len = self.lengths[number as usize];
         if len < u16::MAX {
-            len as usize <= most
+            len as usize
         } else {
-            self.key(number).len() <= most
+            self.key(number).len()
         }
     }
 

@@ -115,6 +115,13 @@ impl<'a> LateKey<'a> {
         self.arena.key(self.number)
     }
 
+    /// How many bytes the key has. It is looked at only where these are 65,535 or more.
+    pub fn key_len(&self) -> usize
+        ensures { result ≡ length self.now.key }
+    {
+        self.arena.key_len(self.number)
+    }
+
     /// The chain.
     pub fn chain(&self) -> Chain
         ensures { result ≡ self.now.chain }

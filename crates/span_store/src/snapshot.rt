@@ -1,5 +1,5 @@
 //! The rows of a shard at a timestamp, lent one after another: no list of them is made.
-ghost use Rattle.std.specs.Prelude.{◌≡◌, [], ◌∷◌, All, MatchOption, filter};
+ghost use Rattle.std.specs.Prelude.{◌≡◌, [], ◌∷◌, All, MatchOption, filter, length};
 ghost use Rattle.std.specs.Iterator.{YieldsFirstBy, item_count};
 ghost use Rattle.span_arena.specs.Content.{IsChain};
 ghost use Rattle.std.specs.List.{filter_map};
@@ -142,6 +142,13 @@ impl<'a> Model for LateEntry<'a> {
 }
 
 impl<'a> LateEntry<'a> {
+    /// How many bytes the key has. It is looked at only where these are 65,535 or more.
+    pub fn key_len(&self) -> usize
+        ensures { result ≡ length self.now.key }
+    {
+        self.key.key_len()
+    }
+
     /// The packed cells.
     pub fn row(&self) -> &'a [u8]
         ensures { result.now ≡ self.now.row }
