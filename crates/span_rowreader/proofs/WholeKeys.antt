@@ -1,5 +1,5 @@
 -- The table of a coded key by the key's length.
-use Rattle.std.proofs.Common.{◌≡◌, ◌==◌, ◌∙◌, ℕ, ◌+◌, ◌-◌, ◌*◌, ◌%◌, ◌<◌, ◌≤◌, Bool, true, false, ◌&&◌, List, [], ◌∷◌, ◌++◌, Option, Some, None, length, length-append, take, drop, get_or, refl, sym, ap, subst, arith}
+use Rattle.std.proofs.Common.{◌≡◌, ◌≢◌, ◌==◌, ◌∙◌, ℕ, ◌+◌, ◌-◌, ◌*◌, ◌%◌, ◌<◌, ◌≤◌, Bool, true, false, ◌&&◌, List, [], ◌∷◌, ◌++◌, Option, Some, None, length, length-append, take, drop, get_or, refl, sym, ap, subst, arith}
 use Rattle.std.specs.List.{list_all}
 use Rattle.std.proofs.Math.Seq.{get_or-append_seam}
 use Rattle.std.proofs.lemmas.Bool.{eqb-true, eqb-false, ne_eqb, and_parts}
@@ -21,7 +21,7 @@ use Rattle.span_keycode.proofs.Lengths.{length_directed}
 use Rattle.span_keycode.proofs.RootRows.{root_split}
 use Rattle.span_rowreader.specs.declared.whole_key.WholeKey.{WholeKey}
 use Rattle.span_rowreader.specs.Entries.{IsWhetherOf}
-use Rattle.span_rowreader.specs.WholeKeys.{is_number, is_number_kind, HasNumberAt, IsDecided, IsTableByLength, IsWholeKey}
+use Rattle.span_rowreader.specs.WholeKeys.{is_number, is_number_kind, HasNumberAt, HasOtherLengths, IsDecided, IsNoLengthOf, IsOwnLength, IsTableByLength, IsWhetherOfLength, IsWholeKey}
 
 -- ---- how many bytes numbers take
 
@@ -148,19 +148,61 @@ number_decided schema rules at whole m own decided = record {
       subst P found.1 (number_at schema rules m whole own vs is (omega (arith, fewer.is, found.0)));
 }
 
+-- ---- the length alone
+
+pub no_key_of_length : (schema : List Table) → MeetsRules schema → (m len : ℕ) (whole : WholeKey) → IsWholeKey schema m whole → IsNoLengthOf whole len → HasOtherLengths schema len m
+no_key_of_length schema rules m len whole own none = record {
+  of = λ vs is e.
+      let fewer = key_fewer schema rules m vs is whole own in
+      none.by fewer.nulls (ap (λ (k : ℕ). k + 8 * fewer.nulls) (sym e) ∙ fewer.is);
+}
+
+-- one more table
+pub one_more_apart : (schema : List Table) (len n i : ℕ) → ((m : ℕ) → 1 ≤ m → m ≤ i → m ≢ n → HasOtherLengths schema len m) → (i + 1 ≢ n → HasOtherLengths schema len (i + 1))
+    → (m : ℕ) → 1 ≤ m → m ≤ i + 1 → m ≢ n → HasOtherLengths schema len m
+one_more_apart schema len n i before here m first last other = by_test (m == i + 1) refl
+  where
+    by_test : (b : Bool) → (m == i + 1) ≡ b → HasOtherLengths schema len m
+    by_test true is =
+        let at : m ≡ i + 1 = eqb-true m (i + 1) is in
+        let P : ℕ → Type 0 = HasOtherLengths schema len in
+        subst P (sym at) (here (λ same. other (at ∙ same)))
+    by_test false is = before m first (let apart = eqb-false m (i + 1) is in omega (arith, last, apart)) other
+
+pub own_of_length : (schema : List Table) (n : ℕ) (at : WholeKey) → IsOwnLength schema n at → (len : ℕ) → len ≡ at.len → IsWhetherOfLength schema n len true
+own_of_length schema n at is len whole = record {
+  of = λ key long. record {
+    of = λ r typed code.
+        by_test r.table (r.table == n) refl (λ other. (is.others r.table typed.0.0.0 other).of r.key typed.0.0 (sym (ap (length {A = ℕ}) code) ∙ long ∙ whole));
+  };
+}
+  where
+    by_test : (t : ℕ) (b : Bool) → (t == n) ≡ b → (t ≢ n → ⊥) → true ≡ (t == n)
+    by_test t true own none = sym own
+    by_test t false own none = absurd (none (eqb-false t n own))
+
+-- a key of another length than those of the table is none of it
+pub not_of_length : (schema : List Table) → MeetsRules schema → (n : ℕ) (at : WholeKey) → IsWholeKey schema n at → (key : List ℕ) → ((nulls : ℕ) → length key + 8 * nulls ≡ at.len → ⊥) → IsWhetherOf schema n key false
+not_of_length schema rules n at whole key none = record {
+  of = λ r typed code.
+      sym (ne_eqb r.table n (λ own.
+      let P : ℕ → Type 0 = λ t. IsKey schema t r.key × (key ≡ key_code schema t r.key) in
+      let here = subst P own (typed.0.0, code) in
+      let fewer = key_fewer schema rules n r.key here.0 at whole in
+      none fewer.nulls (omega (arith, fewer.is, ap (length {A = ℕ}) here.1))));
+}
+
+pub none_of_length : (schema : List Table) → MeetsRules schema → (n : ℕ) (at : WholeKey) → IsOwnLength schema n at → (len : ℕ) → IsNoLengthOf at len → IsWhetherOfLength schema n len false
+none_of_length schema rules n at is len none = record {
+  of = λ key long. not_of_length schema rules n at is.whole key (λ nulls e. none.by nulls (ap (λ (k : ℕ). k + 8 * nulls) (sym long) ∙ e));
+}
+
 -- ---- a key
 
 module _ (schema : List Table) (rules : MeetsRules schema) (n : ℕ) (at : WholeKey) (is : IsTableByLength schema n at) (key : List ℕ) where
   -- no key of the table has this length
   pub other_length : ((nulls : ℕ) → length key + 8 * nulls ≡ at.len → ⊥) → IsWhetherOf schema n key false
-  other_length none = record {
-    of = λ r typed code.
-        sym (ne_eqb r.table n (λ own.
-        let P : ℕ → Type 0 = λ t. IsKey schema t r.key × (key ≡ key_code schema t r.key) in
-        let here = subst P own (typed.0.0, code) in
-        let fewer = key_fewer schema rules n r.key here.0 at is.whole in
-        none fewer.nulls (omega (arith, fewer.is, ap (length {A = ℕ}) here.1))));
-  }
+  other_length none = not_of_length schema rules n at is.whole key none
 
   -- one of the length of those without NULL, and of the same root, is the table's where it has its number
   pub by_number : length key ≡ at.len → get_or key 0 0 ≡ at.root → IsWhetherOf schema n key (get_or key at.place 0 == n)

@@ -1,5 +1,5 @@
 -- The table of a coded key by the key's length.
-use Rattle.std.specs.Prelude.{◌≡◌, ℕ, ◌+◌, ◌*◌, List, Bool, true, false, length, get_or}
+use Rattle.std.specs.Prelude.{◌≡◌, ◌≢◌, ℕ, ◌+◌, ◌*◌, List, Bool, true, false, length, get_or}
 use Rattle.std.specs.List.{list_all}
 use Rattle.span_value.specs.declared.value.Value.{Value}
 use Rattle.span_value.specs.declared.value.Kind.{Kind}
@@ -9,6 +9,7 @@ use Rattle.span_schema.specs.declared.layout.KeyPart.{KeyPart}
 use Rattle.span_schema.specs.Numbers.{IsTable, key_columns, own_key_columns, path_of, root_of}
 use Rattle.span_keycode.specs.Keys.{IsKey, key_code}
 use Rattle.span_rowreader.specs.declared.whole_key.WholeKey.{WholeKey}
+use Rattle.span_rowreader.specs.Entries.{IsWhetherOf}
 
 abbrev pub is_number_kind : Kind → Bool
 is_number_kind kind.Int = true
@@ -40,3 +41,20 @@ pub record IsTableByLength (schema : List Table) (n : ℕ) (at : WholeKey) : Typ
 -- a key of a table with the second whole keys has the length of the first ones only where it has no NULL, and then the number of its table is at the same place
 pub record IsDecided (at whole : WholeKey) : Type 0 where
   pub by : (nulls : ℕ) → at.len + 8 * nulls ≡ whole.len → (nulls ≡ 0) × (whole.place ≡ at.place)
+
+-- whole keys of which some numbers are NULL never have this length
+pub record IsNoLengthOf (whole : WholeKey) (len : ℕ) : Type 0 where
+  pub by : (nulls : ℕ) → len + 8 * nulls ≢ whole.len
+
+-- no key of table m has this length
+pub record HasOtherLengths (schema : List Table) (len m : ℕ) : Type 0 where
+  pub of : (vs : List Value) → IsKey schema m vs → length (key_code schema m vs) ≢ len
+
+-- they are the whole keys of table n, and no key of another table has their length
+pub record IsOwnLength (schema : List Table) (n : ℕ) (at : WholeKey) : Type 0 where
+  pub whole : IsWholeKey schema n at
+  pub others : (m : ℕ) → IsTable schema m → m ≢ n → HasOtherLengths schema at.len m
+
+-- of whatever row the coded key is that has this length, the answer is whether it is one of table n
+pub record IsWhetherOfLength (schema : List Table) (n len : ℕ) (found : Bool) : Type 0 where
+  pub of : (key : List ℕ) → length key ≡ len → IsWhetherOf schema n key found

@@ -1,5 +1,5 @@
 //! Reading of a table's rows, of the columns alone that a mask has: a value is put at its place among these, and no other is made.
-ghost use Rattle.std.specs.Prelude.{◌≡◌, ◌≤◌, ◌⊎◌, IfOk, OnOk, MatchResult, drop, length, map, replicate, take, true, ◌<◌, set};
+ghost use Rattle.std.specs.Prelude.{◌≡◌, ◌≤◌, ◌⊎◌, IfOk, IfSome, OnOk, MatchResult, drop, is_some, length, map, replicate, take, true, ◌<◌, set};
 ghost use Rattle.span_value.specs.declared.value.Value.TheVariants.{Null};
 ghost use Rattle.span_schema.specs.Numbers.{IsTable, key_places};
 ghost use Rattle.span_leaves.specs.Leaves.{width_of};
@@ -10,6 +10,7 @@ ghost use Rattle.span_rowreader.specs.KeyNumbers.{AreKeyNumbers};
 ghost use Rattle.span_rowreader.specs.Placed.{IsKeyPut, IsNoRowOf, wants_none};
 ghost use Rattle.span_rowreader.specs.Reads.{AreReadsOf};
 ghost use Rattle.span_rowreader.specs.Steps.{key_steps};
+ghost use Rattle.span_rowreader.specs.WholeKeys.{IsWhetherOfLength};
 ghost use Rattle.span_rowreader.specs.Readers as spec;
 ghost use Rattle.span_rowreader.specs.Readers.{IsReader, ArePickedOf};
 
@@ -20,7 +21,7 @@ use super::longest::longest_key;
 use super::place::is_wanted;
 use super::reads::{KeyRead, key_reads, put_key};
 use super::steps::{KeyStep, goes_along, key_steps};
-use super::whole_key::{WholeKey, is_own_by_length, table_by_length};
+use super::whole_key::{WholeKey, is_own_by_length, is_own_of_length, own_length, table_by_length};
 use span_columns::narrow::picked_width;
 use span_expr::rank::rank;
 use span_leaves::table::width_of;
@@ -37,8 +38,10 @@ pub struct TableReader {
     pub table: usize,
     /// A number of bytes that no coded key of the table exceeds.
     pub most: usize,
-    /// Its keys without NULL, where the length of a key decides whether it is one of the table.
+    /// Its keys without NULL, where the length of a key and one byte of it decide whether it is one of the table.
     by_length: Option<WholeKey>,
+    /// The same, where the length alone decides.
+    own_length: Option<WholeKey>,
     /// The steps of its coded keys.
     steps: Seq<KeyStep>,
     /// The columns that are read.
@@ -166,6 +169,7 @@ pub fn table_reader(
         table,
         most: longest_key(schema, table),
         by_length: table_by_length(schema, table),
+        own_length: own_length(schema, table),
         steps,
         mask: copy_mask(alloc, front)?,
         all,
@@ -231,6 +235,23 @@ fn refill(row: &mut Vec<Value>, len: usize) -> Result<(), AllocError>
 }
 
 impl TableReader {
+    /// Whether the length of a key without NULL decides whether it is one of the table.
+    pub fn has_own_length(&self) -> bool
+        ensures { result ≡ is_some self.now.own_length }
+    {
+        self.own_length.is_some()
+    }
+
+    /// Whether a coded key of `len` bytes is one of the table, where its length decides. It takes no allocation.
+    pub fn is_own_length(&self, schema: &Schema, len: usize) -> Option<bool>
+        requires table { IsTable schema.now self.now.table }
+        requires reader { IsReader schema.now self.now }
+        ensures { IfSome result (IsWhetherOfLength schema.now self.now.table len) }
+    {
+        let at = self.own_length.as_ref()?;
+        is_own_of_length(schema, self.table, at, len)
+    }
+
     /// Whether a coded key is one of the table. It takes no allocation.
     pub fn is_own_key(&self, schema: &Schema, key: &[u8]) -> bool
         requires table { IsTable schema.now self.now.table }

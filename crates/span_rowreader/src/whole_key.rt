@@ -1,11 +1,11 @@
 //! The table of a coded key by the key's length. Where all columns of a table's key are numbers, its keys without NULL have one length; and
 //! where each key of this length has the number of its own table at one place, the byte there decides.
-ghost use Rattle.std.specs.Prelude.{◌≡◌, IfSome, length, true};
+ghost use Rattle.std.specs.Prelude.{◌≡◌, ◌≢◌, IfSome, length, true};
 ghost use Rattle.std.specs.List.{list_all};
 ghost use Rattle.span_schema.specs.Numbers.{IsTable};
 ghost use Rattle.span_rowreader.specs.Entries.{IsWhetherOf};
 ghost use Rattle.span_rowreader.specs.WholeKeys as spec;
-ghost use Rattle.span_rowreader.specs.WholeKeys.{HasNumberAt, IsDecided, IsTableByLength, IsWholeKey};
+ghost use Rattle.span_rowreader.specs.WholeKeys.{HasNumberAt, HasOtherLengths, IsDecided, IsNoLengthOf, IsOwnLength, IsTableByLength, IsWhetherOfLength, IsWholeKey};
 
 use span_keycode::key::LONGEST_KEY;
 use span_schema::layout::KeyPart;
@@ -109,6 +109,76 @@ pub(crate) fn table_by_length(schema: &Schema, table: usize) -> Option<WholeKey>
         }
     }
     Some(at)
+}
+
+/// Whether keys whose length without NULL is known never have this length. Each NULL is eight bytes shorter than a number.
+fn is_no_length_of(whole: &WholeKey, len: usize) -> bool
+    ensures { result ≡ true → IsNoLengthOf whole.now len }
+{
+    if whole.len < len {
+        return true;
+    }
+    (whole.len - len) % 8 != 0
+}
+
+/// Whether no key of a table has this length. None may have it, where this is false.
+#[tactic(auto, using(crate::proofs::WholeKeys::no_key_of_length))]
+fn has_other_lengths(schema: &Schema, len: usize, table: usize) -> bool
+    requires { IsTable schema.now table }
+    ensures { result ≡ true → HasOtherLengths schema.now len table }
+{
+    schema.meets_rules();
+    match whole_key(schema, table) {
+        None => false,
+        Some(whole) => is_no_length_of(&whole, len),
+    }
+}
+
+/// Whether a table is this one, or none of its keys has this length.
+fn is_apart(schema: &Schema, table: usize, len: usize, other: usize) -> bool
+    requires { IsTable schema.now other }
+    ensures { result ≡ true → other ≢ table → HasOtherLengths schema.now len other }
+{
+    if other == table {
+        return true;
+    }
+    has_other_lengths(schema, len, other)
+}
+
+/// The keys of a table without NULL, where no key of another table has their length.
+pub(crate) fn own_length(schema: &Schema, table: usize) -> Option<WholeKey>
+    requires { IsTable schema.now table }
+    ensures { IfSome result (IsOwnLength schema.now table) }
+{
+    let at = whole_key(schema, table)?;
+    for i in 0..schema.len() {
+        if !is_apart(schema, table, at.len, i + 1) {
+            return None;
+        }
+    }
+    Some(at)
+}
+
+/// Whether a coded key of `len` bytes is one of the table, where the length decides.
+#[tactic(auto, using(crate::proofs::WholeKeys::own_of_length, crate::proofs::WholeKeys::none_of_length))]
+pub(crate) fn is_own_of_length(
+    schema: &Schema,
+    table: usize,
+    at: &WholeKey,
+    len: usize,
+) -> Option<bool>
+    requires { IsOwnLength schema.now table at.now }
+    ensures { IfSome result (IsWhetherOfLength schema.now table len) }
+{
+    schema.meets_rules();
+    if len == at.len {
+        return Some(true);
+    }
+    if is_no_length_of(at, len) {
+        return Some(false);
+    }
+    // It has NULLs, or is of another table.
+    None
 }
 
 /// Whether a coded key is one of the table, where the key's length and the byte at the place of the table's number decide.

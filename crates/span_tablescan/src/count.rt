@@ -3,16 +3,18 @@ ghost use Rattle.std.specs.Prelude.{◌≡◌, ◌++◌, ◌∷◌, [], List, Ok
 ghost use Rattle.span_schema.specs.Numbers.{IsTable};
 ghost use Rattle.span_query.specs.Rows.{Row};
 ghost use Rattle.span_columns.specs.Picks.{picked_width};
+ghost use Rattle.span_rowreader.specs.Entries.{IsWhetherOf};
+ghost use Rattle.span_rowreader.specs.Readers.{IsReader};
 ghost use Rattle.span_tablescan.specs.Given.{IsKeptOn};
 ghost use Rattle.span_tablescan.specs.Scans.{IsCount, IsScan, IsTakenBy};
 
 use super::cell_test::meets_all;
 use super::scan::{TableScan, Test};
 use span_columns::narrow::picked_width;
+use span_rowreader::reader::TableReader;
 use span_rows::row_list::RowList;
 use span_schema::schema::Schema;
-use span_shard::shard::Entry;
-use span_shard::snapshot::Snapshot;
+use span_shard::snapshot::{LateEntry, Snapshot};
 use std::alloc::{AllocError, Global};
 
 /// Whether the rows of a scan have no values, and each that meets the tests of its packed cells is kept.
@@ -25,38 +27,50 @@ pub(crate) fn is_count(scan: &TableScan<'_>) -> bool
     }
 }
 
+/// Whether an entry is one of the reader's table. Its key is looked at only where the key's length does not decide.
+fn is_own(schema: &Schema, reader: &TableReader, entry: &LateEntry<'_>) -> bool
+    requires table { IsTable schema.now reader.now.table }
+    requires reader { IsReader schema.now reader.now }
+    ensures { IsWhetherOf schema.now reader.now.table entry.now.key result }
+{
+    match reader.is_own_length(schema, entry.key_len()) {
+        Some(is_own) => is_own,
+        None => reader.is_own_key(schema, entry.entry().key),
+    }
+}
+
 /// Whether an entry is a row of the scan's table that is kept.
-fn is_counted(schema: &Schema, scan: &TableScan<'_>, entry: &Entry) -> bool
+fn is_counted(schema: &Schema, scan: &TableScan<'_>, entry: &LateEntry<'_>) -> bool
     requires table { IsTable schema.now scan.now.reader.table }
     requires scan { IsScan schema.now scan.now }
     requires count { IsCount scan.now }
     ensures { (rows : List Row)
-        → IsTakenBy schema.now scan.now entry.now.key.now entry.now.row.now (Ok tt) rows
+        → IsTakenBy schema.now scan.now entry.now.key entry.now.row (Ok tt) rows
         (if result then rows ++ [] ∷ [] else rows) }
 {
     let reader = &scan.reader;
     if !meets_all(
         scan.needed.as_slice(),
         schema.other_kinds(reader.table),
-        entry.row,
+        entry.row(),
     ) {
         return false;
     }
-    reader.is_own_key(schema, entry.key)
+    is_own(schema, reader, entry)
 }
 
 /// A number of rows, and one more where an entry is a row of the scan's table that is kept. The only error is that it is none of 64 bits.
 fn count_entry(
     schema: &Schema,
     scan: &TableScan<'_>,
-    entry: &Entry,
+    entry: &LateEntry<'_>,
     count: usize,
 ) -> Result<usize, AllocError>
     requires table { IsTable schema.now scan.now.reader.table }
     requires scan { IsScan schema.now scan.now }
     requires count { IsCount scan.now }
     ensures { IfOk result
-        (λ more. IsTakenBy schema.now scan.now entry.now.key.now entry.now.row.now (Ok tt) (replicate count [])
+        (λ more. IsTakenBy schema.now scan.now entry.now.key entry.now.row (Ok tt) (replicate count [])
         (replicate more [])) }
 {
     if !is_counted(schema, scan, entry) {
@@ -77,7 +91,9 @@ fn count_rows(
     ensures { IfOk result (λ count. IsKeptOn schema.now scan.now.leaf.now snapshot.entry (Ok (replicate count []))) }
 {
     let mut count = 0;
-    for entry in snapshot.with_short_keys(scan.reader.most) {
+    let mut entries = snapshot.with_short_keys(scan.reader.most);
+    entries.look_at_keys(!scan.reader.has_own_length());
+    while let Some(entry) = entries.next_late() {
         count = count_entry(schema, scan, &entry, count)?;
     }
     Ok(count)

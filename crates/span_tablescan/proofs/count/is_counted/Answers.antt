@@ -15,8 +15,8 @@ returns c = λ rows.
     let scan = c.args.scan.now in
     let leaf : Leaf = scan.leaf.now in
     let n : ℕ = scan.reader.table in
-    let row : List ℕ = c.args.entry.now.row.now in
+    let row : List ℕ = c.args.entry.now.row in
     let none : picked_width leaf.kept ≡ 0 = ap picked_width (sym c.requires.scan.mask) ∙ c.requires.count.width in
     let of : AreTestsWhere schema n leaf.filter scan.needed = subst (IsTestOf schema n leaf.kept leaf.filter scan.needed) c.requires.count.test c.requires.scan.test in
     let met : IsWhetherPass (other_kinds schema n) row (λ (cells : List Value). list_all (meets cells) scan.needed) true = search rules in
-    counted_taken schema n leaf.kept leaf.filter c.args.entry.now.key.now row scan.needed rows c.is_own_key.result none of met c.is_own_key.ensures
+    counted_taken schema n leaf.kept leaf.filter c.args.entry.now.key row scan.needed rows c.is_own.result none of met c.is_own.ensures
