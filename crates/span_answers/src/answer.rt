@@ -15,7 +15,7 @@ use span_core::slot::SlotView;
 use span_core::{Refusal, Reply};
 use span_keycode::key::Key;
 use span_merging::answer_rows::AnswerRows;
-use span_records::record_writer::rows_text;
+use span_records::record_writer::RecordWriter;
 use std::alloc::Global;
 use std::marker::Model;
 
@@ -29,6 +29,7 @@ const LINE_CAPACITY: usize = 4_096;
 #[derive(Drop)]
 pub struct Answers {
     bytes: Vec<u8>,
+    records: RecordWriter,
 }
 
 impl Model for Answers {
@@ -47,6 +48,7 @@ impl Answers {
     {
         Ok(Answers {
             bytes: Vec::with_capacity(alloc, MOST_KEPT + LINE_CAPACITY)?,
+            records: RecordWriter::new(alloc),
         })
     }
 
@@ -204,9 +206,7 @@ impl Answers {
     {
         self.word_number("rows", rows.len() as u64)?;
         self.number_line(" at", s)?;
-        let text = rows_text(alloc, rows)?;
-        self.bytes.extend_from_slice(text.as_slice())?;
-        Ok(())
+        self.records.add_rows(alloc, rows, &mut self.bytes)
     }
 
     /// How many slots are in use, and a line for each.

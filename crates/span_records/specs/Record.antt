@@ -5,10 +5,11 @@ use Rattle.std.specs.Prelude.{◌≡◌, ℕ, ◌<◌, ◌==◌, ◌||◌, Bool,
 use Rattle.std.specs.List.{All, flat_map, slice_split}
 use Rattle.csv.specs.Machine.{Read, next_record}
 use Rattle.csv.specs.Reading.{default_config, strip_bom}
-use Rattle.csv.specs.Writing.{default_writer, with_flexible, row_text}
+use Rattle.csv.specs.Writing.{default_writer, fields_written, has_written, row_text, with_flexible, writer_pending, writer_setup}
 use Rattle.csv.specs.declared.parser.State.{State}
 use Rattle.csv.specs.declared.parser.State.TheVariants as state
 use Rattle.csv.specs.declared.writer.WriterBuilder.{WriterBuilder}
+use Rattle.csv.specs.declared.writer.Writer.{Writer}
 use Rattle.span_value.specs.declared.value.Value.{Value}
 use Rattle.span_value.specs.Cells.{cell_of}
 
@@ -69,3 +70,10 @@ row_record row = row_text settings (map cell_of row)
 -- the records of rows, one after another
 abbrev pub row_records : List (List Value) → List ℕ
 row_records rows = flat_map row_record rows
+
+-- the writer writes by these settings, no record is begun, and all that was written is in the text underneath
+pub record IsBetweenRecords {W : Type 0} (w : Writer W) : Type 0 where
+  pub setup : writer_setup w ≡ settings
+  pub fields : fields_written w ≡ 0
+  pub wrote : has_written w ≡ false
+  pub pending : writer_pending w ≡ []

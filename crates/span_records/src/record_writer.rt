@@ -1,35 +1,106 @@
 //! The records of rows.
-ghost use Rattle.std.specs.Prelude.{◌≡◌, ◌++◌, [], ◌∷◌, map, IfOk, OnOk, IsOkUnless};
+ghost use Rattle.std.specs.Prelude.{◌≡◌, ◌++◌, [], ◌∷◌, map, IfOk, OnErr, OnOk, IsOkUnless};
 ghost use Rattle.csv.specs.Records.{fields_of};
+ghost use Rattle.csv.specs.Writing.{writer_under};
 ghost use Rattle.span_value.specs.Cells.{cell_of};
-ghost use Rattle.span_records.specs.Record.{row_records};
+ghost use Rattle.span_records.specs.Record.{row_records, IsBetweenRecords};
 
-use csv::{StringRecord, WriterBuilder};
+use csv::{StringRecord, Writer, WriterBuilder};
 use itoa::Buffer;
 use span_merging::answer_rows::AnswerRows;
 use span_value::cell::cell_text;
 use span_value::refusal::Refusal;
 use span_value::value::Value;
 use std::alloc::Global;
+use std::marker::Model;
 
-/// The rows, each as a record of its cells, as `csv` writes them. `OutOfMemory` is the only refusal.
-pub fn rows_text(alloc: Global, rows: &AnswerRows) -> Result<Vec<u8>, Refusal>
-    ensures text { IfOk result (λ text. text.items ≡ row_records rows.now) }
+/// The number of bytes of records at which a writer is given up for another.
+const MOST_KEPT: usize = 65_536;
+
+/// Writes rows as records, those of one answer after another's: a writer of `csv` clears 8 KB when it is made, which takes longer than a
+/// short answer. Contracts see nothing of it.
+#[derive(Drop)]
+pub struct RecordWriter {
+    records: Writer<Vec<u8>>,
+    cells: StringRecord,
+}
+
+impl Model for RecordWriter {
+    ghost use Rattle.std.specs.Prelude.{Unit};
+    ghost use Rattle.span_records.specs.Record.{IsBetweenRecords};
+
+    ghost Value = { Unit {0} };
+
+    ghost view = { λ w. tt };
+
+    ghost invariant = { λ w. IsBetweenRecords w.records };
+}
+
+impl RecordWriter {
+    /// A writer that has written nothing. It takes no memory.
+    pub fn new(alloc: Global) -> RecordWriter {
+        RecordWriter {
+            records: new_records(alloc),
+            cells: StringRecord::new(alloc),
+        }
+    }
+
+    /// Adds the rows to a text, each as a record of its cells, as `csv` writes them. `OutOfMemory` is the only refusal, and leaves the text as
+    /// it was.
+    pub fn add_rows(
+        &mut self,
+        alloc: Global,
+        rows: &AnswerRows,
+        text: &mut Vec<u8>,
+    ) -> Result<(), Refusal>
+        ensures text { OnOk result (text.new.items ≡ text.old.items ++ row_records rows.now) }
+        ensures err { OnErr result (text.new.items ≡ text.old.items) }
+        ensures memory { IsOkUnless result Refusal.OutOfMemory }
+    {
+        let start = self.records.get_ref().len();
+        if let Err(why) = write_rows(alloc, rows, &mut self.cells, &mut self.records) {
+            self.records = new_records(alloc);
+            return Err(why);
+        }
+        text.extend_from_slice(&self.records.get_ref()[start..])?;
+        if self.records.get_ref().len() >= MOST_KEPT {
+            self.records = new_records(alloc);
+        }
+        Ok(())
+    }
+}
+
+fn new_records(alloc: Global) -> Writer<Vec<u8>>
+    ensures ready { IsBetweenRecords result }
+    ensures none { (writer_under result).items ≡ [] }
+{
+    WriterBuilder::new()
+        .flexible(true)
+        .from_writer(Vec::new(alloc))
+}
+
+/// Writes the rows after what was written before. `OutOfMemory` is the only refusal.
+fn write_rows(
+    alloc: Global,
+    rows: &AnswerRows,
+    cells: &mut StringRecord,
+    records: &mut Writer<Vec<u8>>,
+) -> Result<(), Refusal>
+    requires { IsBetweenRecords records.old }
+    ensures ready { OnOk result (IsBetweenRecords records.new) }
+    ensures text { OnOk result
+        ((writer_under records.new).items ≡ (writer_under records.old).items ++ row_records rows.now) }
     ensures memory { IsOkUnless result Refusal.OutOfMemory }
 {
-    let mut cells = StringRecord::new(alloc);
-    let mut records = WriterBuilder::new()
-        .flexible(true)
-        .from_writer(Vec::new(alloc));
     for at in 0..rows.len() {
-        put_cells(alloc, rows.row(at), &mut cells)?;
+        put_cells(alloc, rows.row(at), cells)?;
         // The text is in memory, so that only memory can run out.
         if records.write_byte_record(cells.as_byte_record()).is_err() {
             return Err(Refusal::OutOfMemory);
         }
     }
-    match records.into_inner() {
-        Ok(text) => Ok(text),
+    match records.flush() {
+        Ok(()) => Ok(()),
         Err(_) => Err(Refusal::OutOfMemory),
     }
 }

@@ -248,8 +248,10 @@ impl TableReader {
         requires reader { IsReader schema.now self.now }
         ensures { IfSome result (IsWhetherOfLength schema.now self.now.table len) }
     {
-        let at = self.own_length.as_ref()?;
-        is_own_of_length(schema, self.table, at, len)
+        match &self.own_length {
+            None => None,
+            Some(at) => is_own_of_length(schema, self.table, at, len),
+        }
     }
 
     /// Whether a coded key is one of the table. It takes no allocation.

@@ -160,7 +160,7 @@ pub(crate) fn own_length(schema: &Schema, table: usize) -> Option<WholeKey>
 }
 
 /// Whether a coded key of `len` bytes is one of the table, where the length decides.
-#[tactic(auto, using(crate::proofs::WholeKeys::own_of_length, crate::proofs::WholeKeys::none_of_length))]
+#[tactic(auto, using(crate::proofs::WholeKeys::none_of_length))]
 pub(crate) fn is_own_of_length(
     schema: &Schema,
     table: usize,

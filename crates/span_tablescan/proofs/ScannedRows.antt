@@ -45,6 +45,7 @@ use Rattle.span_rowreader.specs.Longest.{IsLongest, AreLongest, HaveShortKeys}
 use Rattle.span_tablescan.specs.declared.cell_test.CellTest.{CellTest}
 use Rattle.span_tablescan.specs.CellTests.{meets, IsWhetherPass}
 use Rattle.span_rowreader.specs.Readers.{ArePickedOf}
+use Rattle.span_rowreader.specs.WholeKeys.{IsWhetherOfLength}
 use Rattle.span_tablescan.specs.Scans.{passes, kept_row, AreTestsWhere, IsMaskOf, IsConditionAt, IsAdded, IsAddedWhere, IsTaken}
 use Rattle.span_rowreader.proofs.DeclaredRows.{row_width}
 use Rattle.span_rowreader.proofs.TargetRows.{none_picked}
@@ -143,6 +144,10 @@ met_added schema n ms w key row tests old new of whether added =
     passed schema n ms w key row old new (λ t typed own is cells. of.judged t typed own ∙ ap (λ (b : Bool). Some b) (sym (whether.of t.cells (cells_fit schema n t typed own) cells))) added
 
 -- a row of no values is added where it is one of the table that meets them, where they tell whether it passes
+-- a key of a length that decides
+pub own_by_length : (schema : List Table) (n len : ℕ) (key : List ℕ) (b : Bool) → len ≡ length key → IsWhetherOfLength schema n len b → IsWhetherOf schema n key b
+own_by_length schema n len key b is found = found.of key (sym is)
+
 pub counted_taken : (schema : List Table) (n : ℕ) (ms : List Bool) (w : Option Expr) (key row : List ℕ) (tests : List CellTest) (rows : List Row) (b : Bool) → picked_width ms ≡ 0 → AreTestsWhere schema n w tests
     → IsWhetherPass (other_kinds schema n) row (λ cells. list_all (meets cells) tests) true → IsWhetherOf schema n key b → IsTaken schema n ms w key row (Ok tt) rows (if b then rows ++ [] ∷ [] else rows)
 counted_taken schema n ms w key row tests rows true none of met own =

@@ -28,6 +28,7 @@ pub(crate) fn is_count(scan: &TableScan<'_>) -> bool
 }
 
 /// Whether an entry is one of the reader's table. Its key is looked at only where the key's length does not decide.
+#[tactic(auto, using(crate::proofs::ScannedRows::own_by_length))]
 fn is_own(schema: &Schema, reader: &TableReader, entry: &LateEntry<'_>) -> bool
     requires table { IsTable schema.now reader.now.table }
     requires reader { IsReader schema.now reader.now }
