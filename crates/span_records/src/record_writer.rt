@@ -26,7 +26,6 @@ pub struct RecordWriter {
 }
 
 impl Model for RecordWriter {
-    ghost use Rattle.std.specs.Prelude.{Unit};
     ghost use Rattle.span_records.specs.Record.{IsBetweenRecords};
 
     ghost Value = { Unit {0} };
