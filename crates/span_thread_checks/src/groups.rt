@@ -165,7 +165,7 @@ fn check_answers<J: Naming + Send + Sync, R: Threads + Wait + Sync>(
     expect_eq(group_sum(sums), refused, "sums that are too large")
 }
 
-// That a query by some workers gives so many rows, with this sum.
+// That a query by some workers gives a number of rows, with this sum.
 fn check_sum<J: Naming + Send + Sync, R: Threads + Wait + Sync>(
     rt: &R,
     alloc: Global,
