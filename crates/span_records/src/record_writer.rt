@@ -58,12 +58,12 @@ impl RecordWriter {
     {
         let start = self.records.get_ref().len();
         if let Err(why) = write_rows(alloc, rows, &mut self.cells, &mut self.records) {
-            self.records = new_records(alloc);
+            renew(alloc, &mut self.records);
             return Err(why);
         }
         text.extend_from_slice(&self.records.get_ref()[start..])?;
         if self.records.get_ref().len() >= MOST_KEPT {
-            self.records = new_records(alloc);
+            renew(alloc, &mut self.records);
         }
         Ok(())
     }
@@ -76,6 +76,14 @@ fn new_records(alloc: Global) -> Writer<Vec<u8>>
     WriterBuilder::new()
         .flexible(true)
         .from_writer(Vec::new(alloc))
+}
+
+// Another writer in the place of one. Where this is inlined, memory for it is cleared at each answer.
+#[inline(never)]
+fn renew(alloc: Global, records: &mut Writer<Vec<u8>>)
+    ensures { IsBetweenRecords records.new }
+{
+    *records = new_records(alloc);
 }
 
 /// Writes the rows after what was written before. `OutOfMemory` is the only refusal.
