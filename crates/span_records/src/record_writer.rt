@@ -61,10 +61,11 @@ impl RecordWriter {
             renew(alloc, &mut self.records);
             return Err(why);
         }
-        text.extend_from_slice(&self.records.get_ref()[start..])?;
-        if self.records.get_ref().len() >= MOST_KEPT {
+        let copied = text.extend_from_slice(&self.records.get_ref()[start..]);
+        if copied.is_err() || self.records.get_ref().len() >= MOST_KEPT {
             renew(alloc, &mut self.records);
         }
+        copied?;
         Ok(())
     }
 }
