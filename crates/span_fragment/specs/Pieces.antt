@@ -10,8 +10,8 @@ use Rattle.span_columns.specs.declared.leaf.Leaf.{Leaf}
 use Rattle.span_columns.specs.Picks.{pick_rows}
 use Rattle.span_leaves.specs.Results.{leaf_rows}
 use Rattle.span_fragment.specs.declared.piece.Piece.{Piece}
-use Rattle.span_rowreader.specs.Meaning.{whole_table}
-use Rattle.span_rowreader.specs.Entries.{key_row}
+use Rattle.span_entries.specs.Meaning.{whole_table}
+use Rattle.span_entries.specs.Entries.{key_row}
 
 -- For the query above the leaves, whose leaf it is at this place, the piece has as good rows as those that the leaf gives where its tables have
 -- the rows that the entries are, each with the columns alone that leave it, or it is the fault.

@@ -6,7 +6,7 @@ ghost use Rattle.span_query.specs.Rows.{Rows};
 ghost use Rattle.span_collected.specs.Reductions.{AreEnough, GivesEnough, HasEnough};
 ghost use Rattle.span_algebra.specs.BlockMeaning.{GroupsTable};
 ghost use Rattle.span_leaves.specs.Maskable.{IsMaskable};
-ghost use Rattle.span_rowreader.specs.Entries.{AreNoRows};
+ghost use Rattle.span_entries.specs.Entries.{AreNoRows};
 ghost use Rattle.span_tablescan.specs.Given.{IsEnoughOn};
 ghost use Rattle.span_fragment.specs.Pieces.{IsPieceOf};
 

@@ -3,9 +3,9 @@ ghost use Rattle.std.specs.Prelude.{◌≡◌, IfOk, filter, map};
 ghost use Rattle.std.specs.List.{AllByRecursion};
 ghost use Rattle.span_schema.specs.Numbers.{IsTable};
 ghost use Rattle.span_shard.specs.Reading.{entry_row, has_short_key};
-ghost use Rattle.span_rowreader.specs.Longest.{AreLongest};
+ghost use Rattle.span_entries.specs.Longest.{AreLongest};
 
-use span_rowreader::longest::longest_key;
+use span_entries::longest::longest_key;
 use span_schema::schema::Schema;
 use span_shard::shard::Entry;
 use span_shard::snapshot::Snapshot;

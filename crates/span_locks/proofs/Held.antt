@@ -25,7 +25,7 @@ use Rattle.span_fragment.specs.declared.piece.Piece.{Piece}
 use Rattle.span_gather.specs.declared.rows.Rows.{Rows as Found}
 use Rattle.span_planner.proofs.MaskableLeaves.{leaves_maskable}
 use Rattle.span_planner.proofs.Tabled.{leaves_tabled}
-use Rattle.span_rowreader.proofs.KeyPlaces.{keyed}
+use Rattle.span_entries.proofs.KeyPlaces.{keyed}
 use Rattle.span_shard.specs.KeyVersions.{KeyVersions}
 use Rattle.span_binder.specs.Understands.{Understands}
 use Rattle.span_gather.specs.Gathered.{gathered}

@@ -14,7 +14,7 @@ use Rattle.span_columns.specs.declared.leaf.Leaf.{Leaf}
 use Rattle.span_columns.specs.declared.leaf.Plan.{Plan}
 use Rattle.span_columns.specs.Picks.{pick_rows}
 use Rattle.span_leaves.specs.Results.{leaf_rows}
-pub use Rattle.span_rowreader.specs.Meaning.{value_for, value_at, declared_row, whole_table}
+pub use Rattle.span_entries.specs.Meaning.{value_for, value_at, declared_row, whole_table}
 
 -- the rows, in order, that a query with these leaves, tables by their numbers, means on a database; none is the fault
 abbrev pub means : List Table → BoundQuery → List ℕ → List TableRow → Rows

@@ -15,7 +15,7 @@ use Rattle.span_keycode.proofs.KeyLaws.{begins_own_rows}
 use Rattle.span_mutate.specs.Directories.{root_row, key_len}
 use Rattle.span_mutate.proofs.Families.{root_is_table}
 use Rattle.span_machine.specs.Slots.{IsCodedRoot}
-use Rattle.span_rowreader.proofs.KeyPlaces.{root_place, root_key_at}
+use Rattle.span_entries.proofs.KeyPlaces.{root_place, root_key_at}
 
 -- the root table has no parent, and its columns fit the front of the key
 pub root_fits : (schema : List Table) → MeetsRules schema → (i : ℕ) → i < length schema → (vs : List Value) → AreFit (key_at schema i) vs

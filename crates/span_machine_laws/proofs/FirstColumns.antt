@@ -8,7 +8,7 @@ use Rattle.span_schema.specs.Layouts.{key_parts}
 use Rattle.span_schema.specs.Lineages.{MeetsRules}
 use Rattle.span_schema.specs.Numbers.{IsTable, root_of, key_columns, key_places, own_key_columns, columns_in, key_in}
 use Rattle.span_leaves.specs.Leaves.{width_of, root_places}
-use Rattle.span_rowreader.proofs.KeyPlaces.{keyed, HasKeyColumns, has_key_columns, root_key_of, root_within}
+use Rattle.span_entries.proofs.KeyPlaces.{keyed, HasKeyColumns, has_key_columns, root_key_of, root_within}
 
 -- the place of the first column of a table's key
 abbrev pub first_place : List Table → ℕ → ℕ

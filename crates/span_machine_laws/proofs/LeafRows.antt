@@ -29,7 +29,7 @@ use Rattle.span_leaves.proofs.Cutting.{columns}
 use Rattle.span_machine.specs.Meaning.{declared_row, row_within}
 use Rattle.span_machine_laws.proofs.FamilyRows.{root_first, first_within}
 use Rattle.span_machine_laws.proofs.FirstColumns.{first_place, IsOfFamily}
-use Rattle.span_rowreader.proofs.DeclaredRows.{key_of_columns}
+use Rattle.span_entries.proofs.DeclaredRows.{key_of_columns}
 
 module _ (schema : List Table) (rules : MeetsRules schema) where
   -- ---- ranges that are narrowed by bounds of the first key column

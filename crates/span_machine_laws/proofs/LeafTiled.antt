@@ -33,8 +33,8 @@ use Rattle.span_leaves.proofs.Cutting.{CutTable, whole_rows, first_rows, second_
 use Rattle.span_planner.proofs.Planned.{AreRooted, IsPlanned}
 use Rattle.span_machine.specs.Meaning.{declared_row, row_within, rows_within, tables_within, leaf_within}
 use Rattle.span_machine_laws.proofs.Ends.{below_as_root}
-use Rattle.span_rowreader.proofs.KeyPlaces.{keyed}
-use Rattle.span_rowreader.proofs.DeclaredRows.{row_width, root_of_columns, root_places_long}
+use Rattle.span_entries.proofs.KeyPlaces.{keyed}
+use Rattle.span_entries.proofs.DeclaredRows.{row_width, root_of_columns, root_places_long}
 use Rattle.span_machine_laws.proofs.Pieces.{IsEnd, AreEnds}
 use Rattle.span_machine_laws.proofs.TableOrder.{IsOfTable, of_table, table_rises, parts_joined}
 

@@ -30,7 +30,7 @@ use Rattle.span_planner.proofs.Planned.{AreRooted, IsNarrowed, IsPlanned}
 use Rattle.span_machine.specs.Meaning.{declared_row, whole_table, row_within, rows_within, tables_within}
 use Rattle.span_machine_laws.proofs.FirstColumns.{first_place, IsOfFamily, HasFirst, first_of_family, root_places_first}
 use Rattle.span_machine_laws.proofs.TableOrder.{IsOfTable, of_table, all_in_family}
-use Rattle.span_rowreader.proofs.DeclaredRows.{row_width}
+use Rattle.span_entries.proofs.DeclaredRows.{row_width}
 use Rattle.span_machine_laws.proofs.LeafRows.{row_in_bounds, first_fits}
 
 -- ---- lists

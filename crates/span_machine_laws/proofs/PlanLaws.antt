@@ -22,7 +22,7 @@ use Rattle.span_planner.proofs.Planned.{IsPlanned}
 use Rattle.span_planner.proofs.MaskedPlan.{query_above_picked}
 use Rattle.span_machine.specs.Machine.{statement_plan}
 use Rattle.span_machine.specs.Meaning.{declared_row, whole_table, means, tables_within, plan_means}
-use Rattle.span_rowreader.proofs.KeyPlaces.{keyed}
+use Rattle.span_entries.proofs.KeyPlaces.{keyed}
 use Rattle.span_machine_laws.proofs.LeafWhole.{table_width, leaf_whole}
 use Rattle.span_machine_laws.proofs.TableOrder.{IsOfTable, of_table}
 pub use Rattle.span_machine_laws.proofs.LeafTiled.{leaf_tiled}

@@ -18,7 +18,7 @@ use Rattle.span_shard.specs.Reading.{AreWrites}
 use Rattle.span_shard.specs.Shard.{KeyRow, snapshot, with_writes, live}
 use Rattle.span_columns.specs.declared.leaf.Leaf.{Leaf}
 use Rattle.span_fragment.specs.declared.piece.Piece.{Piece}
-use Rattle.span_rowreader.specs.Entries.{AreNoRows}
+use Rattle.span_entries.specs.Entries.{AreNoRows}
 use Rattle.span_fragment.specs.Pieces.{IsPieceOf}
 use Rattle.span_query.specs.declared.query.BoundQuery.{BoundQuery}
 use Rattle.span_query.specs.Rows.{Row}

@@ -9,7 +9,7 @@ use Rattle.span_mutate.specs.Typed.{IsTyped, AreTyped}
 use Rattle.span_shard.specs.Shard.{KeyRow}
 use Rattle.span_store.specs.declared.snapshot.Entry.{Entry}
 use Rattle.span_shard.specs.Reading.{entry_row, IsNoTableRow}
-use Rattle.span_rowreader.specs.Entries.{key_row, AreNoRows}
+use Rattle.span_entries.specs.Entries.{key_row, AreNoRows}
 
 -- an entry that is no row
 pub not_rows : (schema : List Table) (entries : List Entry) (i : ℕ) (d : Entry) → i < length entries → IsNoTableRow schema (get_or entries i d).key.now (get_or entries i d).row.now → AreNoRows schema (map entry_row entries)

@@ -14,13 +14,13 @@ use Rattle.span_keycode.proofs.Levels.{levels_at}
 use Rattle.span_keycode.proofs.LevelLaws.{AreLevels, fit_length}
 use Rattle.span_keycode.proofs.Going.{tables_of, tables_back, levels_on}
 use Rattle.span_keycode.proofs.KeyLaws.{values_of, values_back, place_within}
-use Rattle.span_rowreader.specs.declared.steps.KeyStep.{KeyStep}
-use Rattle.span_rowreader.specs.declared.steps.KeyStep.TheVariants as step
+use Rattle.span_entries.specs.declared.steps.KeyStep.{KeyStep}
+use Rattle.span_entries.specs.declared.steps.KeyStep.TheVariants as step
 use Rattle.span_rowreader.specs.declared.reads.KeyRead.{KeyRead}
 use Rattle.span_rowreader.specs.Placed.{wants_none, put, placed, IsColumnPut, IsKeyPut}
 use Rattle.span_rowreader.specs.Reads.{column_read, step_read, key_reads, places_of, IsReadAdded, IsColumnAdded, AreReadsOf, IsCodedAt, AreCoded, IsReadPut, IsNoRead, AreReadsPut}
-use Rattle.span_rowreader.specs.Steps.{column_steps, path_steps, key_steps}
-use Rattle.span_rowreader.proofs.KeyPlaces.{has_key_columns}
+use Rattle.span_entries.specs.Steps.{column_steps, path_steps, key_steps}
+use Rattle.span_entries.proofs.KeyPlaces.{has_key_columns}
 use Rattle.span_rowreader.proofs.Placing.{none_put}
 
 -- ---- the columns of steps

@@ -24,15 +24,15 @@ use Rattle.span_keycode.proofs.Plains.{turned_twice}
 use Rattle.span_rowreader.specs.declared.key_numbers.KeyNumber.{KeyNumber}
 use Rattle.span_rowreader.specs.declared.key_numbers.KeyNumbers.{KeyNumbers}
 use Rattle.span_rowreader.specs.declared.reads.KeyRead.{KeyRead}
-use Rattle.span_rowreader.specs.declared.whole_key.WholeKey.{WholeKey}
+use Rattle.span_entries.specs.declared.whole_key.WholeKey.{WholeKey}
 use Rattle.span_rowreader.specs.KeyNumbers.{IsNumberCoded, IsNumberFound, AreNumbersCoded, with_numbers, AreNumbersPut, AreWithin, with_number, numbers_of, IsNumberAdded, AreNumbersOf, HasNumbers, AreKeyNumbers, AreWholeNumbers}
 use Rattle.span_rowreader.specs.Placed.{is_wanted, placed, IsKeyPut}
 use Rattle.span_rowreader.specs.Reads.{key_reads, places_of, AreReadsOf, IsCodedAt, AreCoded}
-use Rattle.span_rowreader.specs.Steps.{key_steps}
-use Rattle.span_rowreader.specs.WholeKeys.{is_number, IsWholeKey}
+use Rattle.span_entries.specs.Steps.{key_steps}
+use Rattle.span_entries.specs.WholeKeys.{is_number, IsWholeKey}
 use Rattle.span_rowreader.proofs.KeyReads.{key_coded, coded_some, placed_some, past_front}
 use Rattle.span_rowreader.proofs.Placing.{put_wanted, put_not}
-use Rattle.span_rowreader.proofs.WholeKeys.{number_kind, one_fewer, numbers_fewer, code_length}
+use Rattle.span_entries.proofs.WholeKeys.{number_kind, one_fewer, numbers_fewer, code_length}
 
 -- ---- the number at a place
 

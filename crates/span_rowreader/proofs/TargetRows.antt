@@ -12,7 +12,7 @@ use Rattle.span_expr.specs.Places.{rank}
 use Rattle.span_leaves.specs.Leaves.{width_of}
 use Rattle.span_columns.specs.Picks.{picked, picked_width}
 use Rattle.span_leaves.proofs.Picked.{picked-masked}
-use Rattle.span_rowreader.specs.Meaning.{declared_row}
+use Rattle.span_entries.specs.Meaning.{declared_row}
 use Rattle.span_rowreader.specs.Placed.{is_wanted, put, placed}
 use Rattle.span_rowreader.specs.Readers.{target}
 use Rattle.span_rowreader.proofs.PlacedRows.{row_placed, placed_length}

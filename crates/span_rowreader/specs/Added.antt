@@ -9,7 +9,7 @@ use Rattle.span_mutate.specs.Typed.{IsTyped}
 use Rattle.span_shard.specs.Rows.{code_of}
 use Rattle.span_query.specs.Rows.{Row}
 use Rattle.span_columns.specs.Picks.{picked}
-use Rattle.span_rowreader.specs.Meaning.{declared_row}
+use Rattle.span_entries.specs.Meaning.{declared_row}
 use Rattle.span_rowreader.specs.Placed.{IsCellPut, AreCellsPut}
 
 -- the rows are these and a last one of a number of values, of which P holds

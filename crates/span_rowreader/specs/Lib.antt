@@ -1,14 +1,9 @@
-pub mod Meaning
 pub mod Placed
 pub mod Early
-pub mod Entries
-pub mod Longest
 pub mod Narrowed
 pub mod Numbers
 pub mod Readers
 pub mod LeafReaders
-pub mod Steps
 pub mod Reads
-pub mod WholeKeys
 pub mod KeyNumbers
 pub mod Added

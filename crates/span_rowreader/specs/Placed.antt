@@ -13,7 +13,7 @@ use Rattle.span_mutate.specs.declared.row.TableRow.{TableRow}
 use Rattle.span_mutate.specs.Typed.{IsTyped}
 use Rattle.span_shard.specs.Rows.{code_of}
 use Rattle.span_leaves.specs.Masks.{masked}
-use Rattle.span_rowreader.specs.Meaning.{declared_row}
+use Rattle.span_entries.specs.Meaning.{declared_row}
 
 -- a mask has a place
 abbrev pub is_wanted : List Bool → ℕ → Bool

@@ -11,13 +11,13 @@ use Rattle.span_expr.specs.Places.{rank}
 use Rattle.span_leaves.specs.Leaves.{width_of}
 use Rattle.span_columns.specs.Picks.{picked, picked_width}
 use Rattle.span_rowreader.specs.declared.reader.TableReader.{TableReader}
-use Rattle.span_rowreader.specs.Meaning.{declared_row}
+use Rattle.span_entries.specs.Meaning.{declared_row}
 use Rattle.span_rowreader.specs.KeyNumbers.{AreKeyNumbers}
-use Rattle.span_rowreader.specs.Longest.{IsLongest}
+use Rattle.span_entries.specs.Longest.{IsLongest}
 use Rattle.span_rowreader.specs.Placed.{is_wanted, wants_none}
 use Rattle.span_rowreader.specs.Reads.{AreReadsOf}
-use Rattle.span_rowreader.specs.Steps.{key_steps}
-use Rattle.span_rowreader.specs.WholeKeys.{IsOwnLength, IsTableByLength}
+use Rattle.span_entries.specs.Steps.{key_steps}
+use Rattle.span_entries.specs.WholeKeys.{IsOwnLength, IsTableByLength}
 
 -- the place of a column among those that the mask has, or a place after all of them
 abbrev pub target : List Bool → ℕ → ℕ

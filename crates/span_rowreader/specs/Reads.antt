@@ -4,11 +4,11 @@ use Rattle.span_value.specs.declared.value.Value.{Value}
 use Rattle.span_schema.specs.declared.table.Table.{Table}
 use Rattle.span_schema.specs.declared.layout.KeyPart.{KeyPart}
 use Rattle.span_keycode.specs.Coding.{Fits, column_code}
-use Rattle.span_rowreader.specs.declared.steps.KeyStep.{KeyStep}
-use Rattle.span_rowreader.specs.declared.steps.KeyStep.TheVariants as step
+use Rattle.span_entries.specs.declared.steps.KeyStep.{KeyStep}
+use Rattle.span_entries.specs.declared.steps.KeyStep.TheVariants as step
 use Rattle.span_rowreader.specs.declared.reads.KeyRead.{KeyRead}
 use Rattle.span_rowreader.specs.Placed.{put, placed, wants_none}
-use Rattle.span_rowreader.specs.Steps.{key_steps}
+use Rattle.span_entries.specs.Steps.{key_steps}
 
 -- ---- the columns of steps
 

@@ -7,7 +7,7 @@ ghost use Rattle.span_rowreader.specs.KeyNumbers.{AreNumbersOf, AreNumbersPut, A
 use super::number::number_at;
 use super::place::{is_wanted, put_number};
 use super::reads::KeyRead;
-use super::whole_key::whole_key;
+use span_entries::whole_key::whole_key;
 use span_schema::schema::Schema;
 use span_value::seq::Seq;
 use span_value::value::Value;

@@ -5,7 +5,7 @@ ghost use Rattle.span_rowreader.specs.Reads as spec;
 ghost use Rattle.span_rowreader.specs.Reads.{AreReadsPut, IsNoRead, IsReadAdded, IsReadPut};
 
 use super::keys::put_column;
-use super::steps::KeyStep;
+use span_entries::steps::KeyStep;
 use span_keycode::value::after;
 use span_schema::layout::KeyPart;
 use span_value::value::Value;

@@ -1,4 +1,2 @@
-pub mod CellEnds
-pub mod CellTests
 pub mod ScannedRows
 pub mod ShortKeys

@@ -38,16 +38,16 @@ use Rattle.span_columns.specs.Reads.{has_place, reads_within, condition_reads, l
 use Rattle.span_leaves.specs.Results.{join_tables, leaf_rows}
 use Rattle.span_leaves.proofs.Picked.{Agrees, agrees, val-picked, pick_rows-append}
 use Rattle.span_leaves.proofs.Reading.{has_place-range}
-use Rattle.span_rowreader.specs.Meaning.{declared_row, whole_table}
-use Rattle.span_rowreader.specs.Entries.{key_row, AreNoRows, IsWhetherOf}
+use Rattle.span_entries.specs.Meaning.{declared_row, whole_table}
+use Rattle.span_entries.specs.Entries.{key_row, AreNoRows, IsWhetherOf}
 use Rattle.span_tablescan.specs.Given.{kept_given, IsKeptOn, IsEnoughOn}
-use Rattle.span_rowreader.specs.Longest.{IsLongest, AreLongest, HaveShortKeys}
-use Rattle.span_tablescan.specs.declared.cell_test.CellTest.{CellTest}
-use Rattle.span_tablescan.specs.CellTests.{meets, IsWhetherPass}
+use Rattle.span_entries.specs.Longest.{IsLongest, AreLongest, HaveShortKeys}
+use Rattle.span_celltests.specs.declared.cell_test.CellTest.{CellTest}
+use Rattle.span_celltests.specs.CellTests.{meets, IsWhetherPass}
 use Rattle.span_rowreader.specs.Readers.{ArePickedOf}
-use Rattle.span_rowreader.specs.WholeKeys.{IsWhetherOfLength}
+use Rattle.span_entries.specs.WholeKeys.{IsWhetherOfLength}
 use Rattle.span_tablescan.specs.Scans.{passes, kept_row, AreTestsWhere, IsMaskOf, IsConditionAt, IsAdded, IsAddedWhere, IsTaken}
-use Rattle.span_rowreader.proofs.DeclaredRows.{row_width}
+use Rattle.span_entries.proofs.DeclaredRows.{row_width}
 use Rattle.span_rowreader.proofs.TargetRows.{none_picked}
 use Rattle.span_tablescan.proofs.ShortKeys.{given_on_all, holds_on_all, refused_of_all}
 

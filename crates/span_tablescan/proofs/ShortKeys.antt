@@ -18,10 +18,10 @@ use Rattle.span_conditions.specs.Answers.{Gives}
 use Rattle.span_columns.specs.declared.leaf.Leaf.{Leaf}
 use Rattle.span_columns.specs.Picks.{pick_rows}
 use Rattle.span_leaves.specs.Results.{leaf_rows}
-use Rattle.span_rowreader.specs.Meaning.{declared_row, whole_table}
-use Rattle.span_rowreader.specs.Entries.{key_row, AreNoRows, OfRows}
+use Rattle.span_entries.specs.Meaning.{declared_row, whole_table}
+use Rattle.span_entries.specs.Entries.{key_row, AreNoRows, OfRows}
 use Rattle.span_tablescan.specs.Given.{kept_given, IsKeptOn}
-use Rattle.span_rowreader.specs.Longest.{IsLongest, AreLongest, HaveShortKeys}
+use Rattle.span_entries.specs.Longest.{IsLongest, AreLongest, HaveShortKeys}
 
 abbrev is_short : List Table → ℕ → TableRow → Bool
 is_short schema most r = nat_le (length (code_of schema r)) most

@@ -1,4 +1,2 @@
-pub mod Ends
-pub mod CellTests
 pub mod Given
 pub mod Scans

@@ -15,12 +15,12 @@ use Rattle.span_conditions.specs.Answers.{Adds}
 use Rattle.span_leaves.specs.Leaves.{width_of}
 use Rattle.span_columns.specs.Picks.{picked, picked_width}
 use Rattle.span_columns.specs.Reads.{reads_within}
-use Rattle.span_tablescan.specs.declared.cell_test.CellTest.{CellTest}
+use Rattle.span_celltests.specs.declared.cell_test.CellTest.{CellTest}
 use Rattle.span_tablescan.specs.declared.scan.Test.{Test}
 use Rattle.span_tablescan.specs.declared.scan.Test.TheVariants.{Always, OnRow, OnColumns}
 use Rattle.span_tablescan.specs.declared.scan.TableScan.{TableScan}
-use Rattle.span_rowreader.specs.Meaning.{declared_row}
-use Rattle.span_tablescan.specs.CellTests.{meets, IsTestable}
+use Rattle.span_entries.specs.Meaning.{declared_row}
+use Rattle.span_celltests.specs.CellTests.{meets, IsTestable}
 use Rattle.span_rowreader.specs.Added.{IsRowAdded}
 use Rattle.span_rowreader.specs.Readers.{IsReader}
 

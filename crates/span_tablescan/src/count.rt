@@ -3,13 +3,13 @@ ghost use Rattle.std.specs.Prelude.{◌≡◌, ◌++◌, ◌∷◌, [], List, Ok
 ghost use Rattle.span_schema.specs.Numbers.{IsTable};
 ghost use Rattle.span_query.specs.Rows.{Row};
 ghost use Rattle.span_columns.specs.Picks.{picked_width};
-ghost use Rattle.span_rowreader.specs.Entries.{IsWhetherOf};
+ghost use Rattle.span_entries.specs.Entries.{IsWhetherOf};
 ghost use Rattle.span_rowreader.specs.Readers.{IsReader};
 ghost use Rattle.span_tablescan.specs.Given.{IsKeptOn};
 ghost use Rattle.span_tablescan.specs.Scans.{IsCount, IsScan, IsTakenBy};
 
-use super::cell_test::meets_all;
 use super::scan::{TableScan, Test};
+use span_celltests::cell_test::meets_all;
 use span_columns::narrow::picked_width;
 use span_rowreader::reader::TableReader;
 use span_rows::row_list::RowList;

@@ -35,7 +35,7 @@ use Rattle.span_planner.proofs.Planned.{IsPlanned}
 use Rattle.span_planner.proofs.Tabled.{leaves_tabled}
 use Rattle.span_fragment.specs.declared.piece.Piece.{Piece}
 use Rattle.span_fragment.specs.Pieces.{IsPieceOf}
-use Rattle.span_rowreader.proofs.KeyPlaces.{keyed}
+use Rattle.span_entries.proofs.KeyPlaces.{keyed}
 use Rattle.span_gather.specs.Gathered.{joined_pieces, gathered}
 use Rattle.span_shard.specs.KeyVersions.{KeyVersions}
 use Rattle.span_shard.specs.Rows.{code_of}

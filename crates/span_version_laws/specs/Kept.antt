@@ -27,7 +27,7 @@ use Rattle.span_algebra.specs.SameMeaning.{MeanTheSame}
 use Rattle.span_columns.specs.declared.leaf.Leaf.{Leaf}
 use Rattle.span_planner.specs.Plannable.{IsPlannable}
 use Rattle.span_fragment.specs.declared.piece.Piece.{Piece}
-pub use Rattle.span_rowreader.specs.Entries.{key_row}
+pub use Rattle.span_entries.specs.Entries.{key_row}
 use Rattle.span_machine.specs.declared.query.ScanLeaf.{ScanLeaf}
 use Rattle.span_machine.specs.declared.slot.SlotState.{SlotState}
 use Rattle.span_machine.specs.declared.transaction.Commit.{Commit}

@@ -1,5 +1,5 @@
 use Rattle.std.proofs.Common.{◌≤◌, ◌+◌, ℕ, take, subst, sym, arith}
-use Rattle.span_rowreader.specs.Longest.{AreLongest}
+use Rattle.span_entries.specs.Longest.{AreLongest}
 use Rattle.span_rowreader.proofs.Entries.{all_next}
 use Rattle.span_tablescan.proofs.ShortKeys.{longest_next, longest_raised}
 use Rattle.span_fragment.proofs.short.longest_of.Goals.{then-most-longest, else-most-longest}

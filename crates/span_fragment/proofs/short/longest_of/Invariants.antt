@@ -1,7 +1,7 @@
 use Rattle.std.proofs.Common.{drop, take}
 use Rattle.std.specs.List.{AllByRecursion}
 use Rattle.span_schema.specs.Numbers.{IsTable}
-use Rattle.span_rowreader.specs.Longest.{AreLongest}
+use Rattle.span_entries.specs.Longest.{AreLongest}
 use Rattle.span_fragment.proofs.short.longest_of.Given as goal
 
 -- no key of the tables so far is longer

@@ -1,6 +1,6 @@
 use Rattle.std.proofs.Common.{◌≡◌, List, [], ◌++◌, rules, arith, ap, drop, length}
-use Rattle.span_rowreader.specs.declared.steps.KeyStep.{KeyStep}
-use Rattle.span_rowreader.specs.declared.steps.KeyStep.TheVariants.{Table}
+use Rattle.span_entries.specs.declared.steps.KeyStep.{KeyStep}
+use Rattle.span_entries.specs.declared.steps.KeyStep.TheVariants.{Table}
 use Rattle.span_rowreader.specs.declared.reads.KeyRead.{KeyRead}
 use Rattle.span_rowreader.specs.Reads.{key_reads}
 use Rattle.span_rowreader.proofs.KeyReads.{step_added, all_added}

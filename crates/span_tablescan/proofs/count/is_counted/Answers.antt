@@ -4,7 +4,7 @@ use Rattle.span_value.specs.declared.value.Value.{Value}
 use Rattle.span_schema.specs.Numbers.{other_kinds}
 use Rattle.span_columns.specs.declared.leaf.Leaf.{Leaf}
 use Rattle.span_columns.specs.Picks.{picked_width}
-use Rattle.span_tablescan.specs.CellTests.{meets, IsWhetherPass}
+use Rattle.span_celltests.specs.CellTests.{meets, IsWhetherPass}
 use Rattle.span_tablescan.specs.Scans.{AreTestsWhere, IsTestOf}
 use Rattle.span_tablescan.proofs.ScannedRows.{counted_taken}
 use Rattle.span_tablescan.proofs.count.is_counted.Goals as goal

@@ -2,7 +2,7 @@ use Rattle.std.proofs.Common.{ℕ, Bool, true, List, Option, subst}
 use Rattle.std.proofs.lemmas.Result.{IfOk-weaker}
 use Rattle.span_expr.specs.declared.expr.Expr.{Expr}
 use Rattle.span_query.specs.Rows.{Row}
-use Rattle.span_rowreader.specs.Entries.{IsWhetherOf}
+use Rattle.span_entries.specs.Entries.{IsWhetherOf}
 use Rattle.span_tablescan.specs.Scans.{IsTestOf, IsAddedWhere}
 use Rattle.span_tablescan.proofs.ScannedRows.{own_taken}
 use Rattle.span_tablescan.proofs.scan.take_entry.Goals as goal

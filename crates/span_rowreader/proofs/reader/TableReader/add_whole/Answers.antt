@@ -11,7 +11,7 @@ use Rattle.span_columns.specs.Picks.{picked_width}
 use Rattle.span_rowreader.specs.Placed.{placed}
 use Rattle.span_rowreader.specs.Readers.{target}
 use Rattle.span_rowreader.proofs.NumberPlaces.{numbers_put}
-use Rattle.span_rowreader.proofs.PlacedRows.{others_placed}
+use Rattle.span_entries.proofs.OtherPlaces.{others_placed}
 use Rattle.span_rowreader.proofs.TargetRows.{row_picked}
 use Rattle.span_rowreader.proofs.reader.TableReader.add_whole.Goals as goal
 

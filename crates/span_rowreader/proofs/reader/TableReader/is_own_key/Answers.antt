@@ -1,5 +1,5 @@
 use Rattle.std.proofs.Common.{◌∙◌}
-use Rattle.span_rowreader.proofs.KeyLengths.{longer_key}
+use Rattle.span_entries.proofs.KeyLengths.{longer_key}
 use Rattle.span_rowreader.proofs.reader.TableReader.is_own_key.Goals as goal
 
 pub returns-then-key-self : goal.returns-then-key-self

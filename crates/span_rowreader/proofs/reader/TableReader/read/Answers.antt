@@ -8,10 +8,10 @@ use Rattle.span_schema.specs.Numbers.{other_kinds, other_places, key_places}
 use Rattle.span_keycode.specs.Keys.{IsKey, key_code}
 use Rattle.span_rowcode.specs.Rows.{IsRow}
 use Rattle.span_columns.specs.Picks.{picked_width}
-use Rattle.span_rowreader.specs.Meaning.{declared_row}
+use Rattle.span_entries.specs.Meaning.{declared_row}
 use Rattle.span_rowreader.specs.Placed.{placed}
 use Rattle.span_rowreader.specs.Readers.{target}
-use Rattle.span_rowreader.proofs.PlacedRows.{others_placed}
+use Rattle.span_entries.proofs.OtherPlaces.{others_placed}
 use Rattle.span_rowreader.proofs.TargetRows.{none_picked, row_picked}
 use Rattle.span_rowreader.proofs.reader.TableReader.read.Goals as goal
 

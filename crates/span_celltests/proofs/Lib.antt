@@ -1,0 +1,2 @@
+pub mod CellEnds
+pub mod CellTests

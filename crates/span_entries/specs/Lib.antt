@@ -1,0 +1,5 @@
+pub mod Meaning
+pub mod Entries
+pub mod Longest
+pub mod Steps
+pub mod WholeKeys

@@ -1,6 +1,0 @@
-use Rattle.span_rowreader.proofs.KeyLengths.{BoundedAt}
-use Rattle.span_rowreader.proofs.longest.longest_key.Given as goal
-
--- the columns so far
-abbrev pub invariant-loop-column : goal.invariant-loop-column
-invariant-loop-column l = BoundedAt l.schema l.table l.column-index l.most

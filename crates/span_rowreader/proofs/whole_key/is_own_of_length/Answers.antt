@@ -1,5 +1,0 @@
-use Rattle.span_rowreader.proofs.WholeKeys.{own_of_length}
-use Rattle.span_rowreader.proofs.whole_key.is_own_of_length.Goals as goal
-
-pub returns-then-len-at : goal.returns-then-len-at
-returns-then-len-at c = own_of_length c.args.schema.now c.args.table c.args.at.now c.requires c.args.len c.if-len-at.true

@@ -1,6 +1,0 @@
-use Rattle.span_tablescan.proofs.CellTests.{AreMetBefore}
-use Rattle.span_tablescan.proofs.cell_test.meets_all.Given as goal
-
--- those before are met
-abbrev pub invariant-loop-test : goal.invariant-loop-test
-invariant-loop-test l = AreMetBefore l.kinds l.bytes l.tests l.test-index
