@@ -6,6 +6,7 @@
     tests/edits.py [--jobs N] --gate        those that gate.txt names, over the libraries that `rt ci` has just built: it has proved the
                                             crates as they are, and nothing but the edited functions is proved again here
     tests/edits.py --built [CRATE ..]       every crate's edits, or these crates', over the libraries that `rt ci` has just built, as with --gate
+    tests/edits.py --texts                  tries none: whether each edit can be made, its old text standing in its file once
     --together N                            no more than N edits are tried by one check (12 where no number is given)
     --seconds N                             a check ends after N seconds of processor time, and then gives no verdict
     --minutes N                             no check begins after N minutes
@@ -77,6 +78,7 @@ def arguments():
     reader.add_argument("--jobs", type=int, default=os.cpu_count(), help="how many checks run at a time")
     reader.add_argument("--gate", action="store_true", help="the edits of the gate, after rt ci")
     reader.add_argument("--built", action="store_true", help="over the libraries that rt ci has just built")
+    reader.add_argument("--texts", action="store_true", help="only whether each edit can be made")
     reader.add_argument("--together", type=int, default=TOGETHER, metavar="N", help="how many edits are tried by one check at most")
     reader.add_argument("--seconds", type=int, metavar="N", help="the processor time after which a check ends without a verdict")
     reader.add_argument("--minutes", type=int, metavar="N", help="the time after which no check begins")
@@ -87,6 +89,8 @@ def arguments():
     found.ends = time.monotonic() + 60 * found.minutes if found.minutes else None
     if found.gate and (found.crates or found.built or found.left or found.new):
         reader.error("--gate takes no crates, and neither --built nor --left nor --new")
+    if found.texts and (found.crates or found.gate or found.built or found.left or found.new):
+        reader.error("--texts takes no crates, and no other choice of edits")
     for crate in found.crates:
         if crate not in crates_with_edits():
             reader.error(f"tests/edits has no edits of {crate}")
@@ -114,6 +118,12 @@ def edits_of_gate():
         crate, name = line.split("/")
         found.setdefault(crate, []).append(os.path.join(EDITS, crate, name + ".edit"))
     return found
+
+
+def wrong_texts(rt):
+    """A line for each edit, of all crates, that cannot be made: as where an old text does not stand in its file, or more than once."""
+    tried = ((edit, rt.read_edit(edit, os.path.join(TOP, "crates", crate))[1]) for crate in crates_with_edits() for edit in edits_of(crate))
+    return [f"edits: {verdicts.name_of(edit)}: {why}" for edit, why in tried if why]
 
 
 def toolchain():
@@ -511,6 +521,10 @@ def is_out_of_date(crate):
 
 def main():
     words, rt = arguments(), toolchain()
+    if words.texts:
+        wrong = wrong_texts(rt)
+        print("\n".join(wrong or ["edits: each can be made"]))
+        return int(bool(wrong))
     rt.rtlib.guarded()
     edits = edits_of_gate() if words.gate else {it: edits_of(it) for it in words.crates or crates_with_edits()}
     if words.left or words.new:
