@@ -1,5 +1,5 @@
 //! Answers, as they are written in a script's output.
-ghost use Rattle.std.specs.Prelude.{◌≡◌, ◌++◌, ◌∷◌, ◌<◌, ◌/◌, ◌%◌, ℕ, List, [], codes, length, nat_le, take, IfErr, OnOk, IfOk, IsOkUnless};
+ghost use Rattle.std.specs.Prelude.{◌≡◌, ◌++◌, ◌∷◌, ◌<◌, ◌/◌, ◌%◌, ℕ, List, [], codes, length, nat_le, take, IfErr, OnErr, OnOk, IfOk, IsOkUnless};
 ghost use Rattle.std.specs.Fmt.{decimal};
 ghost use Rattle.std.specs.Io.KnownBytes.{Appends};
 ghost use Rattle.span_answers.specs.Lines.{word_number, number_line, word_line, opened_line, end_text, slot_range, slot_times, slot_counts, slot_lines, shards_text, rows_lines, refused_line, reply_text, Begins};
@@ -73,10 +73,12 @@ impl Answers {
         self.bytes.truncate(len);
     }
 
-    /// Writes the answers out. `OutputFault` where the device failed: then a beginning of them was written.
+    /// Writes the answers out, after which there are none. `OutputFault` where the device failed: then a beginning of them was written, and all of
+    /// them are still here.
     pub fn write_to<O: OutputDevice>(&mut self, output: &mut O) -> Result<(), Refusal>
         ensures written { OnOk result
             ((self.new ≡ []) × Appends (O.written output.old) (O.written output.new) self.old) }
+        ensures kept { OnErr result (self.new ≡ self.old) }
         ensures ok { OnOk result (O.failures output.new ≡ O.failures output.old) }
         ensures err { IfErr result
             (λ why. (why ≡ Refusal.OutputFault) × (O.failures output.new ≡ risen (O.failures output.old))) }

@@ -67,8 +67,10 @@ impl Model for View {
     ghost view = { λ _. [] };
 }
 
+/// What a session, the holder of a slot and the keeper of the journal each know of the database.
 pub type DbSeat = Seat<Change, View>;
 
+/// The rule of the table (`specs/Rule.antt`): what those who have a seat know of the database stays true.
 pub struct Law;
 
 impl TableRule<Change, View, (u64, usize)> for Law {
@@ -148,6 +150,7 @@ impl Split<View> for Meet {
     ghost right = { first_of };
 }
 
+/// What all sessions of a database share without a lock: the table of their seats and the schema.
 #[derive(Drop)]
 pub struct Board<J: Naming> {
     pub table: Table<Change, View, (u64, usize), Law, Global>,

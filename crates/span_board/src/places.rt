@@ -1,15 +1,11 @@
 //! Where the mutations of a transaction lie, and the slots where it is prepared.
 ghost use Rattle.std.specs.Prelude.{◌≡◌, ◌≤◌, ◌<◌, length, IfSome};
-ghost use Rattle.std.specs.List.{list_any};
-ghost use Rattle.span_machine.specs.Machine.{holds, root_at};
 ghost use Rattle.span_machine.specs.Pieces.{machine_of};
 ghost use Rattle.span_board.specs.Places.{IsNext};
 
 use span_journal::journal::Journal;
-use span_machine::slot::SlotState;
-use span_mutate::directory::is_in_range;
-use span_mutate::mutation::CheckedMutation;
 use span_schema::schema::Schema;
+use span_transactions::choice::has_any;
 use span_transactions::slots::MOST_SLOTS;
 
 /// The slots where a transaction is prepared, by number.
@@ -36,18 +32,4 @@ pub fn next_with_mutations(
         }
     }
     None
-}
-
-/// Whether the directory of a mutation lies in the slot.
-fn has_any(schema: &Schema, slot_state: &SlotState, mutations: &[CheckedMutation]) -> bool
-    ensures { result ≡ list_any (λ m. holds schema.now slot_state.now (root_at schema.now m)) mutations.now }
-{
-    mutations.iter().any(|m| has(schema, slot_state, m))
-}
-
-#[tactic(auto, unfolding(span_machine::specs::Slots::root_code))]
-fn has(schema: &Schema, slot_state: &SlotState, mutation: &CheckedMutation) -> bool
-    ensures { result ≡ holds schema.now slot_state.now (root_at schema.now mutation.now) }
-{
-    is_in_range(schema, mutation, &slot_state.lo, &slot_state.hi)
 }

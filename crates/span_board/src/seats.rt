@@ -100,6 +100,7 @@ pub fn restate<J: Naming>(
     let shared = &board.table.shared;
     let change = Change::Restated(shard);
     shared.join_seat::<Meet>(seat, keeper.into_seat());
+    // Whether it exchanges does not matter: the word stays as it is, and the step says what the shard is now.
     shared.compare_exchange_with::<Restate>(seat, 0, 0, 0, &change);
     let keeper = shared.split_seat::<Meet>(seat).into_badge();
     (keeper, shard_in(change, board.alloc))

@@ -9,8 +9,10 @@ use crate::board::{Board, DbSeat, Look, Naming};
 use std::alloc::Global;
 use std::marker::{Model, PhantomData};
 
+/// A session of a database: what it has seen of the log, and what it has begun.
 #[derive(Drop)]
 pub struct Session<J: Naming> {
+    /// The number that its transactions have as their owner's.
     pub owner: u64,
     pub seat: DbSeat,
     pub begun: Vec<Begun>,

@@ -33,11 +33,7 @@ fn add_level(steps: &mut Vec<KeyStep>, table: usize, columns: &[KeyPart]) -> Res
 }
 
 /// The steps of a table's coded keys, from the root table's number on.
-pub fn key_steps(
-    alloc: Global,
-    schema: &Schema,
-    table: usize,
-) -> Result<Seq<KeyStep>, AllocError>
+pub fn key_steps(alloc: Global, schema: &Schema, table: usize) -> Result<Seq<KeyStep>, AllocError>
     requires { IsTable schema.now table }
     ensures { IfOk result (λ steps. steps ≡ spec.key_steps schema.now table) }
 {

@@ -7,10 +7,12 @@ ghost use Rattle.span_entries.specs.Entries.{IsWhetherOf};
 ghost use Rattle.span_entries.specs.WholeKeys as spec;
 ghost use Rattle.span_entries.specs.WholeKeys.{HasNumberAt, HasOtherLengths, IsDecided, IsNoLengthOf, IsOwnLength, IsTableByLength, IsWhetherOfLength, IsWholeKey};
 
-use span_keycode::key::LONGEST_KEY;
 use span_schema::layout::KeyPart;
 use span_schema::schema::Schema;
 use span_value::value::Kind;
+
+/// No table of a schema has more columns.
+const MOST_COLUMNS: usize = 64;
 
 /// The keys of a table without NULL, where all their columns are numbers.
 #[derive(Clone, Copy, Debug)]
@@ -47,11 +49,10 @@ pub fn whole_key(schema: &Schema, table: usize) -> Option<WholeKey>
 {
     let columns = schema.key_columns(table);
     let own = schema.own_key_columns(table);
-    // No schema has a table of as many columns.
-    if columns.len() > LONGEST_KEY {
+    if columns.len() > MOST_COLUMNS {
         return None;
     }
-    if own.len() > LONGEST_KEY {
+    if own.len() > MOST_COLUMNS {
         return None;
     }
     if !are_numbers(columns) {
@@ -161,12 +162,7 @@ pub fn own_length(schema: &Schema, table: usize) -> Option<WholeKey>
 
 /// Whether a coded key of `len` bytes is one of the table, where the length decides.
 #[tactic(auto, using(crate::proofs::WholeKeys::none_of_length))]
-pub fn is_own_of_length(
-    schema: &Schema,
-    table: usize,
-    at: &WholeKey,
-    len: usize,
-) -> Option<bool>
+pub fn is_own_of_length(schema: &Schema, table: usize, at: &WholeKey, len: usize) -> Option<bool>
     requires { IsOwnLength schema.now table at.now }
     ensures { IfSome result (IsWhetherOfLength schema.now table len) }
 {
@@ -183,12 +179,7 @@ pub fn is_own_of_length(
 
 /// Whether a coded key is one of the table, where the key's length and the byte at the place of the table's number decide.
 #[tactic(auto, using(crate::proofs::WholeKeys::other_length))]
-pub fn is_own_by_length(
-    schema: &Schema,
-    table: usize,
-    at: &WholeKey,
-    key: &[u8],
-) -> Option<bool>
+pub fn is_own_by_length(schema: &Schema, table: usize, at: &WholeKey, key: &[u8]) -> Option<bool>
     requires { IsTableByLength schema.now table at.now }
     ensures { IfSome result (IsWhetherOf schema.now table key.now) }
 {

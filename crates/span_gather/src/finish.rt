@@ -108,8 +108,9 @@ fn finish_in_threads<R: Threads + Sync>(
     }
 }
 
-/// The same, where the pieces are given away: rows that a query puts in order and answers as they are stay where they lie in the pieces, and are
-/// not copied.
+/// The rows of the query above the leaves, made from the pieces of each leaf, by at most `threads` threads. The pieces are given away: rows that
+/// a query puts in order and answers as they are stay where they lie in the pieces, and are not copied. `ArithmeticFault` where the query text
+/// means the fault, or `OutOfMemory`.
 pub fn finish_taken<R: Threads + Sync>(
     rt: &R,
     alloc: Global,

@@ -1,5 +1,5 @@
 -- Why a session's query is refused, by what the machine answers.
-use Rattle.std.proofs.Common.{◌≡◌, ◌⊎◌, ℕ, List, [], ◌∷◌, None, Result, Ok, Err, refl, sym, ap, subst, inl, inr}
+use Rattle.std.proofs.Common.{◌≡◌, ◌⊎◌, ℕ, List, [], ◌∷◌, Option, None, Result, Ok, Err, refl, sym, ap, subst, inl, inr}
 use Rattle.std.specs.Prelude.{IfErr, IfOk}
 use Rattle.atomic_table.specs.Seated.{TableId}
 use Rattle.span_value.specs.declared.refusal.Refusal.{Refusal}
@@ -15,20 +15,23 @@ use Rattle.span_gather.specs.Gathered.{gathered}
 use Rattle.span_gather.specs.declared.rows.Rows.{Rows as Found}
 use Rattle.span_truetime.specs.Time.{timestamp_of}
 use Rattle.span_machine.specs.declared.transaction.Commit.{Commit}
+use Rattle.span_machine.specs.declared.step.Reply.{Reply}
 use Rattle.span_machine.specs.declared.step.Reply.TheVariants as reply
 use Rattle.span_machine.specs.Machine.{Machine, Answer, Answers, refused, open_query, scan, finish}
 use Rattle.span_machine.specs.Pieces.{Journaled, machine_of}
+use Rattle.span_journal.specs.declared.journal.Gap.{Gap}
 use Rattle.span_journal.specs.declared.journal.Opened.{Opened}
+use Rattle.span_journal.specs.Judged.{IsGap}
 use Rattle.span_openqueries.specs.declared.taken.Taken.{Taken}
 use Rattle.span_parts.specs.Replies.{as_reply, opened_reply}
 use Rattle.span_board.specs.declared.board.Role.{Role}
 use Rattle.span_locks.specs.Held.{IsKeeper}
 use Rattle.span_board.specs.Known.{Known}
 use Rattle.span_board.specs.Rule.{known_at}
-use Rattle.span_locks.specs.Replies.{MayReply, IsAmong}
+use Rattle.span_locks.specs.Replies.{IsMachineOf, MayReply, IsAmong}
 use Rattle.span_locks.specs.Refusing.{IsUnopened, IsUnscanned, IsEndRefused, IsFault, IsFaultOf, IsUnfinished, IsQueryRefusal}
 use Rattle.span_locks.proofs.Refusals.{refused_same}
-use Rattle.span_locks.proofs.Replying.{answers_may, replies, may_reply}
+use Rattle.span_locks.proofs.Replying.{answers_may, machine_goes, replies, may_reply}
 
 module _ (schema other : List Table) (table here : TableId) (views : List (List Role)) (j : Journaled) (same : other ≡ schema) (keeper : IsKeeper schema table here views j) where
   -- a scan that is refused
@@ -47,15 +50,27 @@ module _ (schema other : List Table) (table here : TableId) (views : List (List 
         refused = (known_at views, replies schema table here views j keeper (known_at views) refl (λ m. scan m query leaf slot interval) (reply.Refused why) f);
       })
 
+  -- what an Open is answered
+  pub open_replies : (known : Known) → known_at views ≡ known → (q : Statement) (text : List ℕ) (params : List Parameter) (bound : Bound) (interval : Interval) (r : Reply) (k : Machine)
+      → Answers (machine_of j) (open_query other (machine_of j) (Ok q) text params bound interval) r k
+      → MayReply schema known (λ m. open_query schema m (Ok q) text params bound interval) r
+  open_replies known is q text params bound interval r k e =
+      may_reply schema table here views j keeper known is (λ m. open_query schema m (Ok q) text params bound interval) r
+      (subst (λ (s : List Table). (r ≡ reply.Refused refusal.OutOfMemory) ⊎ (r ≡ (open_query s (machine_of j) (Ok q) text params bound interval).0)) same
+      (answers_may (machine_of j) (open_query other (machine_of j) (Ok q) text params bound interval) r k e))
+
+  -- what may be read for a scan
+  pub claimed_gap : (known : Known) → known_at views ≡ known → (query leaf slot : ℕ) (interval : Interval) (r : Result (Option Gap) Refusal) → IfOk r (λ gap. IsGap (machine_of j) query leaf slot interval gap)
+      → IfOk r (λ gap. (m : Machine) × IsMachineOf schema known m × IsGap m query leaf slot interval gap)
+  claimed_gap known is query leaf slot interval (Ok gap) e = (machine_of j, machine_goes schema table here views j keeper known is, e)
+  claimed_gap known is query leaf slot interval (Err why) e = tt
+
   -- an Open that is refused
   pub open_refused : (known : Known) → known_at views ≡ known → (q : Statement) (text : List ℕ) (params : List Parameter) (bound : Bound) (interval : Interval) (r : Result Opened Refusal) (k : Machine)
       → Answers (machine_of j) (open_query other (machine_of j) (Ok q) text params bound interval) (as_reply opened_reply r) k
       → IfErr r (λ why. MayReply schema known (λ m. open_query schema m (Ok q) text params bound interval) (reply.Refused why))
   open_refused known is q text params bound interval (Ok o) k e = tt
-  open_refused known is q text params bound interval (Err why) k e =
-      may_reply schema table here views j keeper known is (λ m. open_query schema m (Ok q) text params bound interval) (reply.Refused why)
-      (subst (λ (s : List Table). (reply.Refused why ≡ reply.Refused refusal.OutOfMemory) ⊎ (reply.Refused why ≡ (open_query s (machine_of j) (Ok q) text params bound interval).0)) same
-      (answers_may (machine_of j) (open_query other (machine_of j) (Ok q) text params bound interval) (reply.Refused why) k e))
+  open_refused known is q text params bound interval (Err why) k e = open_replies known is q text params bound interval (reply.Refused why) k e
 
   -- a query's end that is refused
   pub end_refused : {A : Type 0} (query : ℕ) (r : Result A Refusal) → IfErr r (λ why. finish other (machine_of j) query ≡ refused (machine_of j) why) → IfErr r (IsEndRefused schema)

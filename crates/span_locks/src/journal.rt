@@ -8,11 +8,11 @@ ghost use Rattle.span_binder.specs.Understands.{Understands};
 ghost use Rattle.span_gather.specs.Gathered.{gathered};
 ghost use Rattle.span_query.specs.Rows.{Row};
 ghost use Rattle.span_machine.specs.declared.transaction.OpenTransaction.{OpenTransaction};
-ghost use Rattle.span_machine.specs.Machine.{Machine, is_transaction, advance, begin, decide, open_query, split_at};
+ghost use Rattle.span_machine.specs.Machine.{Machine, is_transaction, advance, begin, close, decide, open_query, split_at};
 ghost use Rattle.span_machine.specs.Pieces.{machine_of};
 ghost use Rattle.span_machine.specs.declared.step.Reply.TheVariants as reply_of;
-ghost use Rattle.span_journal.specs.Judged.{MaySplit};
-ghost use Rattle.span_parts.specs.Replies.{as_reply, decision_reply};
+ghost use Rattle.span_journal.specs.Judged.{IsGap, MaySplit};
+ghost use Rattle.span_parts.specs.Replies.{as_reply, decision_reply, opened_reply};
 ghost use Rattle.span_locks.specs.Answers.{IsAnswered};
 ghost use Rattle.span_locks.specs.Refusing.{IsUnscanned, IsFault, IsEndRefused};
 ghost use Rattle.span_locks.specs.Held.{IsKeeper};
@@ -308,6 +308,9 @@ impl<J: Naming> LockedJournal<J> {
         requires understood { Understands J.schema text params (Ok statement) }
         requires plannable { IsPlannable J.schema statement }
         ensures same { self.new ≡ self.old }
+        ensures reply { MayReply J.schema self.old
+            (λ m. open_query J.schema m (Ok statement) text params bound interval)
+            (as_reply opened_reply result) }
         ensures s { IfOk result (λ opened. opened.s ≡ timestamp_of bound interval) }
         ensures refused { IfErr result
             (λ why. MayReply J.schema self.old
@@ -336,6 +339,11 @@ impl<J: Naming> LockedJournal<J> {
         interval: Interval,
     ) -> Result<Option<Gap>, Refusal>
         ensures same { self.new ≡ self.old }
+        ensures gap { IfOk result
+            (λ gap.
+            (m : Machine)
+            × IsMachineOf J.schema self.old m
+            × IsGap m query leaf number interval gap) }
         ensures refused { IfErr result (IsUnscanned J.schema) }
     {
         slot::claim(
@@ -373,9 +381,10 @@ impl<J: Naming> LockedJournal<J> {
         ends::take(&board.schema, &mut self.journal, query)
     }
 
-    /// Closes a query.
+    /// Closes a query. `UnknownQuery` where it is not open.
     pub fn close(&mut self, board: &Board<J>, query: u64) -> Result<(), Refusal>
-        ensures { self.new ≡ self.old }
+        ensures same { self.new ≡ self.old }
+        ensures reply { Replies J.schema self.old (λ m. close m query) (as_reply (λ _. reply_of.Closed) result) }
     {
         steps::close(&board.schema, &mut self.journal, query)
     }

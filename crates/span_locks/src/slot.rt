@@ -1,7 +1,7 @@
 //! What lies under a slot's lock: its shard, and the seat that knows it.
-ghost use Rattle.std.specs.Prelude.{◌≡◌, ◌∷◌, [], ◌==◌, ◌≤◌, ◌<◌, ℕ, true, false, List, IfOk, IfErr, IfSome, length};
+ghost use Rattle.std.specs.Prelude.{◌≡◌, ◌∷◌, [], ◌==◌, ◌≤◌, ◌<◌, ℕ, true, false, List, Ok, IfOk, IfErr, IfSome, length};
 ghost use Rattle.span_params.specs.declared.params.Parameter.{Parameter};
-ghost use Rattle.span_machine.specs.Machine.{prepare, apply_step, trim, split_at, refused};
+ghost use Rattle.span_machine.specs.Machine.{prepare, apply_step, scan, trim, split_at, refused};
 ghost use Rattle.span_machine.specs.Pieces.{machine_of};
 ghost use Rattle.span_machine.specs.declared.step.Reply.TheVariants as reply_of;
 ghost use Rattle.span_journal.specs.Judged.{MaySplit};
@@ -277,6 +277,8 @@ impl<J: Naming> LockedSlot<J> {
         requires leaf { IsLeafOf J.schema text.now params.now place leaf.now top.now }
         requires read { IsRead J.schema self.old.versions gap.now.range gap.now.s leaf.now top.now place piece }
         ensures same { (self.new ≡ self.old) × (journal.new ≡ journal.old) }
+        ensures scanned { result ≡ Ok true
+            → Replies J.schema journal.old (λ m. scan m query place self.old.number interval) reply_of.Scanned }
         ensures refused { IfErr result (IsUnscanned J.schema) }
     {
         if !is_used(&journal.journal, self.number) {

@@ -91,8 +91,8 @@ impl RecordLayout {
         layout_at(alloc, schema, number, table, schema.key_places(number))
     }
 
-    /// The mutation of a record. `WrongType`: a wrong number of fields, or a field that is no cell of its column's type.
-    pub fn mutation(
+    /// The mutation of a record's fields. `WrongType`: a wrong number of fields, or a field that is no cell of its column's type.
+    fn mutation(
         &self,
         alloc: Global,
         kind: MutationKind,
@@ -109,8 +109,9 @@ impl RecordLayout {
         self.mutation_of(alloc, kind, fields.as_slice())
     }
 
-    /// The mutation of the record that a text is, as `mutation` makes it of the fields that `csv` reads. A text whose fields are its pieces
-    /// between commas is not copied; `fields` is for the others, and what it then holds means nothing.
+    /// The mutation of the record that a text is, of the fields that `csv` reads. `WrongType`: a wrong number of fields, or a field that is no
+    /// cell of its column's type. A text whose fields are its pieces between commas is not copied; `fields` is for the others, and what it
+    /// then holds means nothing.
     pub fn read_mutation(
         &self,
         alloc: Global,

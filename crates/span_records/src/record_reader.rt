@@ -2,10 +2,10 @@
 ghost use Rattle.std.specs.Prelude.{◌≡◌, ◌<◌, ◌++◌, [], ◌∷◌, length, true, false, if◌then◌else◌, IfOk, IfSome, OnOk, MatchOption, IsOkUnless};
 ghost use Rattle.csv.specs.Reading.{strip_bom};
 ghost use Rattle.csv.specs.Records.{fields_of};
-ghost use Rattle.span_records.specs.Record.{pieces, record_fields, texts, is_special, IsFree, IsPlain, IsUnmarked};
+ghost use Rattle.span_records.specs.Record.{pieces, record_fields, texts, is_special, IsFree, IsUnmarked};
 
 use csv::{Error, ReaderBuilder, StringRecord};
-use memchr::{memchr, memchr3};
+use memchr::memchr;
 use smallvec::SmallVec;
 use span_value::refusal::Refusal;
 use std::alloc::{AllocError, Global};
@@ -21,16 +21,17 @@ const MARK: u8 = 0xef;
 
 /// Reads the fields of the record that a text is, as `csv` reads it. There are none where the text reads as no record, or as more than
 /// one. `OutOfMemory` is the only refusal; what `fields` then holds means nothing.
-pub fn read_fields(alloc: Global, text: &str, fields: &mut StringRecord) -> Result<(), Refusal>
+pub(crate) fn read_fields(
+    alloc: Global,
+    text: &str,
+    fields: &mut StringRecord,
+) -> Result<(), Refusal>
     ensures fields { OnOk result (fields_of fields.new ≡ record_fields text.now) }
     ensures memory { IsOkUnless result Refusal.OutOfMemory }
 {
     fields.clear();
     if text.is_empty() {
         return Ok(());
-    }
-    if is_plain(text) {
-        return Ok(cut_at_commas(text, fields)?);
     }
     match read_alone(alloc, text, fields) {
         Ok(true) => Ok(()),
@@ -132,14 +133,6 @@ pub(crate) fn lent_fields(alloc: Global, fields: &StringRecord) -> Result<Texts<
     Ok(found)
 }
 
-/// Whether the text has no quote, no CR, no LF and no byte order mark at its front: then its fields are its pieces between commas.
-fn is_plain(text: &str) -> bool
-    ensures { (result ≡ true) → IsPlain text.now }
-{
-    let bytes = text.as_bytes();
-    memchr3(b'"', b'\r', b'\n', bytes).is_none() && !may_be_marked(bytes)
-}
-
 /// Whether the first byte is that of a byte order mark.
 fn may_be_marked(bytes: &[u8]) -> bool
     ensures { (result ≡ false) → strip_bom bytes.now ≡ bytes.now }
@@ -150,20 +143,8 @@ fn may_be_marked(bytes: &[u8]) -> bool
     }
 }
 
-/// Adds the pieces of the text between its commas as fields: one more than it has commas.
-fn cut_at_commas(text: &str, fields: &mut StringRecord) -> Result<(), AllocError>
-    ensures { OnOk result (fields_of fields.new ≡ fields_of fields.old ++ pieces text.now) }
-{
-    let mut rest = text;
-    while let Some((piece, following)) = at_comma(rest) {
-        fields.push_field(piece)?;
-        rest = following;
-    }
-    fields.push_field(rest)
-}
-
 /// What is before the first comma and after it; None where there is no comma.
-pub fn at_comma(text: &str) -> Option<(&str, &str)>
+pub(crate) fn at_comma(text: &str) -> Option<(&str, &str)>
     ensures cut { MatchOption result (pieces text.now ≡ text.now ∷ [])
         (λ x. pieces text.now ≡ x.0.now ∷ pieces x.1.now) }
     ensures shorter { IfSome result (λ x. length x.1.now < length text.now) }

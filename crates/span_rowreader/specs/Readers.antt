@@ -17,7 +17,7 @@ use Rattle.span_entries.specs.Longest.{IsLongest}
 use Rattle.span_rowreader.specs.Placed.{is_wanted, wants_none}
 use Rattle.span_rowreader.specs.Reads.{AreReadsOf}
 use Rattle.span_entries.specs.Steps.{key_steps}
-use Rattle.span_entries.specs.WholeKeys.{IsOwnLength, IsTableByLength}
+use Rattle.span_entries.specs.WholeKeys.{IsTableByLength}
 
 -- the place of a column among those that the mask has, or a place after all of them
 abbrev pub target : List Bool → ℕ → ℕ
@@ -28,7 +28,6 @@ pub record IsReader (schema : List Table) (r : TableReader) : Type 0 where
   pub narrow : length r.mask ≤ width_of schema r.table
   pub longest : IsLongest schema r.table r.most
   pub by_length : IfSome r.by_length (IsTableByLength schema r.table)
-  pub own_length : IfSome r.own_length (IsOwnLength schema r.table)
   pub steps : r.steps ≡ key_steps schema r.table
   pub all : r.all ≡ replicate (picked_width r.mask) true
   pub reads : AreReadsOf schema r.table (map (target r.mask) (key_places schema r.table)) r.all r.reads

@@ -1,5 +1,5 @@
 //! Reading of a table's rows, of the columns alone that a mask has: a value is put at its place among these, and no other is made.
-ghost use Rattle.std.specs.Prelude.{◌≡◌, ◌≤◌, ◌⊎◌, IfOk, IfSome, OnOk, MatchResult, drop, is_some, length, map, replicate, take, true, ◌<◌, set};
+ghost use Rattle.std.specs.Prelude.{◌≡◌, ◌≤◌, ◌⊎◌, IfOk, OnOk, MatchResult, drop, length, map, replicate, take, true, ◌<◌, set};
 ghost use Rattle.span_value.specs.declared.value.Value.TheVariants.{Null};
 ghost use Rattle.span_schema.specs.Numbers.{IsTable, key_places};
 ghost use Rattle.span_leaves.specs.Leaves.{width_of};
@@ -10,7 +10,6 @@ ghost use Rattle.span_rowreader.specs.KeyNumbers.{AreKeyNumbers};
 ghost use Rattle.span_rowreader.specs.Placed.{IsKeyPut, IsNoRowOf, wants_none};
 ghost use Rattle.span_rowreader.specs.Reads.{AreReadsOf};
 ghost use Rattle.span_entries.specs.Steps.{key_steps};
-ghost use Rattle.span_entries.specs.WholeKeys.{IsWhetherOfLength};
 ghost use Rattle.span_rowreader.specs.Readers as spec;
 ghost use Rattle.span_rowreader.specs.Readers.{IsReader, ArePickedOf};
 
@@ -22,7 +21,7 @@ use super::reads::{KeyRead, key_reads, put_key};
 use span_columns::narrow::picked_width;
 use span_entries::longest::longest_key;
 use span_entries::steps::{KeyStep, goes_along, key_steps};
-use span_entries::whole_key::{WholeKey, is_own_by_length, is_own_of_length, own_length, table_by_length};
+use span_entries::whole_key::{WholeKey, is_own_by_length, table_by_length};
 use span_expr::rank::rank;
 use span_leaves::table::width_of;
 use span_rows::row_list::RowList;
@@ -38,10 +37,8 @@ pub struct TableReader {
     pub table: usize,
     /// A number of bytes that no coded key of the table exceeds.
     pub most: usize,
-    /// Its keys without NULL, where the length of a key and one byte of it decide whether it is one of the table.
+    /// Its keys without NULL, where the length of a key and two bytes of it decide whether it is one of the table.
     by_length: Option<WholeKey>,
-    /// The same, where the length alone decides.
-    own_length: Option<WholeKey>,
     /// The steps of its coded keys.
     steps: Seq<KeyStep>,
     /// The columns that are read.
@@ -88,11 +85,7 @@ fn all_of(alloc: Global, mask: &[bool]) -> Result<Seq<bool>, AllocError>
 fn copy_mask(alloc: Global, mask: &[bool]) -> Result<Seq<bool>, AllocError>
     ensures { IfOk result (λ copy. copy ≡ mask.now) }
 {
-    let mut copy = Vec::with_capacity(alloc, mask.len())?;
-    for has in mask {
-        copy.push(*has)?;
-    }
-    Ok(Seq::from_vec(copy))
+    Ok(Seq::from_vec(mask.to_vec(alloc)?))
 }
 
 /// How many places there are up to the last that is wanted.
@@ -169,7 +162,6 @@ pub fn table_reader(
         table,
         most: longest_key(schema, table),
         by_length: table_by_length(schema, table),
-        own_length: own_length(schema, table),
         steps,
         mask: copy_mask(alloc, front)?,
         all,
@@ -235,25 +227,6 @@ fn refill(row: &mut Vec<Value>, len: usize) -> Result<(), AllocError>
 }
 
 impl TableReader {
-    /// Whether the length of a key without NULL decides whether it is one of the table.
-    pub fn has_own_length(&self) -> bool
-        ensures { result ≡ is_some self.now.own_length }
-    {
-        self.own_length.is_some()
-    }
-
-    /// Whether a coded key of `len` bytes is one of the table, where its length decides. It takes no allocation.
-    pub fn is_own_length(&self, schema: &Schema, len: usize) -> Option<bool>
-        requires table { IsTable schema.now self.now.table }
-        requires reader { IsReader schema.now self.now }
-        ensures { IfSome result (IsWhetherOfLength schema.now self.now.table len) }
-    {
-        match &self.own_length {
-            None => None,
-            Some(at) => is_own_of_length(schema, self.table, at, len),
-        }
-    }
-
     /// Whether a coded key is one of the table. It takes no allocation.
     pub fn is_own_key(&self, schema: &Schema, key: &[u8]) -> bool
         requires table { IsTable schema.now self.now.table }

@@ -1,4 +1,5 @@
-//! A query as a session asks it: its query text is understood, planned and compared while no lock is held.
+//! A query as a session asks it: its query text is understood, planned and compared while no lock is held. (The journal plans it once more, under
+//! its lock, when it is opened.)
 ghost use Rattle.std.specs.Prelude.{◌≡◌, ◌⊎◌, ◌∷◌, [], true, IfOk, IfErr, Ok, Err, Some, slice_get};
 ghost use Rattle.std.specs.Option.{option_copied};
 ghost use Rattle.span_gather.specs.Gathered.{gathered};

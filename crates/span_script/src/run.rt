@@ -20,8 +20,9 @@ use std::alloc::Global;
 /// is written before more of the script is read.
 ///
 /// A refused command is answered `refused N` and reported, and the script goes on. `InputFault` and `OutputFault` where
-/// a device failed, `OutOfMemory` where memory runs out for a line or an answer: what was written is then a beginning
-/// of the answers to the lines that were read.
+/// a device failed, `OutOfMemory` where memory runs out for a line, or at first for the buffer of answers: what was
+/// written is then a beginning of the answers to the lines that were read. Where memory runs out for an answer, its
+/// command is refused 90.
 pub fn run<I: InputDevice, O: OutputDevice, R: Reports>(
     alloc: Global,
     input: &mut I,

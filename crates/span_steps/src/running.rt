@@ -35,7 +35,7 @@ pub struct RunningScript {
     gathered: Vec<MutationBatch>,
     /// The load whose lines are read.
     pub load: Option<Load>,
-    /// The fields of the last record.
+    /// For records that are not their pieces between commas; what it holds between records means nothing.
     fields: StringRecord,
 }
 

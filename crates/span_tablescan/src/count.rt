@@ -1,9 +1,10 @@
 //! Rows of no values, of a leaf of one table all of whose condition is tested at the packed cells: they are counted, and none is read.
-ghost use Rattle.std.specs.Prelude.{◌≡◌, ◌++◌, ◌∷◌, [], List, Ok, IfOk, replicate, true, if◌then◌else◌};
+ghost use Rattle.std.specs.Prelude.{◌≡◌, ◌++◌, ◌∷◌, [], List, Ok, IfOk, IfSome, replicate, true, if◌then◌else◌};
 ghost use Rattle.span_schema.specs.Numbers.{IsTable};
 ghost use Rattle.span_query.specs.Rows.{Row};
 ghost use Rattle.span_columns.specs.Picks.{picked_width};
 ghost use Rattle.span_entries.specs.Entries.{IsWhetherOf};
+ghost use Rattle.span_entries.specs.WholeKeys.{IsOwnLength};
 ghost use Rattle.span_rowreader.specs.Readers.{IsReader};
 ghost use Rattle.span_tablescan.specs.Given.{IsKeptOn};
 ghost use Rattle.span_tablescan.specs.Scans.{IsCount, IsScan, IsTakenBy};
@@ -11,6 +12,7 @@ ghost use Rattle.span_tablescan.specs.Scans.{IsCount, IsScan, IsTakenBy};
 use super::scan::{TableScan, Test};
 use span_celltests::cell_test::meets_all;
 use span_columns::narrow::picked_width;
+use span_entries::whole_key::{WholeKey, is_own_of_length, own_length};
 use span_rowreader::reader::TableReader;
 use span_rows::row_list::RowList;
 use span_schema::schema::Schema;
@@ -27,24 +29,39 @@ pub(crate) fn is_count(scan: &TableScan<'_>) -> bool
     }
 }
 
-/// Whether an entry is one of the reader's table. Its key is looked at only where the key's length does not decide.
+/// Whether an entry is one of the reader's table. Its key is looked at only where the key's length does not decide. `own` is the length that
+/// decides, where one does.
 #[tactic(auto, using(crate::proofs::ScannedRows::own_by_length))]
-fn is_own(schema: &Schema, reader: &TableReader, entry: &LateEntry<'_>) -> bool
+fn is_own(
+    schema: &Schema,
+    reader: &TableReader,
+    own: &Option<WholeKey>,
+    entry: &LateEntry<'_>,
+) -> bool
     requires table { IsTable schema.now reader.now.table }
     requires reader { IsReader schema.now reader.now }
+    requires own { IfSome own.now (IsOwnLength schema.now reader.now.table) }
     ensures { IsWhetherOf schema.now reader.now.table entry.now.key result }
 {
-    match reader.is_own_length(schema, entry.key_len()) {
-        Some(is_own) => is_own,
-        None => reader.is_own_key(schema, entry.entry().key),
+    if let Some(whole) = own {
+        if let Some(is_own) = is_own_of_length(schema, reader.table, whole, entry.key_len()) {
+            return is_own;
+        }
     }
+    reader.is_own_key(schema, entry.entry().key)
 }
 
 /// Whether an entry is a row of the scan's table that is kept.
-fn is_counted(schema: &Schema, scan: &TableScan<'_>, entry: &LateEntry<'_>) -> bool
+fn is_counted(
+    schema: &Schema,
+    scan: &TableScan<'_>,
+    own: &Option<WholeKey>,
+    entry: &LateEntry<'_>,
+) -> bool
     requires table { IsTable schema.now scan.now.reader.table }
     requires scan { IsScan schema.now scan.now }
     requires count { IsCount scan.now }
+    requires own { IfSome own.now (IsOwnLength schema.now scan.now.reader.table) }
     ensures { (rows : List Row)
         → IsTakenBy schema.now scan.now entry.now.key entry.now.row (Ok tt) rows
         (if result then rows ++ [] ∷ [] else rows) }
@@ -57,24 +74,26 @@ fn is_counted(schema: &Schema, scan: &TableScan<'_>, entry: &LateEntry<'_>) -> b
     ) {
         return false;
     }
-    is_own(schema, reader, entry)
+    is_own(schema, reader, own, entry)
 }
 
 /// A number of rows, and one more where an entry is a row of the scan's table that is kept. The only error is that it is none of 64 bits.
 fn count_entry(
     schema: &Schema,
     scan: &TableScan<'_>,
+    own: &Option<WholeKey>,
     entry: &LateEntry<'_>,
     count: usize,
 ) -> Result<usize, AllocError>
     requires table { IsTable schema.now scan.now.reader.table }
     requires scan { IsScan schema.now scan.now }
     requires count { IsCount scan.now }
+    requires own { IfSome own.now (IsOwnLength schema.now scan.now.reader.table) }
     ensures { IfOk result
         (λ more. IsTakenBy schema.now scan.now entry.now.key entry.now.row (Ok tt) (replicate count [])
         (replicate more [])) }
 {
-    if !is_counted(schema, scan, entry) {
+    if !is_counted(schema, scan, own, entry) {
         return Ok(count);
     }
     count.checked_add(1).ok_or(AllocError)
@@ -91,11 +110,12 @@ fn count_rows(
     requires count { IsCount scan.now }
     ensures { IfOk result (λ count. IsKeptOn schema.now scan.now.leaf.now snapshot.entry (Ok (replicate count []))) }
 {
+    let own = own_length(schema, scan.reader.table);
     let mut count = 0;
     let mut entries = snapshot.with_short_keys(scan.reader.most);
-    entries.look_at_keys(!scan.reader.has_own_length());
+    entries.look_at_keys(own.is_none());
     while let Some(entry) = entries.next_late() {
-        count = count_entry(schema, scan, &entry, count)?;
+        count = count_entry(schema, scan, &own, &entry, count)?;
     }
     Ok(count)
 }

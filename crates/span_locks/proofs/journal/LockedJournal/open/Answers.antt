@@ -1,8 +1,9 @@
 use Rattle.span_machine.specs.Pieces.{machine_of}
+use Rattle.span_parts.specs.Replies.{as_reply, opened_reply}
 use Rattle.span_parts.proofs.Passing.{passed_opened, opened_at}
 use Rattle.span_locks.specs.Held.{IsUnderstoodAs}
 use Rattle.span_locks.proofs.Held.{keeper_goes}
-use Rattle.span_locks.proofs.Refusing.{open_refused}
+use Rattle.span_locks.proofs.Refusing.{open_refused, open_replies}
 use Rattle.span_locks.proofs.journal.LockedJournal.open.Goals as goal
 
 pub invariant_of-self : goal.invariant_of-self
@@ -14,6 +15,13 @@ invariant_of-self g c =
     keeper_goes schema board.schema g.J.Naming.table here.badge.table_id here.badge.views here.journal board.schema_is c.self.invariant k
     (passed_opened (IsUnderstoodAs schema) board.schema (machine_of here.journal) c.self.invariant.asked c.args.statement c.args.text c.args.params c.args.bound c.args.interval c.requires.understood _ (machine_of k) c.open.ensures.step)
     c.open.ensures.whole
+
+pub returns-clause-reply : goal.returns-clause-reply
+returns-clause-reply g c =
+    let schema = g.J.Naming.schema in
+    let here = c.self.inside in
+    let board = c.args.board.now in
+    open_replies schema board.schema g.J.Naming.table here.badge.table_id here.badge.views here.journal board.schema_is c.self.invariant c.args.self.now c.self.view_is c.args.statement c.args.text c.args.params c.args.bound c.args.interval (as_reply opened_reply c.open.result) (machine_of c.open.new.journal) c.open.ensures.step
 
 pub returns-clause-s : goal.returns-clause-s
 returns-clause-s g c =

@@ -1,7 +1,8 @@
-use Rattle.std.proofs.Common.{List, sym, ap, ◌∙◌, subst}
+use Rattle.std.proofs.Common.{ℕ, List, sym, ap, ◌∙◌, subst}
 use Rattle.span_schema.specs.declared.table.Table.{Table}
 use Rattle.span_parts.specs.Whole.{IsRead, IsReadFor}
 use Rattle.span_machine.specs.declared.step.Step.TheVariants as step
+use Rattle.span_machine.specs.Machine.{Machine, scan}
 use Rattle.span_machine.specs.Pieces.{machine_of}
 use Rattle.span_machine.specs.declared.step.Reply.TheVariants as reply
 use Rattle.span_parts.proofs.Passing.{passed_register}
@@ -12,6 +13,8 @@ use Rattle.span_locks.proofs.Held.{slot_belongs, own_read, keeper_stays}
 use Rattle.span_locks.proofs.Restating.{slot_known}
 use Rattle.span_board.proofs.Meets.{holder_shape, keeper_shape}
 use Rattle.span_locks.proofs.Refusing.{scan_unscanned}
+use Rattle.span_locks.proofs.Replying.{replies}
+use Rattle.span_locks.specs.Replies.{Replies}
 use Rattle.span_locks.proofs.slot.LockedSlot.register.Goals as goal
 
 pub agree-requires-clause-tables : goal.agree-requires-clause-tables
@@ -67,3 +70,11 @@ returns-clause-refused g c =
     let j = c.journal.inside in
     let board = c.args.board.now in
     scan_unscanned schema board.schema g.J.Naming.table j.badge.table_id j.badge.views j.journal board.schema_is c.journal.invariant c.args.query c.args.place me.number c.args.interval c.register.result (machine_of c.register.new.journal) c.register.ensures.refused
+
+pub returns-clause-scanned : goal.returns-clause-scanned
+returns-clause-scanned g c = λ is.
+    let schema = g.J.Naming.schema in
+    let me = c.self.inside in
+    let j = c.journal.inside in
+    subst (λ (n : ℕ). Replies schema c.args.journal.now (λ (m : Machine). scan m c.args.query c.args.place n c.args.interval) reply.Scanned) (ap (λ (k : SlotVersions). k.number) c.self.view_is)
+    (replies schema g.J.Naming.table j.badge.table_id j.badge.views j.journal c.journal.invariant c.args.journal.now c.journal.view_is (λ (m : Machine). scan m c.args.query c.args.place me.number c.args.interval) reply.Scanned (c.register.ensures.scanned is).0)
