@@ -5,6 +5,7 @@ ghost use Rattle.span_core.specs.Histories.{IsStep};
 ghost use Rattle.span_core.specs.Promises.{IsRunTo, Promises, IsConsistent};
 ghost use Rattle.span_core.specs.Views.{IsView};
 ghost use Rattle.span_binder.specs.Understands.{Understands};
+ghost use Rattle.span_openqueries.specs.Planned.{IsPlanned};
 ghost use Rattle.span_schema.specs.Lineages.{MeetsRules};
 ghost use Rattle.span_machine.specs.Machine.{start};
 ghost use Rattle.span_machine.specs.Run.{IsChecked, IsOfSchema};
@@ -23,6 +24,7 @@ use span_checking::transaction::Transaction;
 use span_journal::journal::Journal;
 use span_keycode::laws::are_values;
 use span_machine::step::{Reply, Step, Verdict};
+use span_openqueries::planned::{PlannedQuery, planned_query};
 use span_params::params::Params;
 use span_parts::{cut, steps};
 use span_query::query::Statement;
@@ -288,13 +290,31 @@ impl Core {
             (step_of.Open text params bound interval) result self.new.machine }
         ensures schema { self.new.schema ≡ self.old.schema }
     {
+        match planned_query(alloc, &self.schema, text, params, statement) {
+            Ok(query) => self.open_planned(alloc, query, bound, interval),
+            Err(_) => Reply::Refused(Refusal::OutOfMemory),
+        }
+    }
+
+    /// Opens a query that was planned.
+    fn open_planned(
+        &mut self,
+        alloc: Global,
+        query: PlannedQuery,
+        bound: Bound,
+        interval: Interval,
+    ) -> Reply
+        requires understood { Understands self.old.schema query.text query.params (Ok query.statement) }
+        requires planned { IsPlanned self.old.schema query }
+        ensures steps { IsStep self.old.schema self.old.machine
+            (step_of.Open query.text query.params bound interval) result self.new.machine }
+        ensures schema { self.new.schema ≡ self.old.schema }
+    {
         open_reply(steps::open(
             alloc,
             &self.schema,
             &mut self.journal,
-            text,
-            params,
-            statement,
+            query,
             bound,
             interval,
         ))

@@ -4,24 +4,14 @@ ghost use Rattle.span_gather.specs.Explained.{explained};
 ghost use Rattle.span_machine.specs.Machine.{statement_plan};
 ghost use Rattle.span_planner.specs.Plannable.{IsPlannable};
 
-use span_columns::leaf::Plan;
 use span_gather::explain::explain;
-use span_planner::plan::plan;
+use span_openqueries::planned::plan_statement;
 use span_query::query::Statement;
 use span_schema::schema::Schema;
 use span_value::owned::give_after;
 use span_value::refusal::Refusal;
 use span_value::text::Text;
-use std::alloc::{AllocError, Global};
-
-/// The plan of a statement that can be planned. The error is out of memory.
-#[tactic(auto, using(span_planner::proofs::SizedNumbers::sized_numbered))]
-fn plan_statement(alloc: Global, schema: &Schema, statement: &Statement) -> Result<Plan, AllocError>
-    requires { IsPlannable schema.now statement.now }
-    ensures { IfOk result (λ plan. plan ≡ statement_plan schema.now statement.now) }
-{
-    plan(alloc, schema, statement.leaves.as_slice(), &statement.query)
-}
+use std::alloc::Global;
 
 /// The text that explains the plan of a statement that can be planned. `OutOfMemory` is the only refusal.
 pub(crate) fn explain_statement(

@@ -5,7 +5,7 @@ ghost use Rattle.span_machine.specs.Limits.{most_commits, number_end};
 ghost use Rattle.span_truetime.specs.Time.{timestamp_of};
 ghost use Rattle.span_schema.specs.declared.table.Table.{Table};
 ghost use Rattle.std.specs.Option.{option_copied};
-ghost use Rattle.span_planner.specs.Plannable.{IsPlannable};
+ghost use Rattle.span_openqueries.specs.Planned.{IsPlanned};
 ghost use Rattle.span_machine.specs.Pieces.{machine_of, unread};
 ghost use Rattle.span_machine.specs.declared.transaction.OpenTransaction.{OpenTransaction};
 ghost use Rattle.span_machine.specs.declared.step.Reply.TheVariants as reply_of;
@@ -24,12 +24,12 @@ use span_machine::slot::SlotState;
 use span_machine::step::Verdict;
 use span_machine::transaction::Prepared;
 use span_mutate::mutation::CheckedMutation;
+use span_openqueries::planned::PlannedQuery;
 use span_openqueries::queries::{cover_at, find_query, find_target, slot_at, take_at};
 use span_openqueries::query::KeptQuery;
 use span_openqueries::ranges::{gap_in, is_free};
 use span_openqueries::taken::Taken;
-use span_params::params::Params;
-use span_query::query::{BoundQuery, Statement};
+use span_query::query::BoundQuery;
 use span_schema::schema::Schema;
 use span_transactions::choice::{Chosen, has_any, mutations_in};
 use span_transactions::commit::KeptCommit;
@@ -49,7 +49,6 @@ use span_truetime::interval::Interval;
 use span_value::owned::keep_with;
 use span_value::refusal::Refusal;
 use span_value::seq::Seq;
-use span_value::text::Text;
 use std::alloc::{AllocError, Global};
 use std::marker::Model;
 
@@ -517,33 +516,33 @@ impl Journal {
         }
     }
 
-    /// Opens a query whose statement can be planned, and plans it. `TimestampRange`, then
-    /// `QueryTableFull`, then `OutOfMemory`; a refusal leaves all as it was.
+    /// Opens a query that was planned. `TimestampRange`, then `QueryTableFull`, then `OutOfMemory`; a refusal leaves all
+    /// as it was.
     pub fn open(
         &mut self,
         alloc: Global,
         schema: &Schema,
-        text: Text,
-        params: Params,
-        statement: Statement,
+        query: PlannedQuery,
         bound: Bound,
         interval: Interval,
     ) -> Result<Opened, Refusal>
-        requires { IsPlannable schema.now statement }
+        requires { IsPlanned schema.now query }
         ensures step { Answers (machine_of self.old)
-            (open_query schema.now (machine_of self.old) (Ok statement) text params bound interval)
+            (open_query schema.now (machine_of self.old) (Ok query.statement) query.text query.params bound interval)
             (as_reply (λ opened. reply_of.Opened opened.query opened.s opened.leaves) result)
             (machine_of self.new) }
         ensures pieces { IfOk result
             (λ opened.
-            self.new.queries ≡ self.old.queries ++ unread schema.now opened.query opened.s text params statement ∷ []) }
+            self.new.queries
+            ≡ self.old.queries
+            ++ unread schema.now opened.query opened.s query.text query.params query.statement ∷ []) }
         ensures err { OnErr result (self.new.queries ≡ self.old.queries) }
     {
-        let (statement, s) = keep_with(statement, self.check_open(bound, interval))?;
+        let (query, s) = keep_with(query, self.check_open(bound, interval))?;
         let number = self.next_query;
-        let query = KeptQuery::new(alloc, schema, number, s, text, params, statement)?;
-        let leaves = query.count_leaves();
-        append(&mut self.queries, query)?;
+        let kept = KeptQuery::new(alloc, schema, number, s, query)?;
+        let leaves = kept.count_leaves();
+        append(&mut self.queries, kept)?;
         self.next_query += 1;
         Ok(Opened {
             query: number,

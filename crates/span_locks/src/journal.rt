@@ -3,7 +3,7 @@ ghost use Rattle.std.specs.Prelude.{◌≡◌, ◌<◌, true, false, List, Ok, I
 ghost use Rattle.span_mutate.specs.Typed.{AreTypedMutations};
 ghost use Rattle.span_truetime.specs.Limits.{timestamp_end};
 ghost use Rattle.span_truetime.specs.Time.{timestamp_of};
-ghost use Rattle.span_planner.specs.Plannable.{IsPlannable};
+ghost use Rattle.span_openqueries.specs.Planned.{IsPlanned};
 ghost use Rattle.span_binder.specs.Understands.{Understands};
 ghost use Rattle.span_gather.specs.Gathered.{gathered};
 ghost use Rattle.span_query.specs.Rows.{Row};
@@ -33,14 +33,12 @@ use span_keycode::key::Key;
 use span_machine::step::Verdict;
 use span_machine::transaction::Commit;
 use span_mutate::mutation::CheckedMutation;
+use span_openqueries::planned::PlannedQuery;
 use span_openqueries::taken::Taken;
-use span_params::params::Params;
 use span_parts::{ends, slot, steps};
-use span_query::query::Statement;
 use span_truetime::bound::Bound;
 use span_truetime::interval::Interval;
 use span_value::refusal::Refusal;
-use span_value::text::Text;
 use std::marker::{Model, PhantomData};
 use std::mem;
 
@@ -295,35 +293,31 @@ impl<J: Naming> LockedJournal<J> {
         }
     }
 
-    /// Opens a query whose query text is understood as this statement, and returns its number and the timestamp that it reads at.
+    /// Opens a query that was planned, and returns its number and the timestamp that it reads at.
     pub fn open(
         &mut self,
         board: &Board<J>,
-        text: Text,
-        params: Params,
-        statement: Statement,
+        query: PlannedQuery,
         bound: Bound,
         interval: Interval,
     ) -> Result<Opened, Refusal>
-        requires understood { Understands J.schema text params (Ok statement) }
-        requires plannable { IsPlannable J.schema statement }
+        requires understood { Understands J.schema query.text query.params (Ok query.statement) }
+        requires planned { IsPlanned J.schema query }
         ensures same { self.new ≡ self.old }
         ensures reply { MayReply J.schema self.old
-            (λ m. open_query J.schema m (Ok statement) text params bound interval)
+            (λ m. open_query J.schema m (Ok query.statement) query.text query.params bound interval)
             (as_reply opened_reply result) }
         ensures s { IfOk result (λ opened. opened.s ≡ timestamp_of bound interval) }
         ensures refused { IfErr result
             (λ why. MayReply J.schema self.old
-            (λ m. open_query J.schema m (Ok statement) text params bound interval)
+            (λ m. open_query J.schema m (Ok query.statement) query.text query.params bound interval)
             (reply_of.Refused why)) }
     {
         steps::open(
             board.alloc,
             &board.schema,
             &mut self.journal,
-            text,
-            params,
-            statement,
+            query,
             bound,
             interval,
         )

@@ -4,6 +4,7 @@
 #![tactic(auto)]
 
 mod owned;
+pub mod planned;
 pub mod queries;
 pub mod query;
 pub mod ranges;

@@ -3,26 +3,24 @@ ghost use Rattle.std.specs.Prelude.{◌≡◌, ◌<◌, ◌≤◌, IfOk, OnOk, O
 ghost use Rattle.std.specs.List.{list_all};
 ghost use Rattle.std.specs.Option.{option_copied};
 ghost use Rattle.span_keycode.specs.Parts.{AreApart};
-ghost use Rattle.span_planner.specs.Plannable.{IsPlannable};
-ghost use Rattle.span_machine.specs.Machine.{add_piece, is_covered, statement_plan, uncovered, with_piece};
+ghost use Rattle.span_machine.specs.Machine.{add_piece, is_covered, uncovered, with_piece};
 ghost use Rattle.span_machine.specs.Pieces.{covered_by, no_pieces, unread, insert_piece, insert_piece_at};
 ghost use Rattle.span_openqueries.specs.Counts.{AreCounted, is_uncovered};
+ghost use Rattle.span_openqueries.specs.Planned.{IsPlanned};
 ghost use Rattle.span_openqueries.specs.Targets.{taken_of};
 
 use super::owned::insert_in_both;
+use super::planned::PlannedQuery;
 use super::taken::Taken;
 use span_columns::leaf::{Leaf, Plan};
 use span_fragment::piece::Piece;
 use span_keycode::parts::{place_among, tiles};
 use span_keycode::range::KeyRange;
 use span_machine::query::{OpenQuery, ScanLeaf};
-use span_params::params::Params;
-use span_planner::plan::plan;
-use span_query::query::{BoundQuery, Statement};
+use span_query::query::BoundQuery;
 use span_schema::schema::Schema;
 use span_value::owned::keep_with;
 use span_value::seq::Seq;
-use span_value::text::Text;
 use sqlite_items::Items;
 use std::alloc::{AllocError, Global};
 use std::marker::Model;
@@ -106,24 +104,6 @@ fn unread_plan(alloc: Global, plan: Plan) -> Result<Unread, AllocError>
     })
 }
 
-/// The plan of a statement's query, with no piece yet.
-#[tactic(auto, using(span_planner::proofs::SizedNumbers::sized_numbered))]
-fn unread_statement(
-    alloc: Global,
-    schema: &Schema,
-    statement: &Statement,
-) -> Result<Unread, AllocError>
-    requires { IsPlannable schema.now statement.now }
-    ensures { IfOk result
-        (λ u.
-        (u.leaves ≡ map uncovered (statement_plan schema.now statement.now).leaves)
-        × (u.pieces ≡ map no_pieces (statement_plan schema.now statement.now).leaves)
-        × (u.top ≡ (statement_plan schema.now statement.now).top)) }
-{
-    let plan = plan(alloc, schema, statement.leaves.as_slice(), &statement.query)?;
-    unread_plan(alloc, plan)
-}
-
 /// Whether pieces tile the leaf's range.
 fn is_tiled(leaf: &ScanLeaf) -> bool
     ensures { result ≡ is_covered leaf.now }
@@ -180,14 +160,19 @@ impl KeptQuery {
         schema: &Schema,
         number: u64,
         s: u64,
-        text: Text,
-        params: Params,
-        statement: Statement,
+        query: PlannedQuery,
     ) -> Result<KeptQuery, AllocError>
-        requires { IsPlannable schema.now statement }
-        ensures { IfOk result (λ kept. kept ≡ unread schema.now number s text params statement) }
+        requires { IsPlanned schema.now query }
+        ensures { IfOk result (λ kept. kept ≡ unread schema.now number s query.text query.params query.statement) }
     {
-        let unread = unread_statement(alloc, schema, &statement);
+        let _ = schema;
+        let PlannedQuery {
+            text,
+            params,
+            statement,
+            plan,
+        } = query;
+        let unread = unread_plan(alloc, plan);
         let (
             statement,
             Unread {

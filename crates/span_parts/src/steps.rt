@@ -1,6 +1,6 @@
 //! The steps of the machine but splits, each as the machine's answer (`span_machine/specs/Machine.antt`).
 ghost use Rattle.std.specs.Prelude.{◌≡◌, ◌∷◌, [], List, IfErr, OnOk, OnErr, Ok};
-ghost use Rattle.span_planner.specs.Plannable.{IsPlannable};
+ghost use Rattle.span_openqueries.specs.Planned.{IsPlanned};
 ghost use Rattle.span_mutate.specs.Typed.{AreTypedMutations};
 ghost use Rattle.span_machine.specs.Machine.{Answers, IsAnswer, start, begin, prepare, decide, apply_step, advance, trim, open_query, scan, finish, close};
 ghost use Rattle.span_machine.specs.Pieces.{machine_of};
@@ -15,14 +15,12 @@ use span_gather::finish::finish as finish_pieces;
 use span_gather::rows::Rows;
 use span_journal::journal::{Journal, Opened};
 use span_machine::step::Verdict;
-use span_params::params::Params;
-use span_query::query::Statement;
+use span_openqueries::planned::PlannedQuery;
 use span_schema::schema::Schema;
 use span_shard::shard::Shard;
 use span_truetime::bound::Bound;
 use span_truetime::interval::Interval;
 use span_value::refusal::Refusal;
-use span_value::text::Text;
 use std::alloc::Global;
 
 /// Begins a transaction, and returns its number.
@@ -208,26 +206,24 @@ pub fn trim(
     }
 }
 
-/// Opens a query whose query text is understood as this statement, which can be planned.
+/// Opens a query that was planned.
 pub fn open(
     alloc: Global,
     schema: &Schema,
     journal: &mut Journal,
-    text: Text,
-    params: Params,
-    statement: Statement,
+    query: PlannedQuery,
     bound: Bound,
     interval: Interval,
 ) -> Result<Opened, Refusal>
-    requires { IsPlannable schema.now statement }
+    requires { IsPlanned schema.now query }
     ensures step { Answers (machine_of journal.old)
-        (open_query schema.now (machine_of journal.old) (Ok statement) text params bound interval)
+        (open_query schema.now (machine_of journal.old) (Ok query.statement) query.text query.params bound interval)
         (as_reply opened_reply result)
         (machine_of journal.new) }
     ensures whole { GoesWith schema.now journal.old journal.new }
 {
     schema.meets_rules();
-    journal.open(alloc, schema, text, params, statement, bound, interval)
+    journal.open(alloc, schema, query, bound, interval)
 }
 
 /// Scans the lowest uncovered part of a leaf's range in a slot: whether there was one.

@@ -16,6 +16,7 @@ use span_board::session::Session;
 use span_columns::leaf::Plan;
 use span_gather::rows::Rows;
 use span_journal::journal::Opened;
+use span_openqueries::planned::planned_query;
 use span_openqueries::taken::Taken;
 use span_params::params::Params;
 use span_query::query::Statement;
@@ -67,9 +68,17 @@ impl<J: Naming> Locks<J> {
     {
         let copies = copy_question(self.board.alloc, text, params);
         let (statement, (text, params)) = keep_with(statement, copies)?;
+        // The session keeps a plan of its own, and the journal the leaves of this one.
+        let query = planned_query(
+            self.board.alloc,
+            &self.board.schema,
+            text,
+            params,
+            statement,
+        )?;
         self.journal
             .lock(rt)
-            .open(&self.board, text, params, statement, bound, interval)
+            .open(&self.board, query, bound, interval)
     }
 
     /// Closes a query, in case it is open.

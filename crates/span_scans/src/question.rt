@@ -1,9 +1,7 @@
-//! A query as a session asks it: its query text is understood, planned and compared while no lock is held. (The journal plans it once more, under
-//! its lock, when it is opened.)
+//! A query as a session asks it: its query text is understood, planned and compared while no lock is held.
 ghost use Rattle.std.specs.Prelude.{◌≡◌, ◌⊎◌, ◌∷◌, [], true, IfOk, IfErr, Ok, Err, Some, slice_get};
 ghost use Rattle.std.specs.Option.{option_copied};
 ghost use Rattle.span_gather.specs.Gathered.{gathered};
-ghost use Rattle.span_machine.specs.Machine.{statement_plan};
 ghost use Rattle.span_planner.specs.Plannable.{IsPlannable};
 ghost use Rattle.span_binder.specs.Understands.{Understands};
 ghost use Rattle.span_locks.specs.Answers.{IsPlanOf};
@@ -15,9 +13,9 @@ use span_board::same::are_same;
 use span_columns::leaf::{Leaf, Plan};
 use span_gather::finish::finish_taken;
 use span_gather::rows::Rows;
+use span_openqueries::planned::plan_statement;
 use span_openqueries::taken::Taken;
 use span_params::params::Params;
-use span_planner::plan::plan;
 use span_query::query::Statement;
 use span_schema::schema::Schema;
 use span_soundness::laws::can_be_planned;
@@ -25,18 +23,9 @@ use span_value::owned::give_after;
 use span_value::refusal::Refusal;
 use span_value::seq::Seq;
 use span_value::text::Text;
-use std::alloc::{AllocError, Global};
+use std::alloc::Global;
 use std::mem;
 use std::thread::Threads;
-
-/// The plan of a statement that can be planned. The error is out of memory.
-#[tactic(auto, using(span_planner::proofs::SizedNumbers::sized_numbered))]
-fn plan_statement(alloc: Global, schema: &Schema, statement: &Statement) -> Result<Plan, AllocError>
-    requires { IsPlannable schema.now statement.now }
-    ensures { IfOk result (λ plan. plan ≡ statement_plan schema.now statement.now) }
-{
-    plan(alloc, schema, statement.leaves.as_slice(), &statement.query)
-}
 
 /// What a query text, with these parameters, is understood as, and its plan. The refusal of the query text, or `OutOfMemory`.
 pub(crate) fn understand_and_plan(

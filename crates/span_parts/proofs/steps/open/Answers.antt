@@ -8,5 +8,5 @@ returns-clause-whole c =
     let a = c.args in
     let j = c.args.journal.now in
     let k = c.open.new.self in
-    goes_by a.schema.now j k (Ok a.statement) (step.Open a.text a.params a.bound a.interval) tt _ c.open.ensures.step tt
-    (pieces_opened a.schema.now _ a.text a.params a.statement j.queries k.queries c.requires c.open.ensures.pieces c.open.ensures.err)
+    goes_by a.schema.now j k (Ok a.query.statement) (step.Open a.query.text a.query.params a.bound a.interval) tt _ c.open.ensures.step tt
+    (pieces_opened a.schema.now _ a.query.text a.query.params a.query.statement j.queries k.queries c.requires.plannable c.open.ensures.pieces c.open.ensures.err)

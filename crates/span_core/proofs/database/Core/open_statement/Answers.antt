@@ -1,37 +1,23 @@
-use Rattle.std.proofs.Common.{Ok, sym, subst}
+use Rattle.std.proofs.Common.{Ok, sym, subst, inl, refl}
 use Rattle.span_machine.specs.Pieces.{machine_of}
-use Rattle.span_machine.specs.declared.step.Step.{Step}
 use Rattle.span_machine.specs.declared.step.Step.TheVariants as step
-use Rattle.span_machine.specs.declared.step.Reply.{Reply}
-use Rattle.span_parts.specs.Replies.{as_reply, opened_reply}
+use Rattle.span_machine.specs.declared.step.Reply.TheVariants as reply
+use Rattle.span_value.specs.declared.refusal.Refusal.TheVariants.{OutOfMemory}
 use Rattle.span_binder.specs.Understands.{Understands}
 use Rattle.span_soundness.proofs.Soundness.{statements_can_be_planned}
 use Rattle.span_core.specs.Whole.{State}
 use Rattle.span_core.specs.Histories.{IsStep}
-use Rattle.span_core.proofs.Wholes.{goes_on, opened_steps}
+use Rattle.span_core.proofs.Wholes.{refused_steps}
 use Rattle.span_core.proofs.database.Core.open_statement.Goals as goal
 
-pub open-requires : goal.open-requires
-open-requires c =
+pub planned_query-requires : goal.planned_query-requires
+planned_query-requires c =
     statements_can_be_planned c.self.inside.schema c.args.text c.args.params c.args.statement
     (subst (λ (st : State). Understands st.schema c.args.text c.args.params (Ok c.args.statement)) (sym c.self.view_is) c.requires)
 
-pub invariant_of-self : goal.invariant_of-self
-invariant_of-self c =
-    let schema = c.self.inside.schema in
+pub returns-in-Err-clause-steps : goal.returns-in-Err-clause-steps
+returns-in-Err-clause-steps c =
     let m = machine_of c.self.inside.journal in
-    let n = machine_of c.open.new.journal in
-    let s : Step = step.Open c.args.text c.args.params c.args.bound c.args.interval in
-    let understood : Understands schema c.args.text c.args.params (Ok c.args.statement) = subst (λ (st : State). Understands st.schema c.args.text c.args.params (Ok c.args.statement)) (sym c.self.view_is) c.requires in
-    let all : IsStep schema m s (as_reply opened_reply c.open.result) n = opened_steps schema m c.args.text c.args.params c.args.bound c.args.interval c.args.statement (as_reply opened_reply c.open.result) n understood c.open.ensures.step in
-    goes_on schema c.self.inside.journal c.open.new.journal c.self.inside.shards.items c.self.inside.shards.items s _ c.self.invariant tt all (c.open.ensures.whole c.self.inside.shards.items c.self.invariant.whole)
-
-pub returns-clause-steps : goal.returns-clause-steps
-returns-clause-steps c =
     let schema = c.self.inside.schema in
-    let m = machine_of c.self.inside.journal in
-    let n = machine_of c.open.new.journal in
-    let s : Step = step.Open c.args.text c.args.params c.args.bound c.args.interval in
-    let understood : Understands schema c.args.text c.args.params (Ok c.args.statement) = subst (λ (st : State). Understands st.schema c.args.text c.args.params (Ok c.args.statement)) (sym c.self.view_is) c.requires in
-    let all : IsStep schema m s (as_reply opened_reply c.open.result) n = opened_steps schema m c.args.text c.args.params c.args.bound c.args.interval c.args.statement (as_reply opened_reply c.open.result) n understood c.open.ensures.step in
-    subst (λ (st : State). IsStep st.schema st.machine s c.open_reply.result n) c.self.view_is (subst (λ (r : Reply). IsStep schema m s r n) (sym c.open_reply.ensures) all)
+    subst (λ (st : State). IsStep st.schema st.machine (step.Open c.args.text c.args.params c.args.bound c.args.interval) (reply.Refused OutOfMemory) st.machine) c.self.view_is
+    (refused_steps schema m c.args.text c.args.params c.args.bound c.args.interval OutOfMemory (inl refl))

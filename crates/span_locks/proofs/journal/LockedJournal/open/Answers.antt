@@ -13,7 +13,7 @@ invariant_of-self g c =
     let board = c.args.board.now in
     let k = c.open.new.journal in
     keeper_goes schema board.schema g.J.Naming.table here.badge.table_id here.badge.views here.journal board.schema_is c.self.invariant k
-    (passed_opened (IsUnderstoodAs schema) board.schema (machine_of here.journal) c.self.invariant.asked c.args.statement c.args.text c.args.params c.args.bound c.args.interval c.requires.understood _ (machine_of k) c.open.ensures.step)
+    (passed_opened (IsUnderstoodAs schema) board.schema (machine_of here.journal) c.self.invariant.asked c.args.query.statement c.args.query.text c.args.query.params c.args.bound c.args.interval c.requires.understood _ (machine_of k) c.open.ensures.step)
     c.open.ensures.whole
 
 pub returns-clause-reply : goal.returns-clause-reply
@@ -21,16 +21,16 @@ returns-clause-reply g c =
     let schema = g.J.Naming.schema in
     let here = c.self.inside in
     let board = c.args.board.now in
-    open_replies schema board.schema g.J.Naming.table here.badge.table_id here.badge.views here.journal board.schema_is c.self.invariant c.args.self.now c.self.view_is c.args.statement c.args.text c.args.params c.args.bound c.args.interval (as_reply opened_reply c.open.result) (machine_of c.open.new.journal) c.open.ensures.step
+    open_replies schema board.schema g.J.Naming.table here.badge.table_id here.badge.views here.journal board.schema_is c.self.invariant c.args.self.now c.self.view_is c.args.query.statement c.args.query.text c.args.query.params c.args.bound c.args.interval (as_reply opened_reply c.open.result) (machine_of c.open.new.journal) c.open.ensures.step
 
 pub returns-clause-s : goal.returns-clause-s
 returns-clause-s g c =
     let board = c.args.board.now in
-    opened_at board.schema (machine_of c.self.inside.journal) c.args.statement c.args.text c.args.params c.args.bound c.args.interval c.open.result (machine_of c.open.new.journal) c.open.ensures.step
+    opened_at board.schema (machine_of c.self.inside.journal) c.args.query.statement c.args.query.text c.args.query.params c.args.bound c.args.interval c.open.result (machine_of c.open.new.journal) c.open.ensures.step
 
 pub returns-clause-refused : goal.returns-clause-refused
 returns-clause-refused g c =
     let schema = g.J.Naming.schema in
     let here = c.self.inside in
     let board = c.args.board.now in
-    open_refused schema board.schema g.J.Naming.table here.badge.table_id here.badge.views here.journal board.schema_is c.self.invariant c.args.self.now c.self.view_is c.args.statement c.args.text c.args.params c.args.bound c.args.interval c.open.result (machine_of c.open.new.journal) c.open.ensures.step
+    open_refused schema board.schema g.J.Naming.table here.badge.table_id here.badge.views here.journal board.schema_is c.self.invariant c.args.self.now c.self.view_is c.args.query.statement c.args.query.text c.args.query.params c.args.bound c.args.interval c.open.result (machine_of c.open.new.journal) c.open.ensures.step

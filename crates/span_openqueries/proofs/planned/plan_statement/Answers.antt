@@ -1,7 +1,7 @@
 use Rattle.std.proofs.Common.{◌≡◌, ℕ, List, IfOk, ap, subst}
 use Rattle.span_planner.specs.Plans.{plan_of}
 use Rattle.span_columns.specs.declared.leaf.Plan.{Plan}
-use Rattle.span_core.proofs.explain.plan_statement.Goals as goal
+use Rattle.span_openqueries.proofs.planned.plan_statement.Goals as goal
 
 pub returns : goal.returns
 returns c =
