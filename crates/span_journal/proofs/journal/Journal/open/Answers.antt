@@ -5,8 +5,12 @@ use Rattle.span_machine.specs.Machine.{Answers, open_query, open_refusal}
 use Rattle.span_machine.specs.declared.step.Reply.TheVariants as reply_of
 use Rattle.span_machine.specs.Pieces.{Journaled, Pieced, machine_of, unread}
 use Rattle.span_openqueries.specs.declared.planned.PlannedQuery.{PlannedQuery}
+use Rattle.span_openqueries.specs.Planned.{IsPlanned}
 use Rattle.span_journal.proofs.Opening.{opened_step}
 use Rattle.span_journal.proofs.journal.Journal.open.Goals as goal
+
+pub new-requires : goal.new-requires
+new-requires c = subst (IsPlanned c.args.schema.now) (sym c.in_ok-query.ensures.0) c.requires
 
 pub returns-clause-step : goal.returns-clause-step
 returns-clause-step c =
