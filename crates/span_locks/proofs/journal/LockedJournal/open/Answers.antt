@@ -1,10 +1,16 @@
+use Rattle.std.proofs.Common.{List, sym, subst}
+use Rattle.span_schema.specs.declared.table.Table.{Table}
 use Rattle.span_machine.specs.Pieces.{machine_of}
+use Rattle.span_openqueries.specs.Planned.{IsPlanned}
 use Rattle.span_parts.specs.Replies.{as_reply, opened_reply}
 use Rattle.span_parts.proofs.Passing.{passed_opened, opened_at}
 use Rattle.span_locks.specs.Held.{IsUnderstoodAs}
 use Rattle.span_locks.proofs.Held.{keeper_goes}
 use Rattle.span_locks.proofs.Refusing.{open_refused, open_replies}
 use Rattle.span_locks.proofs.journal.LockedJournal.open.Goals as goal
+
+pub open-requires : goal.open-requires
+open-requires g c = subst (λ (s : List Table). IsPlanned s c.args.query) (sym c.args.board.now.schema_is) c.requires.planned
 
 pub invariant_of-self : goal.invariant_of-self
 invariant_of-self g c =
