@@ -5,10 +5,14 @@ use Rattle.span_machine.specs.declared.step.Step.TheVariants as step
 use Rattle.span_machine.specs.declared.step.Reply.{Reply}
 use Rattle.span_parts.specs.Replies.{as_reply, opened_reply}
 use Rattle.span_binder.specs.Understands.{Understands}
+use Rattle.span_openqueries.specs.Planned.{IsPlanned}
 use Rattle.span_core.specs.Whole.{State}
 use Rattle.span_core.specs.Histories.{IsStep}
 use Rattle.span_core.proofs.Wholes.{goes_on, opened_steps}
 use Rattle.span_core.proofs.database.Core.open_planned.Goals as goal
+
+pub open-requires : goal.open-requires
+open-requires c = subst (λ (st : State). IsPlanned st.schema c.args.query) (sym c.self.view_is) c.requires.planned
 
 pub invariant_of-self : goal.invariant_of-self
 invariant_of-self c =
