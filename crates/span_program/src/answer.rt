@@ -29,8 +29,8 @@ pub trait SchemaReports {
 /// the exit status: 0 where the script was answered; 3 where the schema is refused, for which `schema refused N` is written, and nothing of
 /// the script is read.
 ///
-/// `Fault::Memory` where memory runs out for the schema, for a line, or at first for the buffer of answers, `Fault::Input` and `Fault::Output` where a device failed:
-/// what was written is then a beginning of the answers.
+/// `Fault::Memory` where memory runs out for the schema, for a line, or at first for the buffer of answers, `Fault::Input` and
+/// `Fault::Output` where a device failed: what was written is then a beginning of the answers.
 pub fn answer<I: InputDevice, O: OutputDevice, R: Reports + SchemaReports>(
     alloc: Global,
     schema: &[u8],
