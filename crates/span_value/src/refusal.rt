@@ -323,7 +323,7 @@ impl Refusal {
                 "more than 7 levels of interleaved tables: interleave fewer"
             }
             Refusal::BadColumn => {
-                "a column is declared twice or has a wrong length, or a key column is unknown, repeated or of a type no key has: correct the table"
+                "a column is declared twice or has a wrong length, or a key column is unknown or repeated: correct the table"
             }
             Refusal::KeyTooLong => "the coded key is over 1,024 bytes: use shorter key values",
             Refusal::BadKey => {
