@@ -22,7 +22,7 @@ pub none_counted : (xs : List ℕ) (n : ℕ) → n ≤ length xs → take n xs �
 none_counted xs zero few e = refl
 none_counted xs (suc n) few e = absurd (none_taken xs (suc n) (omega arith) few e)
 
-pub counted : (b : Bool) (n : ℕ) → n < 32 → n + bool_byte b ≤ 32
+pub counted : (b : Bool) (n : ℕ) → n < 64 → n + bool_byte b ≤ 64
 counted true n less = omega arith
 counted false n less = omega arith
 

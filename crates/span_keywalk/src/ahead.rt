@@ -18,7 +18,7 @@ use span_keytree::next::{NextLinks, number_of};
 use span_keytree::tree::TreeRoot;
 
 /// More lanes do not go faster: the lines of memory that are waited for at a time are fewer.
-const LANES: usize = 16;
+const LANES: usize = 12;
 
 /// About how many keys lie from the begin of a lane to that of the next, at most.
 const LANE_KEYS: usize = 32;
@@ -29,8 +29,8 @@ const LANE_ROWS: usize = 8;
 /// How many keys a lane looks at, at most.
 const MOST_STEPS: usize = 64;
 
-/// What is added up over the looks at that many keys and rows is no more.
-const MOST_FOUND: usize = LANES * MOST_STEPS * (LONGEST_KEY + 1);
+/// What is added up over the looks at that many keys, their links and rows is less: the first byte of a row is no more than 255.
+const MOST_FOUND: usize = LANES * MOST_STEPS * (LONGEST_KEY + 256);
 
 /// How many keys a walk hands out before it first looks ahead, and before it tries again.
 const FIRST_KEYS: usize = 64;
@@ -295,10 +295,14 @@ fn lanes_from(
     lanes
 }
 
-// Looks at a key: its length, or 0 where there is no chain of this number.
+// Looks at a key and its links: the key's length, and one more where a cell is to the left; 0 where there is no chain of this number. The
+// links come first: where the length lies is known only once the key's begin has come from memory, and the line with the links need not wait.
 fn look_at_key(arena: &Arena, number: u32) -> usize {
-    let is_chain = (number as usize) < arena.numbers();
-    if is_chain { arena.key(number).len() } else { 0 }
+    if number as usize >= arena.numbers() {
+        return 0;
+    }
+    let has_left = arena.links(number).left.is_some();
+    arena.key(number).len() + has_left as usize
 }
 
 // Looks at the newest row of a chain: its first byte, or 0.
@@ -346,8 +350,8 @@ fn look_at_batch(arena: &Arena, batch: &Batch, ahead: &Ahead) -> bool {
 struct Looked {
     /// How many keys.
     keys: usize,
-    /// The lengths of keys and the first bytes of rows, added up. The lanes stop where these are more than keys and rows have, which is
-    /// never: so each look counts, and none is left out as one that nothing needs.
+    /// What the looks at keys and rows gave, added up. The lanes stop where it is more than keys and rows have, which is never: so each look
+    /// counts, and none is left out as one that nothing needs.
     found: usize,
 }
 

@@ -11,7 +11,7 @@ use span_keytree::next::NextLinks;
 use std::marker::Model;
 
 /// How many keys a batch has at most.
-pub(crate) const BATCH_KEYS: usize = 32;
+pub(crate) const BATCH_KEYS: usize = 64;
 
 /// How many keys are passed over by their links at a time.
 const LINK_KEYS: usize = 8;
@@ -34,13 +34,13 @@ impl Model for Batch {
 
     ghost view = { λ b. slice_range b.numbers b.begin b.end };
 
-    ghost invariant = { λ b. (b.begin ≤ b.end) × (b.end ≤ 32) };
+    ghost invariant = { λ b. (b.begin ≤ b.end) × (b.end ≤ 64) };
 }
 
 impl Batch {
     /// The first `count` of these numbers.
     fn of(numbers: [u32; BATCH_KEYS], count: usize) -> Batch
-        requires { count ≤ 32 }
+        requires { count ≤ 64 }
         ensures { result ≡ take count numbers }
     {
         Batch {
@@ -102,7 +102,7 @@ impl Refill {
         left: usize,
         goes_on: bool,
     ) -> Refill
-        requires { count ≤ 32 }
+        requires { count ≤ 64 }
         ensures batch { result.batch ≡ take count numbers }
         ensures at { result.at ≡ at }
         ensures left { result.left ≡ left }
@@ -144,9 +144,9 @@ fn pass_links(
     requires goes_on { is_stop number stop ≡ false }
     requires keys { 0 < keys }
     requires left { keys ≤ left }
-    requires room { count + keys ≤ 32 }
+    requires room { count + keys ≤ 64 }
     requires most { most < 65535 }
-    ensures room { result.count ≤ 32 }
+    ensures room { result.count ≤ 64 }
     ensures left { result.left < left }
     ensures short { (es : List KeyEntry) → let cells = arena.now.cells in
         AreShortOf cells nexts.now most stop es (take count numbers.old) left (Some number)

@@ -112,8 +112,8 @@ pub(crate) fn pass_run(
     requires within { number + 8 < length arena.now.cells }
     requires fits { number + 8 < 2 ^ 32 }
     requires most { most < 65535 }
-    requires room { count ≤ 24 }
-    ensures room { result ≤ 32 }
+    requires room { count ≤ 56 }
+    ensures room { result ≤ 64 }
     ensures passed { IsPassed arena.now.cells most number (take count numbers.old) (take result numbers.new) }
 {
     let lengths = arena.key_lengths();

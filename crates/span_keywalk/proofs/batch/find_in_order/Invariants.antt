@@ -6,8 +6,8 @@ use Rattle.span_keywalk.proofs.batch.find_in_order.Given as goal
 abbrev pub invariant-loop-left : goal.invariant-loop-left
 invariant-loop-left l = record {
   short : AreShortOf l.arena.cells l.nexts l.most l.stop (walked_in l.arena.cells l.nexts l.fn.left (Some l.number) l.stop) (take l.count l.numbers) l.left (Some l.at);
-  count : l.count ≤ 32;
-  places : length l.numbers ≡ 32;
+  count : l.count ≤ 64;
+  places : length l.numbers ≡ 64;
   left : l.left ≤ l.fn.left;
 }
 

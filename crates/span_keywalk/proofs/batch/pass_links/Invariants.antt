@@ -12,7 +12,7 @@ invariant-loop-left l = record {
   room : l.count + l.left ≤ l.fn.count + l.fn.left;
   left : l.left ≤ l.fn.left;
   last : l.last ≤ l.left;
-  places : length l.numbers ≡ 32;
+  places : length l.numbers ≡ 64;
   first : l.left ≡ l.fn.left → l.here ≡ l.fn.number;
 }
 

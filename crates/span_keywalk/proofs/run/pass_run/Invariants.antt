@@ -8,7 +8,7 @@ use Rattle.span_keywalk.proofs.run.pass_run.Given as goal
 abbrev pub invariant-loop-i : goal.invariant-loop-i
 invariant-loop-i l = record {
   room : l.count ≤ l.fn.count + l.i;
-  places : length l.numbers ≡ 32;
+  places : length l.numbers ≡ 64;
   passed : (ns : Nexts) (stop : Option ℕ) (left : ℕ) (es : List KeyEntry) → IsRun ns (length l.arena.cells) stop l.number → 8 ≤ left
       → AreShortOf l.arena.cells ns l.most stop es (take l.fn.count l.fn.numbers) left (Some l.number) → AreShortOf l.arena.cells ns l.most stop es (take l.count l.numbers) (left - l.i) (Some (l.number + l.i));
 }
