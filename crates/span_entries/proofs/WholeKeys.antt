@@ -1,5 +1,5 @@
 -- The table of a coded key by the key's length.
-use Rattle.std.proofs.Common.{◌≡◌, ◌≢◌, ◌==◌, ◌∙◌, ℕ, ◌+◌, ◌-◌, ◌*◌, ◌%◌, ◌<◌, ◌≤◌, Bool, true, false, ◌&&◌, List, [], ◌∷◌, ◌++◌, Option, Some, None, length, length-append, take, drop, get_or, refl, sym, ap, subst, arith}
+use Rattle.std.proofs.Common.{◌≡◌, ◌≢◌, ◌==◌, ◌∙◌, ℕ, ◌+◌, ◌-◌, ◌*◌, ◌%◌, ◌<◌, ◌≤◌, Bool, true, false, ◌&&◌, ◌||◌, List, [], ◌∷◌, ◌++◌, Option, Some, None, length, length-append, take, drop, get_or, refl, sym, ap, subst, arith}
 use Rattle.std.specs.List.{list_all}
 use Rattle.std.proofs.Math.Seq.{get_or-append_seam}
 use Rattle.std.proofs.lemmas.Bool.{eqb-true, eqb-false, ne_eqb, and_parts}
@@ -196,6 +196,12 @@ pub none_of_length : (schema : List Table) → MeetsRules schema → (n : ℕ) (
 none_of_length schema rules n at is len none = record {
   of = λ key long. not_of_length schema rules n at is.whole key (λ nulls e. none.by nulls (ap (λ (k : ℕ). k + 8 * nulls) (sym long) ∙ e));
 }
+
+-- by both tests at once
+pub whether_of_length : (schema : List Table) → MeetsRules schema → (n : ℕ) (at : WholeKey) → IsOwnLength schema n at → (len : ℕ) (own none : Bool) → (own ≡ true → len ≡ at.len) → (none ≡ true → IsNoLengthOf at len)
+    → (own || none) ≡ true → IsWhetherOfLength schema n len own
+whether_of_length schema rules n at is len true none same is_none some = own_of_length schema n at is len (same refl)
+whether_of_length schema rules n at is len false none same is_none some = none_of_length schema rules n at is len (is_none some)
 
 -- ---- a key
 

@@ -161,20 +161,19 @@ pub fn own_length(schema: &Schema, table: usize) -> Option<WholeKey>
 }
 
 /// Whether a coded key of `len` bytes is one of the table, where the length decides.
-#[tactic(auto, using(crate::proofs::WholeKeys::none_of_length))]
 pub fn is_own_of_length(schema: &Schema, table: usize, at: &WholeKey, len: usize) -> Option<bool>
     requires { IsOwnLength schema.now table at.now }
     ensures { IfSome result (IsWhetherOfLength schema.now table len) }
 {
     schema.meets_rules();
-    if len == at.len {
-        return Some(true);
+    // Both are asked before a branch: of which table the next of interleaved rows is can't be guessed.
+    let is_own = len == at.len;
+    if is_own | is_no_length_of(at, len) {
+        Some(is_own)
+    } else {
+        // It has NULLs, or is of another table.
+        None
     }
-    if is_no_length_of(at, len) {
-        return Some(false);
-    }
-    // It has NULLs, or is of another table.
-    None
 }
 
 /// Whether a coded key is one of the table, where the key's length and the byte at the place of the table's number decide.

@@ -93,10 +93,12 @@ fn count_entry(
         (λ more. IsTakenBy schema.now scan.now entry.now.key entry.now.row (Ok tt) (replicate count [])
         (replicate more [])) }
 {
-    if !is_counted(schema, scan, own, entry) {
-        return Ok(count);
+    // No branch: whether the next of interleaved rows is one of the table can't be guessed.
+    let more = usize::from(is_counted(schema, scan, own, entry));
+    match count.checked_add(more) {
+        None => Err(AllocError),
+        Some(count) => Ok(count),
     }
-    count.checked_add(1).ok_or(AllocError)
 }
 
 /// How many of the rows that the snapshot lends are kept.
