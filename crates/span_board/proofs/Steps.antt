@@ -13,7 +13,7 @@ use Rattle.span_shard.specs.KeyVersions.{KeyVersions}
 use Rattle.span_board.specs.declared.board.Role.{Role}
 use Rattle.span_board.specs.declared.board.Role.TheVariants.{Keeper, Holder, Client}
 use Rattle.span_board.specs.declared.board.Change.{Change}
-use Rattle.span_board.specs.declared.board.Change.TheVariants.{Nothing, Grown, Restated}
+use Rattle.span_board.specs.declared.board.Change.TheVariants.{Grown, Restated}
 use Rattle.span_board.specs.Known.{Known, kept, owned, grown, restated}
 use Rattle.span_board.specs.Rule.{name_of, Fits, FitAll, AllOwned, Kept, Publishes, Looks, Restates, Catches, Agrees, shard_of_change}
 use Rattle.span_board.proofs.Owners.{owned_this, owned_other, prefix_longer, prefix_self}
@@ -98,7 +98,6 @@ publish_keeps n id o seen mine b seat c k words views own len facts all =
 -- what the step says, where it is a commit
 abbrev pub is_commit_change : Change → Commit → Type 0
 is_commit_change (Grown y) c = y ≡ c
-is_commit_change Nothing c = Unit {0}
 is_commit_change (Restated y) c = Unit {0}
 
 -- the keeper's seat, joined with a session's, adds the session's commit
@@ -113,7 +112,6 @@ publish_allows n slots id o seen mine b c k x own len is s h homes at fits =
   where
     by_change : (o < n) × IsPrefix seen b.commits × (owned o seen ≡ mine) × (owned o b.commits ≡ mine) → (x : Change) → is_commit_change x c → Publishes (Keeper b ∷ Client o seen mine ∷ []) (some x) (published o mine b c)
     by_change f (Grown y) e = (ap (λ d. published o mine b d) (sym e), f.1, f.2, f.3)
-    by_change f Nothing e = tt
     by_change f (Restated y) e = tt
 
 -- a look makes a session's beginning longer
@@ -181,7 +179,6 @@ restate_allows n slots id i vs b k x s h homes at fits =
   where
     by_change : (i < length b.slots) × (vs ≡ kept b i) → (x : Change) → Restates (Keeper b ∷ Holder i vs ∷ []) (some x) (Keeper (restated b i (shard_of_change x)) ∷ Holder i (shard_of_change x) ∷ [])
     by_change f (Restated y) = (refl, f.1, f.0)
-    by_change f Nothing = tt
     by_change f (Grown y) = tt
 
 -- a look at both tells that they agree

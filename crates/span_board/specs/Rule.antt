@@ -12,7 +12,7 @@ use Rattle.span_board.specs.declared.begun.Begun.{Begun}
 use Rattle.span_board.specs.declared.board.Role.{Role}
 use Rattle.span_board.specs.declared.board.Role.TheVariants.{Keeper, Holder, Client}
 use Rattle.span_board.specs.declared.board.Change.{Change}
-use Rattle.span_board.specs.declared.board.Change.TheVariants.{Nothing, Grown, Restated}
+use Rattle.span_board.specs.declared.board.Change.TheVariants.{Grown, Restated}
 use Rattle.span_board.specs.Known.{Known, kept, owned, grown, restated}
 
 -- each role has a name: no two seats have one
@@ -187,5 +187,4 @@ known_at v = nothing_known 0
 -- what a step says of a shard
 abbrev pub shard_of_change : Change → List KeyVersions
 shard_of_change (Restated y) = y
-shard_of_change Nothing = []
 shard_of_change (Grown y) = []

@@ -50,7 +50,6 @@ pub enum Role {
 /// What a step says: the commit, or the shard as it has become.
 #[derive(Drop)]
 pub enum Change {
-    Nothing,
     Grown(Commit),
     Restated(Shard),
 }

@@ -142,6 +142,5 @@ fn shard_in(said: Change, alloc: Global) -> Shard
     match said {
         Change::Restated(shard) => shard,
         Change::Grown(_commit) => Shard::new(alloc),
-        Change::Nothing => Shard::new(alloc),
     }
 }

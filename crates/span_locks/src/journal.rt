@@ -293,7 +293,8 @@ impl<J: Naming> LockedJournal<J> {
         }
     }
 
-    /// Opens a query that was planned, and returns its number and the timestamp that it reads at.
+    /// Opens a query that was planned, and returns its number and the timestamp that it reads at. `TimestampRange`, then `QueryTableFull`, then
+    /// `OutOfMemory`; a refusal leaves all as it was.
     pub fn open(
         &mut self,
         board: &Board<J>,
