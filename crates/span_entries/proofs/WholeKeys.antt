@@ -1,6 +1,8 @@
 -- The table of a coded key by the key's length.
-use Rattle.std.proofs.Common.{◌≡◌, ◌≢◌, ◌==◌, ◌∙◌, ℕ, ◌+◌, ◌-◌, ◌*◌, ◌%◌, ◌<◌, ◌≤◌, Bool, true, false, ◌&&◌, ◌||◌, List, [], ◌∷◌, ◌++◌, Option, Some, None, length, length-append, take, drop, get_or, refl, sym, ap, subst, arith}
+use Rattle.std.proofs.Common.{◌≡◌, ◌≢◌, ◌==◌, ◌∙◌, ℕ, ◌+◌, ◌-◌, ◌*◌, ◌%◌, ◌<◌, ◌≤◌, Bool, true, false, ◌&&◌, List, [], ◌∷◌, ◌++◌, Option, Some, None, length, length-append, take, drop, get_or, refl, sym, ap, subst, arith}
 use Rattle.std.specs.List.{list_all}
+use Rattle.std.specs.Prelude.{nat_eq, nat_lt}
+use Rattle.std.proofs.lemmas.Bool.Decides.{nat_tests}
 use Rattle.std.proofs.Math.Seq.{get_or-append_seam}
 use Rattle.std.proofs.lemmas.Bool.{eqb-true, eqb-false, ne_eqb, and_parts}
 use Rattle.std.proofs.lemmas.List.Folds.{list_all-append}
@@ -21,7 +23,7 @@ use Rattle.span_keycode.proofs.Lengths.{length_directed}
 use Rattle.span_keycode.proofs.RootRows.{root_split}
 use Rattle.span_entries.specs.declared.whole_key.WholeKey.{WholeKey}
 use Rattle.span_entries.specs.Entries.{IsWhetherOf}
-use Rattle.span_entries.specs.WholeKeys.{is_number, is_number_kind, HasNumberAt, HasOtherLengths, IsDecided, IsNoLengthOf, IsOwnLength, IsTableByLength, IsWhetherOfLength, IsWholeKey}
+use Rattle.span_entries.specs.WholeKeys.{is_number, is_number_kind, is_undecided, HasNumberAt, HasOtherLengths, IsDecided, IsNoLengthOf, IsOwnLength, IsTableByLength, IsWhetherOfLength, IsWholeKey}
 
 -- ---- how many bytes numbers take
 
@@ -197,11 +199,23 @@ none_of_length schema rules n at is len none = record {
   of = λ key long. not_of_length schema rules n at is.whole key (λ nulls e. none.by nulls (ap (λ (k : ℕ). k + 8 * nulls) (sym long) ∙ e));
 }
 
--- by both tests at once
-pub whether_of_length : (schema : List Table) → MeetsRules schema → (n : ℕ) (at : WholeKey) → IsOwnLength schema n at → (len : ℕ) (own none : Bool) → (own ≡ true → len ≡ at.len) → (none ≡ true → IsNoLengthOf at len)
-    → (own || none) ≡ true → IsWhetherOfLength schema n len own
-whether_of_length schema rules n at is len true none same is_none some = own_of_length schema n at is len (same refl)
-whether_of_length schema rules n at is len false none same is_none some = none_of_length schema rules n at is len (is_none some)
+-- of another length than that of the whole keys, and not less by a number of eights
+pub no_length : (at : WholeKey) (len : ℕ) → is_undecided at len ≡ false → len ≢ at.len → IsNoLengthOf at len
+no_length at len decided other = record {
+  by = λ nulls e.
+      let few : len ≤ at.len = omega (arith, e) in
+      let less : nat_lt len at.len ≡ true = grind (arith, nat_tests) in
+      let eights : (at.len - len) % 8 ≡ 0 = omega (arith, e) in
+      let both : is_undecided at len ≡ true = ap (λ (b : Bool). b && nat_eq ((at.len - len) % 8) 0) less ∙ ap (λ (k : ℕ). nat_eq k 0) eights in
+      absurd (let f : true ≡ false = sym both ∙ decided in cc);
+}
+
+pub whether_decided : (schema : List Table) → MeetsRules schema → (n : ℕ) (at : WholeKey) → IsOwnLength schema n at → (len : ℕ) → is_undecided at len ≡ false → IsWhetherOfLength schema n len (len == at.len)
+whether_decided schema rules n at is len decided = by_test (len == at.len) refl
+  where
+    by_test : (b : Bool) → (len == at.len) ≡ b → IsWhetherOfLength schema n len b
+    by_test true same = own_of_length schema n at is len (eqb-true len at.len same)
+    by_test false other = none_of_length schema rules n at is len (no_length at len decided (eqb-false len at.len other))
 
 -- ---- a key
 

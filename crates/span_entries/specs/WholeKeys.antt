@@ -1,5 +1,5 @@
 -- The table of a coded key by the key's length.
-use Rattle.std.specs.Prelude.{◌≡◌, ◌≢◌, ℕ, ◌+◌, ◌*◌, List, Bool, true, false, length, get_or}
+use Rattle.std.specs.Prelude.{◌≡◌, ◌≢◌, ℕ, ◌+◌, ◌-◌, ◌*◌, ◌%◌, List, Bool, true, false, ◌&&◌, length, get_or, nat_eq, nat_lt}
 use Rattle.std.specs.List.{list_all}
 use Rattle.span_value.specs.declared.value.Value.{Value}
 use Rattle.span_value.specs.declared.value.Kind.{Kind}
@@ -54,6 +54,10 @@ pub record HasOtherLengths (schema : List Table) (len m : ℕ) : Type 0 where
 pub record IsOwnLength (schema : List Table) (n : ℕ) (at : WholeKey) : Type 0 where
   pub whole : IsWholeKey schema n at
   pub others : (m : ℕ) → IsTable schema m → m ≢ n → HasOtherLengths schema at.len m
+
+-- a length less by a number of eights than that of the whole keys: these may have it with as many NULLs
+abbrev pub is_undecided : WholeKey → ℕ → Bool
+is_undecided at len = nat_lt len at.len && nat_eq ((at.len - len) % 8) 0
 
 -- of whatever row the coded key is that has this length, the answer is whether it is one of table n
 pub record IsWhetherOfLength (schema : List Table) (n len : ℕ) (found : Bool) : Type 0 where

@@ -1,6 +1,6 @@
 //! The table of a coded key by the key's length. Where all columns of a table's key are numbers, its keys without NULL have one length; and
 //! where each key of this length has the number of its own table at one place, the byte there decides.
-ghost use Rattle.std.specs.Prelude.{◌≡◌, ◌≢◌, IfSome, length, true};
+ghost use Rattle.std.specs.Prelude.{◌≡◌, ◌≢◌, IfSome, MatchOption, length, true};
 ghost use Rattle.std.specs.List.{list_all};
 ghost use Rattle.span_schema.specs.Numbers.{IsTable};
 ghost use Rattle.span_entries.specs.Entries.{IsWhetherOf};
@@ -160,20 +160,27 @@ pub fn own_length(schema: &Schema, table: usize) -> Option<WholeKey>
     Some(at)
 }
 
-/// Whether a coded key of `len` bytes is one of the table, where the length decides.
+/// Whether the length of a coded key does not tell whether it is one of the table, whose keys without NULL have a length of their own: with
+/// NULLs it may have this one, and so may keys of other tables. Each NULL is eight bytes shorter than a number.
+pub fn is_undecided(at: &WholeKey, len: usize) -> bool
+    ensures { result ≡ spec.is_undecided at.now len }
+{
+    // Both are asked, without a branch: of which table the next of interleaved rows is can't be guessed.
+    (len < at.len) & (at.len.saturating_sub(len) % 8 == 0)
+}
+
+/// Whether a coded key of `len` bytes is one of the table; None where the length does not decide.
+#[tactic(auto, using(crate::proofs::WholeKeys::whether_decided))]
 pub fn is_own_of_length(schema: &Schema, table: usize, at: &WholeKey, len: usize) -> Option<bool>
     requires { IsOwnLength schema.now table at.now }
-    ensures { IfSome result (IsWhetherOfLength schema.now table len) }
+    ensures { MatchOption result (spec.is_undecided at.now len ≡ true) (IsWhetherOfLength schema.now table len) }
 {
     schema.meets_rules();
-    // Both are asked before a branch: of which table the next of interleaved rows is can't be guessed.
-    let is_own = len == at.len;
-    if is_own | is_no_length_of(at, len) {
-        Some(is_own)
-    } else {
+    if is_undecided(at, len) {
         // It has NULLs, or is of another table.
-        None
+        return None;
     }
+    Some(len == at.len)
 }
 
 /// Whether a coded key is one of the table, where the key's length and the byte at the place of the table's number decide.

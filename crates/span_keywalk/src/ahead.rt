@@ -29,7 +29,8 @@ const LANE_ROWS: usize = 8;
 /// How many keys a lane looks at, at most.
 const MOST_STEPS: usize = 64;
 
-/// What is added up over the looks at that many keys, their links and rows is less: the first byte of a row is no more than 255.
+/// What is added up over the looks at that many keys, their links and rows is no more: a key has at most LONGEST_KEY bytes, there is one link or
+/// none to the left, and the first byte of a row is no more than 255.
 const MOST_FOUND: usize = LANES * MOST_STEPS * (LONGEST_KEY + 256);
 
 /// How many keys a walk hands out before it first looks ahead, and before it tries again.

@@ -62,6 +62,20 @@ impl Batch {
         Some(number)
     }
 
+    /// All numbers that were not handed out: none is left.
+    pub(crate) fn take(&mut self) -> Batch
+        ensures rest { result ≡ self.old }
+        ensures none { self.new ≡ [] }
+    {
+        let rest = Batch {
+            numbers: self.numbers,
+            begin: self.begin,
+            end: self.end,
+        };
+        self.begin = self.end;
+        rest
+    }
+
     /// The numbers, of which the first `len` are those of chains: all that the batch had.
     pub(crate) fn numbers(&self) -> &[u32; BATCH_KEYS] {
         &self.numbers

@@ -2,12 +2,12 @@
 //!
 //! Which keys are short is found a batch at a time, by lengths and links alone; then the batch is handed out.
 ghost use Rattle.std.specs.Iterator.{YieldsFirstBy, item_count};
-ghost use Rattle.std.specs.Prelude.{◌≡◌, ◌<◌, [], ◌∷◌, length, false, IsTrue, MatchOption};
+ghost use Rattle.std.specs.Prelude.{◌≡◌, ◌<◌, ◌++◌, [], ◌∷◌, length, false, IsTrue, MatchOption};
 ghost use Rattle.span_keytree.specs.Entries.{entry_of};
 ghost use Rattle.span_keywalk.specs.Walks.{short_entries, walked_in, AreBelow, AreShortOf};
 
 use crate::ahead::Ahead;
-use crate::batch::{Refill, find_short};
+use crate::batch::{Batch, Refill, find_short};
 use span_arena::arena::Arena;
 use span_arena::token::Chain;
 use span_keytree::next::NextLinks;
@@ -78,6 +78,16 @@ impl<'a> ShortWalk<'a> {
         Some(LateKey { arena, number })
     }
 
+    /// The keys that were found together with the last one, and not handed out. The walk goes on after them.
+    pub fn take_found(&mut self) -> LateKeys<'a>
+        ensures { self.old ≡ result ++ self.new }
+    {
+        LateKeys {
+            arena: self.arena,
+            numbers: self.found.batch.take(),
+        }
+    }
+
     /// Whether the walk looks at keys ahead from now on: it does at first. Where few of them are read, that takes longer. Nothing else is
     /// changed.
     pub fn look_at_keys(&mut self, has_keys: bool)
@@ -129,6 +139,41 @@ impl<'a> LateKey<'a> {
         Chain {
             number: self.number,
         }
+    }
+}
+
+/// Chains that a walk found together, whose keys are looked at only where they are asked for. Contracts see the entries that are left.
+#[derive(Drop)]
+pub struct LateKeys<'a> {
+    arena: &'a Arena,
+    numbers: Batch,
+}
+
+impl<'a> Model for LateKeys<'a> {
+    ghost use Rattle.std.specs.Prelude.{List, length};
+    ghost use Rattle.span_keytree.specs.Entries.{KeyEntry};
+    ghost use Rattle.span_keywalk.specs.Walks.{cell_entries, AreBelow};
+
+    ghost Value = { List KeyEntry };
+
+    ghost view = { λ k. cell_entries k.arena.now.cells k.numbers };
+
+    ghost invariant = { λ k. AreBelow (length k.arena.now.cells) (cell_entries k.arena.now.cells k.numbers) };
+}
+
+impl<'a> LateKeys<'a> {
+    /// The next one, with no look at its key.
+    #[inline(always)]
+    pub fn next_late(&mut self) -> Option<LateKey<'a>>
+        ensures { MatchOption result
+            ((self.old ≡ []) × (self.new ≡ []))
+            (λ late. self.old ≡ late ∷ self.new) }
+    {
+        let number = self.numbers.next()?;
+        Some(LateKey {
+            arena: self.arena,
+            number,
+        })
     }
 }
 

@@ -2,6 +2,7 @@
 use Rattle.std.proofs.Common.{◌≡◌, ◌<◌, ℕ, zero, suc, arith, Bool, true, false, cond, List, [], ◌∷◌, ◌++◌, Option, Some, None, map, refl, sym, ap, subst, ◌∙◌, append_assoc}
 use Rattle.std.specs.Prelude.{filter, length, nat_le, option_and_then, option_map, All}
 use Rattle.std.specs.List.{filter_map, cons_option}
+use Rattle.std.proofs.lemmas.List.Elements.{All-nil, All-cons, All-head, All-tail}
 use Rattle.span_value.proofs.Lists.{filter-map}
 use Rattle.span_keycode.specs.declared.range.KeyRange.{KeyRange}
 use Rattle.span_arena.specs.declared.version.ArenaVersion.{ArenaVersion}
@@ -64,6 +65,18 @@ pub pushed_step : {X Y : Type 0} (f : X → Y) (found more : List Y) (es fs : Li
 pushed_step {X} {Y} f found more es fs e all is pushed so_far =
     ap (λ (l : List Y). l ++ map f fs) pushed ∙ append_assoc found (f e ∷ []) (map f fs) ∙ ap (λ (l : List X). found ++ map f l) (sym is) ∙ so_far
 
+-- ---- the keys that were found together
+
+pub chains_found : (a : Content) (es fs : List KeyEntry) → All (λ (x : KeyEntry). IsChain a x.chain.number) (es ++ fs) → All (λ (x : KeyEntry). IsChain a x.chain.number) es
+chains_found a [] fs all = All-nil (λ (x : KeyEntry). IsChain a x.chain.number)
+chains_found a (e ∷ es) fs all =
+    let P : KeyEntry → Type 0 = λ x. IsChain a x.chain.number in
+    All-cons P e es (All-head P e (es ++ fs) all) (chains_found a es fs (All-tail P e (es ++ fs) all))
+
+pub chains_after : (a : Content) (es fs : List KeyEntry) → All (λ (x : KeyEntry). IsChain a x.chain.number) (es ++ fs) → All (λ (x : KeyEntry). IsChain a x.chain.number) fs
+chains_after a [] fs all = all
+chains_after a (e ∷ es) fs all = chains_after a es fs (All-tail (λ (x : KeyEntry). IsChain a x.chain.number) e (es ++ fs) all)
+
 -- ---- rows with short keys
 
 abbrev the_row : List ℕ → List ℕ → KeyRow
@@ -93,14 +106,12 @@ short_seen a s most (e ∷ es) = cases (nat_le (length e.key) most) refl (short_
     cases false is rest = rest ∙ sym (long_row most e.key (row_at (chain_versions a e.chain.number) s) (filter_map (seen_entry a s) es) is)
 
 -- a key that has no row at s has none among the rows
-pub unseen_skipped : (a : Content) (s : ℕ) (es fs : List KeyEntry) (e : KeyEntry) → es ≡ e ∷ fs → row_at (chain_versions a e.chain.number) s ≡ None → filter_map (seen_entry a s) es ≡ filter_map (seen_entry a s) fs
-unseen_skipped a s es fs e is none =
-    ap (filter_map (seen_entry a s)) is ∙ ap (λ (o : Option (List ℕ)). cons_option (option_map (the_row e.key) o) (filter_map (seen_entry a s) fs)) none
+pub unseen_skipped : (a : Content) (s : ℕ) (es fs : List KeyEntry) (e : KeyEntry) → es ≡ e ∷ fs → seen_entry a s e ≡ None → filter_map (seen_entry a s) es ≡ filter_map (seen_entry a s) fs
+unseen_skipped a s es fs e is none = ap (filter_map (seen_entry a s)) is ∙ ap (λ (o : Option KeyRow). cons_option o (filter_map (seen_entry a s) fs)) none
 
 -- any other has its row first
-pub seen_first : (a : Content) (s : ℕ) (es fs : List KeyEntry) (e : KeyEntry) (row : List ℕ) → es ≡ e ∷ fs → row_at (chain_versions a e.chain.number) s ≡ Some row → filter_map (seen_entry a s) es ≡ the_row e.key row ∷ filter_map (seen_entry a s) fs
-seen_first a s es fs e row is some =
-    ap (filter_map (seen_entry a s)) is ∙ ap (λ (o : Option (List ℕ)). cons_option (option_map (the_row e.key) o) (filter_map (seen_entry a s) fs)) some
+pub seen_first : (a : Content) (s : ℕ) (es fs : List KeyEntry) (e : KeyEntry) (row : KeyRow) → es ≡ e ∷ fs → seen_entry a s e ≡ Some row → filter_map (seen_entry a s) es ≡ row ∷ filter_map (seen_entry a s) fs
+seen_first a s es fs e row is some = ap (filter_map (seen_entry a s)) is ∙ ap (λ (o : Option KeyRow). cons_option o (filter_map (seen_entry a s) fs)) some
 
 -- one key fewer is left
 pub fewer_left : (es fs : List KeyEntry) (e : KeyEntry) → es ≡ e ∷ fs → length fs < length es

@@ -1,5 +1,5 @@
 //! The rows of a shard at a timestamp, lent one after another: no list of them is made.
-ghost use Rattle.std.specs.Prelude.{◌≡◌, [], ◌∷◌, All, MatchOption, filter, length};
+ghost use Rattle.std.specs.Prelude.{◌≡◌, ◌++◌, [], ◌∷◌, All, MatchOption, None, Some, filter, length};
 ghost use Rattle.std.specs.Iterator.{YieldsFirstBy, item_count};
 ghost use Rattle.span_arena.specs.Content.{IsChain};
 ghost use Rattle.std.specs.List.{filter_map};
@@ -10,7 +10,7 @@ use super::search::walk;
 use super::store::Store;
 use span_arena::arena::Arena;
 use span_keycode::range::KeyRange;
-use span_keywalk::short::{LateKey, ShortWalk};
+use span_keywalk::short::{LateKey, LateKeys, ShortWalk};
 use span_keywalk::walk::Walk;
 use std::marker::Model;
 
@@ -117,6 +117,18 @@ impl<'a> ShortRows<'a> {
         next_row(&mut self.walk, self.arena, self.s)
     }
 
+    /// The rows that were found together with the last one, and not handed out. Those that are left are after them.
+    pub fn take_found(&mut self) -> LateRows<'a>
+        ensures { self.old ≡ result ++ self.new }
+    {
+        let (arena, s) = (self.arena, self.s);
+        LateRows {
+            keys: self.walk.take_found(),
+            arena,
+            s,
+        }
+    }
+
     /// Whether keys are looked at ahead from now on: they are at first. Where few of them are read, that takes longer. Nothing else is
     /// changed.
     pub fn look_at_keys(&mut self, has_keys: bool)
@@ -124,6 +136,57 @@ impl<'a> ShortRows<'a> {
     {
         self.walk.look_at_keys(has_keys);
     }
+}
+
+/// Rows of a snapshot that were found together. Contracts see those that are left.
+#[derive(Drop)]
+pub struct LateRows<'a> {
+    keys: LateKeys<'a>,
+    arena: &'a Arena,
+    s: u64,
+}
+
+impl<'a> Model for LateRows<'a> {
+    ghost use Rattle.std.specs.Prelude.{List, All};
+    ghost use Rattle.std.specs.List.{filter_map};
+    ghost use Rattle.span_arena.specs.Content.{IsChain};
+    ghost use Rattle.span_store.specs.Reads.{seen_entry};
+    ghost use Rattle.span_store.specs.Reads.{KeyRow};
+
+    ghost Value = { List KeyRow };
+
+    ghost view = { λ v. filter_map (seen_entry v.arena.now v.s) v.keys };
+
+    ghost invariant = { λ v. All (λ e. IsChain v.arena.now e.chain.number) v.keys };
+}
+
+impl<'a> LateRows<'a> {
+    /// The next row, with no look at its key.
+    #[inline(always)]
+    pub fn next_late(&mut self) -> Option<LateEntry<'a>>
+        ensures { MatchOption result
+            ((self.old ≡ []) × (self.new ≡ []))
+            (λ late. self.old ≡ late ∷ self.new) }
+    {
+        next_found(&mut self.keys, self.arena, self.s)
+    }
+}
+
+/// The next row at s of the keys that are left of those that were found together.
+#[inline(always)]
+fn next_found<'a>(keys: &mut LateKeys<'a>, arena: &'a Arena, s: u64) -> Option<LateEntry<'a>>
+    requires { All (λ e. IsChain arena.now e.chain.number) keys.old }
+    ensures chains { All (λ e. IsChain arena.now e.chain.number) keys.new }
+    ensures row { let rows = filter_map (seen_entry arena.now s) in MatchOption result
+        ((rows keys.old ≡ []) × (rows keys.new ≡ []))
+        (λ late. rows keys.old ≡ late ∷ rows keys.new) }
+{
+    while let Some(key) = keys.next_late() {
+        if let Some(entry) = seen_row(key, arena, s) {
+            return Some(entry);
+        }
+    }
+    None
 }
 
 /// A row, lent by the shard, whose key is looked at only where it is asked for. Contracts see both.
@@ -167,6 +230,21 @@ impl<'a> LateEntry<'a> {
     }
 }
 
+/// The row at s of a key, if there is one.
+#[inline(always)]
+fn seen_row<'a>(key: LateKey<'a>, arena: &'a Arena, s: u64) -> Option<LateEntry<'a>>
+    requires { IsChain arena.now key.chain.number }
+    ensures { MatchOption result
+        (seen_entry arena.now s key.entry ≡ None)
+        (λ late. seen_entry arena.now s key.entry ≡ Some late) }
+{
+    let row = row_in(arena, key.chain(), s)?;
+    Some(LateEntry {
+        key,
+        row: row.as_slice(),
+    })
+}
+
 /// The next row at s of the keys that are left.
 #[inline(always)]
 fn next_row<'a>(walk: &mut ShortWalk<'a>, arena: &'a Arena, s: u64) -> Option<LateEntry<'a>>
@@ -177,11 +255,8 @@ fn next_row<'a>(walk: &mut ShortWalk<'a>, arena: &'a Arena, s: u64) -> Option<La
         (λ late. rows walk.old ≡ late ∷ rows walk.new) }
 {
     while let Some(key) = walk.next_late() {
-        if let Some(row) = row_in(arena, key.chain(), s) {
-            return Some(LateEntry {
-                key,
-                row: row.as_slice(),
-            });
+        if let Some(entry) = seen_row(key, arena, s) {
+            return Some(entry);
         }
     }
     None

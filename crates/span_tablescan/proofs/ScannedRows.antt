@@ -1,9 +1,11 @@
 -- A leaf of one table gives the rows that pass its condition, one after another.
-use Rattle.std.proofs.Common.{◌≡◌, ◌⊎◌, inl, inr, ◌∙◌, ℕ, ◌+◌, ◌==◌, Bool, true, false, cond, List, [], ◌∷◌, ◌++◌, length, take, map, Option, Some, None, Result, Ok, Err, refl, sym, ap, subst, arith, if◌then◌else◌, append_assoc}
+use Rattle.std.proofs.Common.{◌≡◌, ◌⊎◌, inl, inr, ◌∙◌, ℕ, ◌+◌, ◌≤◌, ◌==◌, Bool, true, false, ◌||◌, cond, List, [], ◌∷◌, ◌++◌, length, take, map, Option, Some, None, Result, Ok, Err, refl, sym, ap, subst, arith, if◌then◌else◌, append_assoc}
 use Rattle.std.specs.Prelude.{filter, IfOk}
 use Rattle.std.specs.List.{range_with_len, list_all}
 use Rattle.std.proofs.lemmas.Bool.{and_parts, eqb-true, eq-eqb}
-use Rattle.std.proofs.lemmas.List.{append-nil, take_all}
+use Rattle.std.proofs.lemmas.List.{append-nil, replicate_more, take_all}
+use Rattle.std.specs.Prelude.{replicate}
+use mir.Val.{bool_byte}
 use Rattle.std.proofs.lemmas.List.FromFn.{length-map-range_with_len}
 use Rattle.span_value.specs.declared.refusal.Refusal.{Refusal}
 use Rattle.span_value.specs.declared.truth.Outcome.{Outcome}
@@ -22,7 +24,7 @@ use Rattle.span_expr.specs.declared.expr.Expr.{Expr}
 use Rattle.span_expr.specs.Places.{is_in, reads_only, moved, rank}
 use Rattle.span_expr.proofs.Places.{reads_only-wider}
 use Rattle.span_query.specs.Rows.{Row, OrFault, Rows, ◌>>=◌, value_of, is_true, append_results, keep_if, holds, filter_rows, filter_where}
-use Rattle.span_query.proofs.Results.{append_results-nil, nil-append_results}
+use Rattle.span_query.proofs.Results.{append_results-assoc, append_results-nil, nil-append_results}
 use Rattle.span_conditions.specs.Answers.{Gives, Adds}
 use Rattle.span_rows.proofs.Gathering.{one_adds, one_fails, adding-fails}
 use Rattle.span_collected.specs.declared.reduction.Reduction.{Reduction}
@@ -39,7 +41,7 @@ use Rattle.span_leaves.specs.Results.{join_tables, leaf_rows}
 use Rattle.span_leaves.proofs.Picked.{Agrees, agrees, val-picked, pick_rows-append}
 use Rattle.span_leaves.proofs.Reading.{has_place-range}
 use Rattle.span_entries.specs.Meaning.{declared_row, whole_table}
-use Rattle.span_entries.specs.Entries.{key_row, AreNoRows, IsWhetherOf}
+use Rattle.span_entries.specs.Entries.{key_row, AreNoRows, IsWhetherOf, OfRows}
 use Rattle.span_tablescan.specs.Given.{kept_given, IsKeptOn, IsEnoughOn}
 use Rattle.span_entries.specs.Longest.{IsLongest, AreLongest, HaveShortKeys}
 use Rattle.span_celltests.specs.declared.cell_test.CellTest.{CellTest}
@@ -156,6 +158,26 @@ counted_taken schema n ms w key row tests rows true none of met own =
     own_taken schema n ms w key row (Ok tt) rows more own (met_added schema n ms w key row tests rows more of met added)
 counted_taken schema n ms w key row tests rows false none of met own = other_taken schema n ms w key row rows own
 
+-- the same where there is no test
+pub counted_own : (schema : List Table) (n : ℕ) (ms : List Bool) (w : Option Expr) (key row : List ℕ) (tests : List CellTest) (rows : List Row) (b : Bool) → tests ≡ [] → picked_width ms ≡ 0 → AreTestsWhere schema n w tests
+    → IsWhetherOf schema n key b → IsTaken schema n ms w key row (Ok tt) rows (if b then rows ++ [] ∷ [] else rows)
+counted_own schema n ms w key row tests rows b none width of own =
+    let met : IsWhetherPass (other_kinds schema n) row (λ cells. list_all (meets cells) tests) true = record { of = λ cells fits is. sym (ap (list_all (meets cells)) none) } in
+    counted_taken schema n ms w key row tests rows b width of met own
+
+pub no_tests : (tests : List CellTest) → length tests ≤ 0 → tests ≡ []
+no_tests [] le = refl
+no_tests (t ∷ ts) le = absurd (omega (arith, le))
+
+pub both_false : (b c : Bool) → (b || c) ≡ false → (b ≡ false) × (c ≡ false)
+both_false true c e = absurd (let f : true ≡ false = e in cc)
+both_false false c e = (refl, e)
+
+-- one row more, or none
+pub one_counted : (b : Bool) (count : ℕ) → (if b then replicate {A = Row} count [] ++ [] ∷ [] else replicate count []) ≡ replicate (count + bool_byte b) []
+one_counted true count = replicate_more count []
+one_counted false count = let same : count ≡ count + 0 = omega arith in ap (λ (k : ℕ). replicate {A = Row} k []) same
+
 -- ---- the entries one after another
 
 module _ (schema : List Table) (n : ℕ) (ms : List Bool) (w : Option Expr) where
@@ -254,6 +276,61 @@ module _ (schema : List Table) (n : ℕ) (ms : List Bool) (w : Option Expr) wher
       let before = so rows typed whole in
       let t = first rest later x is rows old before in
       left_more rest later x is rows old before new (taken.of t.row t.typed.0 t.key t.cells)
+
+  -- the rows that are left, as those that some entries are and those after them
+  record PartedRows (xs later : List KeyRow) (left : List TableRow) : Type 0 where
+    pub first : List TableRow
+    pub second : List TableRow
+    pub is : left ≡ first ++ second
+    pub are : xs ≡ map (key_row schema) first
+    pub later_are : later ≡ map (key_row schema) second
+    pub typed : AreTyped schema first × AreTyped schema second
+
+  same_heads : (x y : KeyRow) (xs ys : List KeyRow) → x ∷ xs ≡ y ∷ ys → (x ≡ y) × (xs ≡ ys)
+  same_heads x y xs ys e = (cc, cc)
+
+  parted : (xs later : List KeyRow) (left : List TableRow) → AreTyped schema left → xs ++ later ≡ map (key_row schema) left → PartedRows xs later left
+  parted [] later left typed is = record { first = []; second = left; is = refl; are = refl; later_are = is; typed = (tt {0}, typed) }
+  parted (x ∷ xs) later [] typed is = absurd cc
+  parted (x ∷ xs) later (t ∷ ts) typed is =
+      let heads = same_heads x (key_row schema t) (xs ++ later) (map (key_row schema) ts) is in
+      let more = parted xs later ts typed.1 heads.1 in
+      record {
+        first = t ∷ more.first;
+        second = more.second;
+        is = ap (λ (l : List TableRow). t ∷ l) more.is;
+        are = ap (λ (y : KeyRow). y ∷ xs) heads.0 ∙ ap (λ (l : List KeyRow). key_row schema t ∷ l) more.are;
+        later_are = more.later_are;
+        typed = ((typed.0, more.typed.0), more.typed.1);
+      }
+
+  kept_none : (v : Option Expr) → Some [] ≡ pick_rows ms (filter_where v [])
+  kept_none None = refl
+  kept_none (Some e) = refl
+
+  kept_append : (xs ys : List TableRow) → kept_rows (xs ++ ys) ≡ append_results (kept_rows xs) (kept_rows ys)
+  kept_append [] ys = sym (nil-append_results (kept_rows ys)) ∙ ap (λ (o : Rows). append_results o (kept_rows ys)) (kept_none w)
+  kept_append (t ∷ xs) ys =
+      kept_cons t (xs ++ ys)
+      ∙ ap (append_results (kept_row schema n ms w t)) (kept_append xs ys)
+      ∙ sym (append_results-assoc (kept_row schema n ms w t) (kept_rows xs) (kept_rows ys))
+      ∙ ap (λ (o : Rows). append_results o (kept_rows ys)) (sym (kept_cons t xs))
+
+  -- some entries more, of which these values are kept
+  pub kept_part : (entries rest later xs : List KeyRow) (old new : List Row) → rest ≡ xs ++ later → KeptBefore entries rest old
+      → OfRows schema xs (λ rows. Gives (Ok new) (kept_rows rows)) → KeptBefore entries later (old ++ new)
+  kept_part entries rest later xs old new is so part rows typed whole =
+      let before = so rows typed whole in
+      let these = parted xs later before.left before.typed (sym is ∙ before.are) in
+      let some : kept_rows these.first ≡ Some new = part.of these.first these.typed.0 these.are in
+      record {
+        left = these.second;
+        typed = these.typed.1;
+        are = these.later_are;
+        kept = before.kept
+            ∙ ap (append_results (Some old)) (ap kept_rows these.is ∙ kept_append these.first these.second ∙ ap (λ (o : Rows). append_results o (kept_rows these.second)) some)
+            ∙ sym (append_results-assoc (Some old) (Some new) (kept_rows these.second));
+      }
 
   -- the rows that are left, where these values are enough in the place of those that are kept of the others
   pub record EnoughLeft (r : Reduction) (rows : List TableRow) (rest : List KeyRow) (values : List Row) : Type 0 where
@@ -362,6 +439,20 @@ leaf_kept schema leaf n tables joins rows =
     ap (λ (ts : List ℕ). pick_rows leaf.kept (leaf_rows leaf (map (whole_table schema rows) ts))) tables
     ∙ ap (λ (js : List LeafJoin). pick_rows leaf.kept (join_tables js [] W >>= filter_where leaf.filter)) joins
 
+module _ (schema : List Table) (leaf : Leaf) (n : ℕ) (tables : leaf.tables ≡ n ∷ []) (joins : leaf.joins ≡ []) where
+  -- what is kept of some entries, where none of them is left
+  pub found_given : (entries rest : List KeyRow) (values : List Row) → rest ≡ [] → KeptBefore schema n leaf.kept leaf.filter entries rest values → IsKeptOn schema leaf entries (Ok values)
+  found_given entries rest values end so = record {
+    of = λ rows typed is. leaf_kept schema leaf n tables joins rows ∙ kept_end schema n leaf.kept leaf.filter entries rest values end so rows typed is;
+  }
+
+  -- some entries more, of which the leaf keeps these
+  pub part_more : (entries rest later xs : List KeyRow) (old new : List Row) → rest ≡ xs ++ later → KeptBefore schema n leaf.kept leaf.filter entries rest old → IsKeptOn schema leaf xs (Ok new)
+      → KeptBefore schema n leaf.kept leaf.filter entries later (old ++ new)
+  part_more entries rest later xs old new is so part = kept_part schema n leaf.kept leaf.filter entries rest later xs old new is so (record {
+    of = λ rows typed are. sym (leaf_kept schema leaf n tables joins rows) ∙ part.of rows typed are;
+  })
+
 module _ (schema : List Table) (leaf : Leaf) (n most : ℕ) (tables : leaf.tables ≡ n ∷ []) (joins : leaf.joins ≡ []) (longest : IsLongest schema n most) (entries : List KeyRow) where
   abbrev short : List KeyRow
   short = filter (has_short_key most) entries
@@ -370,9 +461,7 @@ module _ (schema : List Table) (leaf : Leaf) (n most : ℕ) (tables : leaf.table
   have_short = record { most = most; longest = subst (λ (ts : List ℕ). AreLongest schema ts most) (sym tables) (longest, tt {0}); are = refl }
 
   pub scan_given : (rest : List KeyRow) (values : List Row) → rest ≡ [] → KeptBefore schema n leaf.kept leaf.filter (filter (has_short_key most) entries) rest values → IsKeptOn schema leaf entries (Ok values)
-  scan_given rest values end so = given_on_all schema leaf entries short (Ok values) have_short (record {
-    of = λ rows typed is. leaf_kept schema leaf n tables joins rows ∙ kept_end schema n leaf.kept leaf.filter short rest values end so rows typed is;
-  })
+  scan_given rest values end so = given_on_all schema leaf entries short (Ok values) have_short (found_given schema leaf n tables joins short rest values end so)
 
   abbrev SoFar : Reduction → List KeyRow → List Row → Type 0
   SoFar r rest values = EnoughBefore schema n leaf.kept leaf.filter r (filter (has_short_key most) entries) rest values

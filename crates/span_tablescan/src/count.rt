@@ -1,5 +1,5 @@
 //! Rows of no values, of a leaf of one table all of whose condition is tested at the packed cells: they are counted, and none is read.
-ghost use Rattle.std.specs.Prelude.{◌≡◌, ◌++◌, ◌∷◌, [], List, Ok, IfOk, IfSome, replicate, true, if◌then◌else◌};
+ghost use Rattle.std.specs.Prelude.{◌≡◌, ◌+◌, ◌++◌, ◌∷◌, [], List, Ok, IfOk, IfSome, replicate, true, if◌then◌else◌};
 ghost use Rattle.span_schema.specs.Numbers.{IsTable};
 ghost use Rattle.span_query.specs.Rows.{Row};
 ghost use Rattle.span_columns.specs.Picks.{picked_width};
@@ -12,11 +12,11 @@ ghost use Rattle.span_tablescan.specs.Scans.{IsCount, IsScan, IsTakenBy};
 use super::scan::{TableScan, Test};
 use span_celltests::cell_test::meets_all;
 use span_columns::narrow::picked_width;
-use span_entries::whole_key::{WholeKey, is_own_of_length, own_length};
+use span_entries::whole_key::{WholeKey, is_own_of_length, is_undecided, own_length};
 use span_rowreader::reader::TableReader;
 use span_rows::row_list::RowList;
 use span_schema::schema::Schema;
-use span_shard::snapshot::{LateEntry, Snapshot};
+use span_shard::snapshot::{LateEntry, LateRows, Snapshot};
 use std::alloc::{AllocError, Global};
 
 /// Whether the rows of a scan have no values, and each that meets the tests of its packed cells is kept.
@@ -101,6 +101,81 @@ fn count_entry(
     }
 }
 
+/// The sum of two numbers of rows. The only error is that it is none of 64 bits.
+fn sum_of(count: usize, more: usize) -> Result<usize, AllocError>
+    ensures { IfOk result (λ sum. sum ≡ count + more) }
+{
+    match count.checked_add(more) {
+        None => Err(AllocError),
+        Some(sum) => Ok(sum),
+    }
+}
+
+/// How many of the rows that were found together are rows of the scan's table, where no test is needed. None where the length of a key does not
+/// decide.
+fn count_found(
+    schema: &Schema,
+    scan: &TableScan<'_>,
+    own: &WholeKey,
+    mut rows: LateRows<'_>,
+) -> Result<Option<usize>, AllocError>
+    requires scan { IsScan schema.now scan.now }
+    requires count { IsCount scan.now }
+    requires none { scan.now.needed ≡ [] }
+    requires own { IsOwnLength schema.now scan.now.reader.table own.now }
+    ensures { IfOk result (λ found. IfSome found
+        (λ count. IsKeptOn schema.now scan.now.leaf.now rows.entry (Ok (replicate count [])))) }
+{
+    schema.meets_rules();
+    let mut count = 0;
+    let mut is_unsure = false;
+    // No branch on a length: of which table the next of interleaved rows is can't be guessed.
+    while let Some(entry) = rows.next_late() {
+        let len = entry.key_len();
+        count = sum_of(count, usize::from(len == own.len))?;
+        is_unsure = is_unsure | is_undecided(own, len);
+    }
+    if is_unsure {
+        return Ok(None);
+    }
+    Ok(Some(count))
+}
+
+/// How many of the rows that the snapshot lends are kept, where no test is needed and the lengths of their keys decide; else None.
+fn count_by_length(
+    schema: &Schema,
+    scan: &TableScan<'_>,
+    own: &Option<WholeKey>,
+    snapshot: &Snapshot<'_>,
+) -> Result<Option<usize>, AllocError>
+    requires table { IsTable schema.now scan.now.reader.table }
+    requires scan { IsScan schema.now scan.now }
+    requires count { IsCount scan.now }
+    requires own { IfSome own.now (IsOwnLength schema.now scan.now.reader.table) }
+    ensures { IfOk result (λ found. IfSome found
+        (λ count. IsKeptOn schema.now scan.now.leaf.now snapshot.now (Ok (replicate count [])))) }
+{
+    let Some(own) = own else {
+        return Ok(None);
+    };
+    if scan.needed.len() > 0 {
+        return Ok(None);
+    }
+    let mut count = 0;
+    let mut entries = snapshot.copy().with_short_keys(scan.reader.most);
+    entries.look_at_keys(false);
+    while let Some(entry) = entries.next_late() {
+        let Some(is_own) = is_own_of_length(schema, scan.reader.table, own, entry.key_len()) else {
+            return Ok(None);
+        };
+        let Some(more) = count_found(schema, scan, own, entries.take_found())? else {
+            return Ok(None);
+        };
+        count = sum_of(sum_of(count, usize::from(is_own))?, more)?;
+    }
+    Ok(Some(count))
+}
+
 /// How many of the rows that the snapshot lends are kept.
 fn count_rows(
     schema: &Schema,
@@ -113,6 +188,9 @@ fn count_rows(
     ensures { IfOk result (λ count. IsKeptOn schema.now scan.now.leaf.now snapshot.entry (Ok (replicate count []))) }
 {
     let own = own_length(schema, scan.reader.table);
+    if let Some(count) = count_by_length(schema, scan, &own, &snapshot)? {
+        return Ok(count);
+    }
     let mut count = 0;
     let mut entries = snapshot.with_short_keys(scan.reader.most);
     entries.look_at_keys(own.is_none());
