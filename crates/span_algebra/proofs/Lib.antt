@@ -8,3 +8,4 @@ pub mod Reduced
 pub mod TableOrders
 pub mod GroupAnswers
 pub mod GroupQueries
+pub mod Marks

@@ -12,23 +12,23 @@ use Rattle.span_sorting.specs.Columns.{AreColumns, AreKeysOver}
 use Rattle.span_algebra.specs.declared.ordered.ColumnOrder.{ColumnOrder}
 use Rattle.span_algebra.specs.declared.ordered.TableOrder.{TableOrder}
 
--- the query is one SELECT, whose select list is taken at each row of its FROM
-pub record TakesAllRows {Q : Type 0} (q : BoundQuery-F Q) : Type 0 where
+-- the query is one SELECT, whose select list is taken at each row of its FROM where its condition is TRUE
+pub record TakesRows {Q : Type 0} (q : BoundQuery-F Q) : Type 0 where
   pub others : q.others ≡ []
-  pub filter : q.first.filter ≡ None
   pub grouping : q.first.grouping ≡ None
   pub distinct : q.first.is_distinct ≡ false
 
 -- the same, and the select list is these columns, and these are its keys as keys of the rows of the FROM
 pub record IsColumnOrder {Q : Type 0} (q : BoundQuery-F Q) (order : ColumnOrder) : Type 0 where
-  pub takes : TakesAllRows q
+  pub takes : TakesRows q
   pub columns : AreColumns q.first.outputs order.columns.items
   pub keys : AreKeysOver order.columns.items q.order order.keys.items
 
--- the FROM is one table
+-- the block takes all rows of one table
 pub record IsTable {Q : Type 0} (b : Block Q) (number : ℕ) : Type 0 where
   pub from : b.from ≡ item.Table number
   pub joins : b.joins ≡ []
+  pub filter : b.filter ≡ None
 
 -- each row has a number of values
 abbrev pub have_width : ℕ → List Row → Bool

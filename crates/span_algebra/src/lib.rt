@@ -5,6 +5,7 @@ pub mod block;
 pub mod distinct;
 pub mod group_answer;
 pub mod group_query;
+mod kept;
 pub mod ordered;
 pub mod plain;
 pub mod reduction;

@@ -5,20 +5,24 @@ ghost use Rattle.span_query.specs.Groups.{columns_at};
 ghost use Rattle.span_query.specs.Meaning.{limit_rows};
 ghost use Rattle.span_query.specs.Rows.{Row};
 ghost use Rattle.span_query.specs.Sorting.{sorted};
+ghost use Rattle.span_rows.specs.LentRows.{lent_rows};
 ghost use Rattle.span_sorting.specs.Codes.{HaveCodes, coded_rows};
 ghost use Rattle.span_sorting.specs.Orders.{take_first};
 ghost use Rattle.span_collected.specs.Reductions.{AreEnough};
-ghost use Rattle.span_algebra.specs.ColumnOrders.{IsColumnOrder, IsTable, IsTableOrder, TakesAllRows};
+ghost use Rattle.span_algebra.specs.ColumnOrders.{IsColumnOrder, IsTable, IsTableOrder, TakesRows};
 ghost use Rattle.span_algebra.specs.SameMeaning.{IsReductionFor};
 
 use super::block::are_in_order;
 use span_collected::reduction::Reduction;
 use span_query::query::{Block, BoundQuery, Item, Limit, SortKey};
-use span_rows::row_list::{RowList, lent_rows};
+use span_rows::row_list::RowList;
 use span_sorting::coded::CodedRows;
 use span_sorting::columns::{columns_of, keys_over};
+use span_sorting::in_threads::order_columns_in_threads;
 use span_sorting::sort::{few_rows, order_coded, order_columns};
+use span_value::value::Value;
 use std::alloc::{AllocError, Global};
+use std::thread::Threads;
 
 /// A select list of columns, and the keys of its rows as keys of the rows that it is taken at.
 #[derive(Drop)]
@@ -36,27 +40,25 @@ impl ColumnOrder {
     }
 }
 
-/// Whether a query is one SELECT whose select list is taken at each row of its FROM, and puts its rows in order.
-fn orders_all_rows(query: &BoundQuery) -> bool
-    ensures { result ≡ true → TakesAllRows (out-BoundQuery query.now) }
+/// Whether a query is one SELECT whose select list is taken at each row where its condition is TRUE, and puts its rows in order.
+fn orders_its_rows(query: &BoundQuery) -> bool
+    ensures { result ≡ true → TakesRows (out-BoundQuery query.now) }
 {
-    match (&query.first.filter, &query.first.grouping) {
-        (None, None) => {
-            !query.first.is_distinct && query.others.is_empty() && !query.order.is_empty()
-        }
-        _ => false,
+    match &query.first.grouping {
+        None => !query.first.is_distinct && query.others.is_empty() && !query.order.is_empty(),
+        Some(_) => false,
     }
 }
 
-/// How the rows of a query's FROM are put in order, where its select list is columns alone and taken at each of them, and its keys
-/// are among these columns.
+/// How the rows of a query's FROM at which its condition is TRUE are put in order, where its select list is columns alone and taken
+/// at each of them, and its keys are among these columns.
 pub(crate) fn column_order(
     alloc: Global,
     query: &BoundQuery,
 ) -> Result<Option<ColumnOrder>, AllocError>
     ensures { IfOk result (λ found. IfSome found (λ order. IsColumnOrder (out-BoundQuery query.now) order)) }
 {
-    if !orders_all_rows(query) {
+    if !orders_its_rows(query) {
         return Ok(None);
     }
     let Some(columns) = columns_of(alloc, query.first.outputs.as_slice())? else {
@@ -68,12 +70,12 @@ pub(crate) fn column_order(
     Ok(Some(ColumnOrder { columns, keys }))
 }
 
-/// The table that a FROM is, where it is one.
+/// The table all of whose rows a block takes, where it is such a block.
 pub(crate) fn only_table(block: &Block<BoundQuery>) -> Option<usize>
     ensures { IfSome result (λ number. IsTable block.now number) }
 {
-    match &block.from {
-        Item::Table(number) if block.joins.is_empty() => Some(*number),
+    match (&block.from, &block.filter) {
+        (Item::Table(number), None) if block.joins.is_empty() => Some(*number),
         _ => None,
     }
 }
@@ -95,24 +97,42 @@ pub(crate) fn take_columns(
     order_coded(alloc, keys, limit, columns, rows)
 }
 
-/// The same of rows in a list, without codes.
+/// The same of rows without codes.
 pub(crate) fn take_columns_of(
     alloc: Global,
     order: &ColumnOrder,
     limit: Option<Limit>,
-    rows: &RowList,
+    rows: Vec<&[Value]>,
 ) -> Result<RowList, AllocError>
     ensures { IfOk result
         (λ part. part
-        ≡ map (columns_at order.now.columns.items) (limit_rows limit (sorted order.now.keys.items rows.now))) }
+        ≡ map (columns_at order.now.columns.items)
+        (limit_rows limit (sorted order.now.keys.items (lent_rows rows.entry.items)))) }
 {
-    let lent = lent_rows(alloc, rows)?;
     let (keys, columns) = (order.keys.as_slice(), order.columns.as_slice());
-    let part = order_columns(alloc, keys, limit, columns, lent)?;
+    let part = order_columns(alloc, keys, limit, columns, rows)?;
     Ok(part)
 }
 
-/// Whether a FROM is one table, the one at a place, counted from 0.
+/// The same, where as many threads as there are processors put many rows in order.
+pub(crate) fn take_columns_in_threads<R: Threads + Sync>(
+    rt: &R,
+    alloc: Global,
+    order: &ColumnOrder,
+    limit: Option<Limit>,
+    rows: Vec<&[Value]>,
+) -> Result<RowList, AllocError>
+    ensures { IfOk result
+        (λ part. part
+        ≡ map (columns_at order.now.columns.items)
+        (limit_rows limit (sorted order.now.keys.items (lent_rows rows.entry.items)))) }
+{
+    let (keys, columns) = (order.keys.as_slice(), order.columns.as_slice());
+    let part = order_columns_in_threads(rt, alloc, keys, limit, columns, rows)?;
+    Ok(part)
+}
+
+/// Whether a block takes all rows of one table, the one at a place, counted from 0.
 pub(crate) fn is_table_at(block: &Block<BoundQuery>, place: usize) -> bool
     ensures { result ≡ true → IsTable block.now (suc place) }
 {

@@ -11,7 +11,7 @@ use super::in_threads::{groups_in_threads, rows_of_ranges};
 use super::joined::rows_of_pairs;
 use super::lent_parts::lent_parts;
 use super::rows::Rows;
-use span_algebra::plain::eval_plain;
+use span_algebra::plain::{eval_plain, order_in_threads};
 use span_algebra::source::Tables;
 use span_collected::part_rows::PartRows;
 use span_expr::cell::Failure;
@@ -65,8 +65,32 @@ pub fn finish(alloc: Global, top: &BoundQuery, leaves: &[Seq<Piece>]) -> Result<
     }
 }
 
-/// The rows of a query whose groups several threads make. None where it is another query, or where there are too few rows. The error is an arithmetic
+/// The rows of a query that puts the rows of its FROM in order, where these are not all rows of one leaf: `rayon` judges its condition at each of them,
+/// and puts them in order, where there are many. None where it is another query, or where one thread is to make them. The error is an arithmetic
 /// error, or out of memory.
+fn rows_in_order<R: Threads + Sync>(
+    rt: &R,
+    alloc: Global,
+    threads: usize,
+    top: &BoundQuery,
+    leaves: &[Seq<Piece>],
+) -> Result<Option<AnswerRows>, Failure>
+    ensures { MatchResult result
+        (λ found. IfSome found (λ rows. gathered leaves.now top.now ≡ Some rows))
+        (λ why. Gives {A = List Row} (Err why) (gathered leaves.now top.now)) }
+{
+    if threads < 2 {
+        return Ok(None);
+    }
+    let tables = tables_of(alloc, leaves)?;
+    match order_in_threads(rt, alloc, top, &tables)? {
+        Some(rows) => Ok(Some(AnswerRows::of_list(rows))),
+        None => Ok(None),
+    }
+}
+
+/// The rows of a query that several threads make. None where it is another query, or where there are too few rows. The error is an arithmetic error,
+/// or out of memory.
 fn rows_in_threads<R: Threads + Sync>(
     rt: &R,
     alloc: Global,
@@ -84,7 +108,10 @@ fn rows_in_threads<R: Threads + Sync>(
     if let Some(rows) = rows_of_ranges(rt, alloc, threads, top, leaves)? {
         return Ok(Some(rows));
     }
-    rows_of_pairs(rt, alloc, threads, top, leaves)
+    if let Some(rows) = rows_of_pairs(rt, alloc, threads, top, leaves)? {
+        return Ok(Some(rows));
+    }
+    rows_in_order(rt, alloc, threads, top, leaves)
 }
 
 /// The same, where at most this many threads may make the groups of many rows.

@@ -7,6 +7,7 @@ pub mod columns;
 mod first_places;
 mod first_rows;
 mod in_order;
+pub mod in_threads;
 pub mod kept;
 pub mod placed;
 pub mod rows_with_order;

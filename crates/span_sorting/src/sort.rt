@@ -101,7 +101,7 @@ pub fn few_rows(limit: Option<Limit>) -> Option<usize>
 }
 
 /// The same where there are keys.
-fn first_count(keys: &[SortKey], limit: Option<Limit>) -> Option<usize>
+pub(crate) fn first_count(keys: &[SortKey], limit: Option<Limit>) -> Option<usize>
     ensures { IfSome result (λ count. (l : Limit) × (limit ≡ Some l) × (count ≡ l.skip + l.rows)) }
 {
     if keys.is_empty() {
@@ -204,7 +204,7 @@ pub fn order_coded(
 }
 
 /// The columns of the part that LIMIT leaves of the rows.
-fn copy_part(
+pub(crate) fn copy_part(
     alloc: Global,
     limit: Option<Limit>,
     columns: &[usize],

@@ -46,6 +46,14 @@ const FEW: &str =
 // All rows in an order in which those of a slot are not together.
 const IN_ORDER: &str = "SELECT uid, aid FROM Albums ORDER BY aid DESC, uid";
 
+// Pairs that are joined above the leaves, of which WHERE leaves some, in an order.
+const PAIRS_IN_ORDER: &str = "SELECT a.aid, b.uid FROM Albums a JOIN Albums b ON b.aid = a.aid \
+WHERE a.uid < 300 AND b.uid > a.uid ORDER BY aid DESC, uid";
+
+// The condition is no number at some of these pairs.
+const PAIRS_WITH_FAULT: &str = "SELECT a.aid, b.uid FROM Albums a JOIN Albums b ON b.aid = a.aid \
+WHERE a.uid < 300 AND a.aid * 500000000000000 + b.uid > 0 ORDER BY aid DESC, uid";
+
 // Each operand is a number of 64 bits. The sum of two of them is none.
 const SUMS: &str = "SELECT aid, SUM(aid + 9223372036854756608) FROM Albums GROUP BY aid";
 
@@ -59,6 +67,8 @@ const SUM_OF_PAIRS: (usize, i64) = (5_200, 2_050_278_286_200);
 const SUM_OF_FEW: (usize, i64) = (7, 225_800);
 
 const SUM_IN_ORDER: (usize, i64) = (67_200, 38_227_051_271_600);
+
+const SUM_OF_PAIRS_IN_ORDER: (usize, i64) = (20_400, 30_330_259_501_000);
 
 /// The groups of 67,200 rows in sixteen slots, and of pairs of them, are those of SQLite, in the order of their first rows, and so are the rows in
 /// order, by one worker and by eight; a sum that is too large refuses the query.
@@ -160,9 +170,34 @@ fn check_answers<J: Naming + Send + Sync, R: Threads + Wait + Sync>(
     check_sum(rt, alloc, db, clock, me, PAIRS, workers, SUM_OF_PAIRS)?;
     check_sum(rt, alloc, db, clock, me, FEW, workers, SUM_OF_FEW)?;
     check_sum(rt, alloc, db, clock, me, IN_ORDER, workers, SUM_IN_ORDER)?;
-    let sums = ask(rt, alloc, db, clock, &OpenGate, me, SUMS, workers);
-    let refused = Err(Refusal::ArithmeticFault);
-    expect_eq(group_sum(sums), refused, "sums that are too large")
+    check_sum(
+        rt,
+        alloc,
+        db,
+        clock,
+        me,
+        PAIRS_IN_ORDER,
+        workers,
+        SUM_OF_PAIRS_IN_ORDER,
+    )?;
+    check_fault(rt, alloc, db, clock, me, SUMS, workers)?;
+    check_fault(rt, alloc, db, clock, me, PAIRS_WITH_FAULT, workers)
+}
+
+// That a query by some workers is refused, as its text means the fault.
+fn check_fault<J: Naming + Send + Sync, R: Threads + Wait + Sync>(
+    rt: &R,
+    alloc: Global,
+    db: &Db<J>,
+    clock: &SharedClock,
+    me: &mut Session<J>,
+    text: &str,
+    workers: usize,
+) -> Result<(), Fail>
+    requires { (1 ≤ workers) × (workers ≤ MOST_WORKERS) }
+{
+    let found = ask(rt, alloc, db, clock, &OpenGate, me, text, workers);
+    expect_eq(group_sum(found), Err(Refusal::ArithmeticFault), text)
 }
 
 // That a query by some workers gives a number of rows, with this sum.
