@@ -17,8 +17,8 @@ use std::alloc::{AllocError, Global};
 pub fn distinct_table(block: &Block<BoundQuery>) -> Option<usize>
     ensures { IfSome result (λ number. TakesDistinct block.now number) }
 {
-    match (&block.filter, &block.grouping) {
-        (None, None) if block.is_distinct => only_table(block),
+    match &block.grouping {
+        None if block.is_distinct => only_table(block),
         _ => None,
     }
 }

@@ -79,7 +79,7 @@ pub(crate) fn lend_where<'a>(
 
 // ---- by several threads
 
-/// How many rows several threads judge at least. For fewer the threads take longer to start than one takes for all.
+/// How many rows several threads judge at least. For fewer, one thread takes so little time that what several would save is small.
 const MANY_ROWS: usize = 16_384;
 
 /// Whether the condition is TRUE at each row. The error is an arithmetic error at one of them, or out of memory.

@@ -39,6 +39,9 @@ const FIRST_KEYS: usize = 64;
 /// The number of the next key of the same table differs by no more where keys were put in order: memory is waited for at few of them.
 const NEAR: u32 = 8;
 
+/// From this many keys on a walk looks ahead at keys alone: fewer mostly lie in the processor's caches.
+const MANY_KEYS: usize = 262_144;
+
 /// How many keys a batch passes over at most.
 const MOST_PASSED: usize = 512;
 
@@ -89,7 +92,9 @@ impl Ahead {
         if self.seen > 0 {
             self.seen -= 1;
         } else {
-            self.seen = look_from(arena, nexts, self, number, stop);
+            // A copy is lent, so that the walk itself need not be in memory.
+            let ahead = *self;
+            self.seen = look_from(arena, nexts, &ahead, number, stop);
         }
     }
 
@@ -131,7 +136,7 @@ fn look_from(
     number: u32,
     stop: Option<u32>,
 ) -> usize {
-    if is_near(nexts, number) {
+    if is_near(nexts, number) || are_few_keys(arena, ahead) {
         FIRST_KEYS
     } else {
         look(arena, nexts, ahead, number, number_of(stop))
@@ -153,6 +158,11 @@ fn is_near(nexts: &NextLinks, number: u32) -> bool {
         at = next;
     }
     false
+}
+
+// Whether there are so few keys, gone over without their rows, that looking ahead takes longer than memory is waited for.
+fn are_few_keys(arena: &Arena, ahead: &Ahead) -> bool {
+    !ahead.has_rows && arena.numbers() < MANY_KEYS
 }
 
 // How many levels of a tree with this many keys have lanes that begin there.

@@ -44,8 +44,10 @@ pub struct Answer {
 impl<J: Naming + Send + Sync> Db<J> {
     /// Answers a query: the rows, in order, that its query text means on the tables of the log at s, as far as the session has seen the log
     /// then. It takes at most this many workers, from 1 to 64, of which one is the thread that asks: at most one for each slot in use
-    /// scans, and all may make its groups, its order and its pairs at the end. The clock is read once to choose s, and once for each scan.
-    /// The refusal is the one that ended it: that of its opening, the first of its scans, or that of its end. The query is closed then.
+    /// scans, and all may make its groups, its order and its pairs at the end. Only where a query of two workers or more puts many joined
+    /// rows, or those of a derived table, in order, as many threads as there are processors judge and sort them. The clock is read once to
+    /// choose s, and once for each scan. The refusal is the one that ended it: that of its opening, the first of its scans, or that of its
+    /// end. The query is closed then.
     pub fn query<R: Threads + Wait + Sync, C: Clock + Sync, G: Gate + Sync>(
         &self,
         rt: &R,

@@ -15,7 +15,7 @@ use span_value::value::Value;
 use std::alloc::{AllocError, Global};
 use std::thread::Threads;
 
-/// How many rows several threads put in order at least. For fewer the threads take longer to start than one takes for all.
+/// How many rows several threads put in order at least. For fewer, one thread takes so little time that what several would save is small.
 const MANY_ROWS: usize = 16_384;
 
 /// The rows in the order of the keys, by their codes. Rows with equal keys keep their order.
