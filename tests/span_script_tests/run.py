@@ -24,12 +24,14 @@ standard error fails the answers and the status are as ever.
 """
 import argparse
 import collections
+import concurrent.futures
 import gzip
 import os
 import re
 import subprocess
 import sys
 import tempfile
+import threading
 
 ROWS = os.path.dirname(os.path.abspath(__file__))
 TOP = os.path.dirname(os.path.dirname(ROWS))
@@ -62,8 +64,9 @@ def refusals():
     return {number: (name, message) for number, name, message in rows}
 
 
-# How many commands of each word were given again after an allocation was refused.
+# How many commands of each word were given again after an allocation was refused. Scripts are checked side by side: one counts at a time.
 AGAIN = collections.Counter()
+COUNTING = threading.Lock()
 # What takes a mutation, or gathers more of them.
 GATHERING = (b"insert ", b"update ", b"upsert ", b"delete ", b"load ")
 # What may have an answer of more lines than one.
@@ -242,7 +245,8 @@ def check_again(row, written, errors, environment, folder):
         file.write(b"\n".join([*row.lines[:end], *(row.lines[at] for command in given for at in range(*command)), *row.lines[end:]]))
     found, _, status = row.run(environment, script=script)
     wanted = before + b"refused 90\n" + answers + row.expected[len(before):]
-    AGAIN[row.lines[commands[place][0]].split(b" ")[0].decode()] += 1
+    with COUNTING:
+        AGAIN[row.lines[commands[place][0]].split(b" ")[0].decode()] += 1
     return None if (found, status) == (wanted, row.status) else f"line {line} given again: status {status}, {first_difference(found, wanted)}"
 
 
@@ -330,19 +334,26 @@ def checks(words, folder):
         yield check_devices, built_library(folder, "fail_device")
 
 
+def check_script(name, others, folder):
+    """How many faults of a script were tried, and what is wrong with it; None where nothing is."""
+    row, faults = Row(name, folder), 0
+    wrong = check_row(row)
+    for check, library in others:
+        if wrong is None:
+            count, wrong = check(row, library, folder)
+            faults += count
+    return faults, wrong
+
+
 def main():
     words = arguments()
     build()
     passed, failed, faults = 0, 0, 0
-    with tempfile.TemporaryDirectory() as folder:
+    with tempfile.TemporaryDirectory() as folder, concurrent.futures.ThreadPoolExecutor(os.cpu_count()) as pool:
         others = list(checks(words, folder))
-        for name in words.names or names_of_rows():
-            row = Row(name, folder)
-            wrong = check_row(row)
-            for check, library in others:
-                if wrong is None:
-                    count, wrong = check(row, library, folder)
-                    faults += count
+        names = words.names or names_of_rows()
+        for name, (count, wrong) in zip(names, pool.map(lambda name: check_script(name, others, folder), names)):
+            faults += count
             if wrong is None:
                 passed += 1
             else:
