@@ -1,8 +1,9 @@
-// PostgreSQL: loads the rows of a folder's files Users, Albums and Songs, then takes each text of standard input (a name, a tab, a query) until
-// all its rows are in the client, ROUNDS times. Prints a name, the median in milliseconds of wall time, and the number of rows, for the load and
-// for each text. A query has one process of the server: its time is little more than the processor time of that process.
+// PostgreSQL: loads the rows of a folder's files Users, Albums and Songs, and prints the milliseconds of wall time that this took. Then it reads lines
+// of standard input (a number of times, a tab, a query), takes each query that many times until all its rows are in the client, and prints at once
+// how many milliseconds of wall time it took for one of these times, a tab, and the number of rows. A query has one process of the server: its time
+// is little more than the processor time of that process.
 //
-//     postgres FOLDER ROUNDS CONNECTION
+//     postgres FOLDER CONNECTION
 #include <libpq-fe.h>
 #include <stdio.h>
 #include <stdlib.h>
@@ -52,11 +53,6 @@ static void load(const char *folder, const char *table) {
     }
 }
 
-static int compare(const void *left, const void *right) {
-    double one = *(const double *)left, other = *(const double *)right;
-    return (one > other) - (one < other);
-}
-
 static void load_all(const char *folder) {
     ask("DROP TABLE IF EXISTS Songs, Albums, Users");
     ask("CREATE TABLE Users (uid BIGINT NOT NULL PRIMARY KEY, email TEXT, age BIGINT, active BOOLEAN)");
@@ -68,32 +64,31 @@ static void load_all(const char *folder) {
 }
 
 int main(int count, char **words) {
-    if (count != 4) return 2;
-    int rounds = atoi(words[2]);
-    connection = PQconnectdb(words[3]);
-    if (PQstatus(connection) != CONNECTION_OK) stop(words[3]);
-    double *times = malloc(sizeof *times * (size_t)rounds), begun = now();
+    if (count != 3) return 2;
+    connection = PQconnectdb(words[2]);
+    if (PQstatus(connection) != CONNECTION_OK) stop(words[2]);
+    double begun = now();
     load_all(words[1]);
-    printf("load\t%f\t0\n", now() - begun);
+    double taken = now() - begun;
     ask("VACUUM ANALYZE");
     ask("SET max_parallel_workers_per_gather = 0");
+    printf("%f\n", taken);
+    fflush(stdout);
     char *line = 0;
     size_t capacity = 0;
     for (long length; (length = getline(&line, &capacity, stdin)) > 0;) {
         line[length - 1] = 0;
         char *text = strchr(line, '\t');
+        if (!text) return 2;
         *text++ = 0;
-        long rows = 0;
-        for (int round = 0; round < rounds; round++) {
-            begun = now();
-            rows = ask(text);
-            times[round] = now() - begun;
-        }
-        qsort(times, (size_t)rounds, sizeof *times, compare);
-        printf("%s\t%f\t%ld\n", line, times[rounds / 2], rows);
+        long times = atol(line), rows = 0;
+        if (times < 1) return 2;
+        begun = now();
+        for (long done = 0; done < times; done++) rows = ask(text);
+        printf("%f\t%ld\n", (now() - begun) / times, rows);
+        fflush(stdout);
     }
     free(line);
-    free(times);
     PQfinish(connection);
     return 0;
 }

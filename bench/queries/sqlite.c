@@ -1,8 +1,8 @@
-// SQLite in memory: loads the rows of a folder's files Users, Albums and Songs, then takes each text of standard input (a name, a tab, a query) to the
-// last value of its last row, ROUNDS times. Prints a name, the median in milliseconds of processor time, and the number of rows, for the load
-// and for each text.
+// SQLite in memory: loads the rows of a folder's files Users, Albums and Songs, and prints the milliseconds of processor time that this took. Then it
+// reads lines of standard input (a number of times, a tab, a query), takes each query that many times to the last value of its last row, and prints
+// at once how many milliseconds of processor time it took for one of these times, a tab, and the number of rows.
 //
-//     sqlite FOLDER ROUNDS
+//     sqlite FOLDER
 #include <sqlite3.h>
 #include <stdio.h>
 #include <stdlib.h>
@@ -74,15 +74,8 @@ static long ask(const char *text) {
     return rows;
 }
 
-static int compare(const void *left, const void *right) {
-    double one = *(const double *)left, other = *(const double *)right;
-    return (one > other) - (one < other);
-}
-
 int main(int count, char **words) {
-    if (count != 3) return 2;
-    int rounds = atoi(words[2]);
-    double *times = malloc(rounds * sizeof *times);
+    if (count != 2) return 2;
     if (sqlite3_open(":memory:", &db)) stop("open");
     execute("CREATE TABLE Users (uid INTEGER NOT NULL, email TEXT, age INTEGER, active BOOLEAN, PRIMARY KEY (uid)) WITHOUT ROWID;"
             "CREATE TABLE Albums (uid INTEGER NOT NULL, aid INTEGER NOT NULL, name TEXT, price INTEGER, PRIMARY KEY (uid, aid)) WITHOUT ROWID;"
@@ -94,8 +87,10 @@ int main(int count, char **words) {
     load(words[1], "Albums", 4, 3);
     load(words[1], "Songs", 5, 4);
     execute("COMMIT");
-    printf("load\t%.3f\t0\n", now() - start);
+    double taken = now() - start;
     execute("ANALYZE");
+    printf("%.3f\n", taken);
+    fflush(stdout);
     char *line = 0;
     size_t capacity = 0;
     for (long length; (length = getline(&line, &capacity, stdin)) > 0;) {
@@ -103,14 +98,12 @@ int main(int count, char **words) {
         char *text = strchr(line, '\t');
         if (!text) return 2;
         *text++ = 0;
-        long rows = 0;
-        for (int round = 0; round < rounds; round++) {
-            start = now();
-            rows = ask(text);
-            times[round] = now() - start;
-        }
-        qsort(times, rounds, sizeof *times, compare);
-        printf("%s\t%.3f\t%ld\n", line, times[rounds / 2], rows);
+        long times = atol(line), rows = 0;
+        if (times < 1) return 2;
+        start = now();
+        for (long done = 0; done < times; done++) rows = ask(text);
+        printf("%.6f\t%ld\n", (now() - start) / times, rows);
+        fflush(stdout);
     }
     return 0;
 }
